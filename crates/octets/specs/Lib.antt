@@ -1,0 +1,2 @@
+-- Optional elements, as document 01 has them in its section Messages.
+pub mod Element
