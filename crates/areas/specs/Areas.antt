@@ -1,0 +1,73 @@
+-- An area list: an array of forty and a count, the oldest first; each element is twice the area, and one more where it is marked protected. Assumes nothing.
+use Prim.Native.Nat.{ℕ, _+_, _*_, _/_, _%_}
+use mathlib.Core.Bool.{Bool, true, false, cond}
+use mathlib.Core.List.{List, [], _∷_, _++_}
+use lib.Dec.{ltb, eqb}
+use lib.ListN.{set, getD, take, drop, length, replicate}
+use Rattle.laws.specs.Upto.{seekTo}
+use Rattle.areas.specs.declared.Task.{Task}
+
+-- an area: a network and a three-octet code
+abbrev pub areaOf : ℕ → ℕ → ℕ
+areaOf net code = net * 16777216 + code
+
+-- the area of an element, and its mark
+abbrev pub areaIn : ℕ → ℕ
+areaIn x = x / 2
+
+abbrev pub isProtected : ℕ → Bool
+isProtected x = eqb (x % 2) 1
+
+abbrev pub sameArea : ℕ → ℕ → Bool
+sameArea area x = eqb (areaIn x) area
+
+-- areas in use: a count above forty counts as forty
+unfoldable pub sizeOf : ℕ → ℕ
+sizeOf n = cond (ltb n 40) n 40
+
+unfoldable pub placeIn : ℕ → ℕ → List ℕ → ℕ
+placeIn area count xs = seekTo (sameArea area) (sizeOf count) xs
+
+unfoldable pub listedIn : ℕ → ℕ → List ℕ → Bool
+listedIn area count xs = ltb (placeIn area count xs) (sizeOf count)
+
+-- an area and the mark that a reject gives it
+abbrev pub marked : ℕ → ℕ → ℕ
+marked area sure = area * 2 + cond (eqb sure 0) 0 1
+
+-- a protected reject makes its mark protected, an unprotected one never lowers it
+abbrev pub remarked : ℕ → ℕ → ℕ → ℕ
+remarked area sure x = cond (eqb sure 0) x (area * 2 + 1)
+
+-- an area already listed keeps its place; a full list drops its oldest
+unfoldable pub placed : ℕ → ℕ → ℕ → List ℕ → List ℕ
+placed area sure count xs =
+    cond (listedIn area count xs)
+    (set xs (placeIn area count xs) (remarked area sure (getD xs (placeIn area count xs) 0)))
+    (cond (ltb count 40) (set xs count (marked area sure)) (drop 1 xs ++ (marked area sure ∷ [])))
+
+unfoldable pub placedCount : ℕ → ℕ → List ℕ → ℕ
+placedCount area count xs = cond (listedIn area count xs) count (cond (ltb count 40) (count + 1) count)
+
+-- those that pass, in their order
+unfoldable pub kept : (ℕ → Bool) → List ℕ → List ℕ
+kept p [] = []
+kept p (x ∷ xs) = cond (p x) (x ∷ kept p xs) (kept p xs)
+
+-- areas marked unprotected leave their list
+unfoldable pub stayed : ℕ → List ℕ → List ℕ
+stayed count xs = kept isProtected (take (sizeOf count) xs)
+
+unfoldable pub sweptList : ℕ → List ℕ → List ℕ
+sweptList count xs = stayed count xs ++ drop (length (stayed count xs)) xs
+
+-- what an event makes of a list: a reject puts an area there; T3247 out; all areas clear
+unfoldable pub listAfter : Task → ℕ → List ℕ → List ℕ
+listAfter t count xs =
+    cond (eqb (t .kind) 1) (placed (t .area) (t .sure) count xs)
+    (cond (eqb (t .kind) 2) (sweptList count xs) (cond (eqb (t .kind) 3) (replicate 40 0) xs))
+
+unfoldable pub countAfter : Task → ℕ → List ℕ → ℕ
+countAfter t count xs =
+    cond (eqb (t .kind) 1) (placedCount (t .area) count xs)
+    (cond (eqb (t .kind) 2) (length (stayed count xs)) (cond (eqb (t .kind) 3) 0 count))

@@ -1,0 +1,2 @@
+-- Area lists.
+pub mod Areas

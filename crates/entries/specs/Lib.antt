@@ -1,0 +1,2 @@
+-- One access's entries.
+pub mod Entries

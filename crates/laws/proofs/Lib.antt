@@ -1,0 +1,2 @@
+-- Laws of the definitions over arrays of numbers.
+pub mod Zip

@@ -1,0 +1,2 @@
+-- Arrays of numbers, read to a count.
+pub mod Upto

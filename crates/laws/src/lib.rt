@@ -1,0 +1,1 @@
+// Definitions over arrays of numbers, and their laws: no code.
