@@ -9,5 +9,7 @@ pub struct Task {
 }
 
 pub const PUT: u8 = 1;
+
 pub const SWEEP: u8 = 2;
+
 pub const CLEAR: u8 = 3;

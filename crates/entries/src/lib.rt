@@ -28,8 +28,13 @@ pub struct Deed {
 }
 
 pub const BAN: u8 = 1;
+
 pub const BAR: u8 = 2;
+
 pub const ACCEPT: u8 = 3;
+
 pub const SWEEP: u8 = 4;
+
 pub const POWER: u8 = 5;
+
 pub const FRESH: u8 = 6;

@@ -1,0 +1,49 @@
+-- The reply numbers of document 01. Assumes nothing.
+use Prim.Native.Nat.{ℕ}
+use mathlib.Core.Bool.{Bool, true, false}
+use Rattle.octets.specs.declared.Fault.{Fault}
+use Rattle.record.specs.declared.Answer.{Answer}
+use Rattle.record.specs.declared.Answer.the-variants.{Taken, Range, Ignored, Malformed, Full, NoCard, State, Same, Listed, Area, Bare, Idle, Short}
+
+unfoldable pub numberOf : Answer → ℕ
+-- taken
+numberOf Taken = 0
+-- a field outside its range, limits and lengths included
+numberOf Range = 1
+-- ignored by the two-access rule
+numberOf Ignored = 2
+-- message malformed or not an accept or reject
+numberOf (Malformed f at) = 3
+-- entry needed, network not in the access's table, all 16 entries held
+numberOf Full = 4
+-- a start in state 0
+numberOf NoCard = 5
+-- state wrong for the event
+numberOf State = 6
+-- other access is in state 4 with the same network
+numberOf Same = 7
+-- network listed
+numberOf Listed = 8
+-- area listed (access 0)
+numberOf Area = 9
+-- accept without protection
+numberOf Bare = 10
+-- timer not running
+numberOf Idle = 11
+-- lent buffer shorter than the request
+numberOf Short = 12
+
+unfoldable pub isTaken : Answer → Bool
+isTaken Taken = true
+isTaken Range = false
+isTaken Ignored = false
+isTaken (Malformed f at) = false
+isTaken Full = false
+isTaken NoCard = false
+isTaken State = false
+isTaken Same = false
+isTaken Listed = false
+isTaken Area = false
+isTaken Bare = false
+isTaken Idle = false
+isTaken Short = false

@@ -1,0 +1,95 @@
+-- A new record, from limits and capabilities. Assumes nothing.
+use Prim.Native.Nat.{ℕ}
+use mathlib.Core.Bool.{Bool, true, false, cond}
+use mathlib.Core.List.{List, [], _∷_}
+use lib.ListN.{length, replicate}
+use Rattle.laws.specs.Upto.{copied}
+use Rattle.entries.specs.Entries.{none}
+use Rattle.record.specs.Tests.{both, within}
+use Rattle.record.specs.declared.Device.{Device}
+use Rattle.record.specs.declared.Access.{Access}
+use Rattle.record.specs.declared.Hot.{Hot}
+use Rattle.record.specs.declared.Record.{Record}
+use Rattle.record.specs.declared.Made.{Made}
+use Rattle.record.specs.declared.Answer.the-variants.{Taken, Range}
+
+-- "no card, .., no timer, empty lists, zeros elsewhere"
+unfoldable pub newDevice : ℕ → ℕ → ℕ → ℕ → ℕ → Device
+newDevice cardlimit banlimit n1limit capability security = record {
+  card = 0;
+  home = 0;
+  suci = 0;
+  cardlimit = cardlimit;
+  banlimit = banlimit;
+  n1limit = n1limit;
+  t3247 = 0;
+  capability = capability;
+  security = security;
+  roaming = 0;
+  regional = 0;
+}
+
+-- ".. state 0, 5U2, T3502 length 720 s, ngKSI 7, no timer, empty lists, zeros elsewhere"; a card change has state 1
+unfoldable pub newAccess : ℕ → Access
+newAccess state = record {
+  state = state;
+  status = 2;
+  attempts = 0;
+  cards = 0;
+  t3510 = 0;
+  t3511 = 0;
+  t3502 = 0;
+  wait = 720;
+  net = 0;
+  code = 0;
+  guti = 0;
+  visited = 0;
+  lastnet = 0;
+  lastcode = 0;
+  ksi = 7;
+  equivalents = 0;
+  entries = 0;
+}
+
+abbrev pub zeros : ℕ → List ℕ
+zeros n = replicate n 0
+
+-- the record with these numbers and capabilities, and nothing else held
+unfoldable pub emptyRecord : Hot → List ℕ → List ℕ → List ℕ → Record
+emptyRecord h suci capability security = record {
+  hot = h;
+  e0 = none;
+  e1 = none;
+  roaming = zeros 40;
+  regional = zeros 40;
+  guti0 = zeros 10;
+  guti1 = zeros 10;
+  equivalents0 = zeros 15;
+  equivalents1 = zeros 15;
+  suci = suci;
+  capability = capability;
+  security = security;
+}
+
+unfoldable pub newRecord : ℕ → ℕ → ℕ → List ℕ → List ℕ → Record
+newRecord cardlimit banlimit n1limit capability security =
+    emptyRecord
+    (record { dev = newDevice cardlimit banlimit n1limit (length capability) (length security); a0 = newAccess 0; a1 = newAccess 0 })
+    (zeros 64)
+    (copied (length capability) capability (zeros 13))
+    (copied (length security) security (zeros 8))
+
+-- three limits, each 1 to 10, 5GMM capability (1 to 13 octets), UE security capability (2 to 8 octets)
+unfoldable pub mayMake : ℕ → ℕ → ℕ → ℕ → ℕ → Bool
+mayMake cardlimit banlimit n1limit capability security =
+    both (within 1 10 cardlimit)
+    (both (within 1 10 banlimit)
+    (both (within 1 10 n1limit)
+    (both (within 1 13 capability) (within 2 8 security))))
+
+-- bad ones: answer 1 and the smallest record
+unfoldable pub madeOf : ℕ → ℕ → ℕ → List ℕ → List ℕ → Made
+madeOf cardlimit banlimit n1limit capability security =
+    cond (mayMake cardlimit banlimit n1limit (length capability) (length security))
+    (record { answer = Taken; made = newRecord cardlimit banlimit n1limit capability security })
+    (record { answer = Range; made = newRecord 1 1 1 (0 ∷ []) (0 ∷ 0 ∷ []) })

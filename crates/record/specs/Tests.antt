@@ -1,0 +1,27 @@
+-- Tests and their joins. Assumes nothing.
+use Prim.Native.Nat.{ℕ}
+use mathlib.Core.Bool.{Bool, true, false, cond}
+use lib.Dec.{ltb, leb, eqb}
+
+abbrev pub both : Bool → Bool → Bool
+both a b = cond a b false
+
+abbrev pub either : Bool → Bool → Bool
+either a b = cond a true b
+
+abbrev pub flip : Bool → Bool
+flip a = cond a false true
+
+-- a number from a to b
+abbrev pub within : ℕ → ℕ → ℕ → Bool
+within a b n = both (leb a n) (leb n b)
+
+abbrev pub upTo : ℕ → ℕ → Bool
+upTo b n = leb n b
+
+abbrev pub isFlag : ℕ → Bool
+isFlag n = leb n 1
+
+-- a number of three octets
+abbrev pub isShort : ℕ → Bool
+isShort n = ltb n 16777216

@@ -1,0 +1,85 @@
+// The registration record: what document 01 holds, as numbers and arrays of numbers, so that any octets lent are a record.
+use entries::Entries;
+use octets::Fault;
+ghost use mathlib.Core.Path.{_≡_};
+
+// The device's numbers. A flag is 0 or 1; lengths and counts say how much of an array is in use.
+pub struct Device {
+    pub card: u8,
+    pub home: u32,
+    pub suci: u8,
+    pub cardlimit: u8,
+    pub banlimit: u8,
+    pub n1limit: u8,
+    pub t3247: u8,
+    pub capability: u8,
+    pub security: u8,
+    pub roaming: u8,
+    pub regional: u8,
+}
+
+// One access's numbers. The pending area is net and code; guti and visited say whether a GUTI and a last area are held.
+pub struct Access {
+    pub state: u8,
+    pub status: u8,
+    pub attempts: u8,
+    pub cards: u8,
+    pub t3510: u8,
+    pub t3511: u8,
+    pub t3502: u8,
+    pub wait: u16,
+    pub net: u32,
+    pub code: u32,
+    pub guti: u8,
+    pub visited: u8,
+    pub lastnet: u32,
+    pub lastcode: u32,
+    pub ksi: u8,
+    pub equivalents: u8,
+    pub entries: u8,
+}
+
+// What every event reads and may change: small, and handed on by value.
+pub struct Hot {
+    pub dev: Device,
+    pub a0: Access,
+    pub a1: Access,
+}
+
+// What a caller holds, by value or lent.
+pub struct Record {
+    pub hot: Hot,
+    pub e0: Entries,
+    pub e1: Entries,
+    pub roaming: [u64; 40],
+    pub regional: [u64; 40],
+    pub guti0: [u8; 10],
+    pub guti1: [u8; 10],
+    pub equivalents0: [u32; 15],
+    pub equivalents1: [u32; 15],
+    pub suci: [u8; 64],
+    pub capability: [u8; 13],
+    pub security: [u8; 8],
+}
+
+// The reply numbers' cases, in their order.
+pub enum Answer {
+    Taken,
+    Range,
+    Ignored,
+    Malformed(Fault, usize),
+    Full,
+    NoCard,
+    State,
+    Same,
+    Listed,
+    Area,
+    Bare,
+    Idle,
+    Short,
+}
+
+pub struct Made {
+    pub answer: Answer,
+    pub made: Record,
+}
