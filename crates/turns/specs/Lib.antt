@@ -1,0 +1,5 @@
+-- Timers, an access's numbers, the rows of the table of rejects, and the other events on an access.
+pub mod Timers
+pub mod Access
+pub mod Rows
+pub mod Turns
