@@ -1,0 +1,43 @@
+-- `messages::accepted` meets its contract: each field is what its function ensures. Assumes nothing.
+use borrow.Author.Needs.{needs}
+use Rattle.messages.specs.Message.{acceptOf, tripletsOf}
+use Rattle.messages.proofs.accepted.Statement.{statement}
+use Rattle.messages.proofs.accepted.Tie as tie
+
+guti-requires : tie.Need-guti-requires
+guti-requires c κs = search needs
+
+count-requires : tie.Need-count-requires
+count-requires c κs = search needs
+
+wait-requires : tie.Need-wait-requires
+wait-requires c κs = search needs
+
+octet-requires : tie.Need-octet-requires
+octet-requires c κs = search needs
+
+place-requires : tie.Need-place-requires
+place-requires c κs = search needs
+
+timed-requires : tie.Need-timed-requires
+timed-requires c κs = search needs
+
+seconds-requires : tie.Need-seconds-requires
+seconds-requires c κs = search needs
+
+returns : tie.Need-returns
+unfolding acceptOf tripletsOf
+returns c = cc
+
+pub accepted-spec : {M : Type 1} → statement M
+accepted-spec =
+    tie.close
+    (tie.spec
+    guti-requires
+    count-requires
+    wait-requires
+    octet-requires
+    place-requires
+    timed-requires
+    seconds-requires
+    returns)

@@ -1,0 +1,26 @@
+-- `messages::timer_seconds` meets its contract: what `timers::timer` ensures, by the two cases of a span. Assumes nothing.
+use borrow.Author.Needs.{needs}
+use Rattle.messages.proofs.timer_seconds.Statement.{statement}
+use Rattle.messages.proofs.timer_seconds.Tie as tie
+
+timer-requires : tie.Need-timer-requires
+timer-requires c κs = search needs
+
+enum-told : tie.Need-enum-told
+enum-told c = search needs
+
+enum-known-n : tie.Need-enum-known-n
+enum-known-n c = search needs
+
+cast-result : tie.Need-cast-result
+cast-result c = search needs
+
+returns : tie.Need-returns
+returns c = rw (← c .before .before .timer .ensures, c .enum-told .given .1)
+
+returns-2 : tie.Need-returns-2
+returns-2 c = rw (← c .before .before .before .timer .ensures, c .before .n .given .1)
+
+pub timer-seconds-spec : {M : Type 1} → statement M
+timer-seconds-spec =
+    tie.close (tie.spec timer-requires enum-told enum-known-n cast-result returns returns-2)

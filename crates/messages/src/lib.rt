@@ -1,0 +1,247 @@
+// Messages from the network: the reading of an accept or a reject, and the calls for C firmware.
+ghost use mathlib.Core.Path.{_≡_};
+ghost use Prim.Native.Nat.{_<_, _≤_};
+ghost use mathlib.Core.Bool.{cond};
+ghost use lib.Dec.{eqb};
+ghost use lib.ListN.{length, getD};
+ghost use Rattle.timers.specs.Timer.{spanOf};
+ghost use Rattle.messages.specs.Message.{gutiOf, countOf, tripletsOf, waitOf, timedOf, secondsOf, acceptOf, acceptReading, rejectReading, typeReading, readingOf, numberOf, causeOf, timerOf};
+use octets::Fault;
+use octets::Gathered;
+use octets::Part;
+use timers::Span;
+
+// Offsets are in the message; what is absent is 0 there.
+pub struct Accept {
+    pub result: u8,
+    // a GUTI is given, and its ten octets lie at guti
+    pub given: bool,
+    pub guti: usize,
+    // the equivalents' triplets lie from here on, count of them
+    pub triplets: usize,
+    pub count: u8,
+    // T3502 is given, in seconds
+    pub timed: bool,
+    pub wait: u16,
+}
+
+// A refusal has its fault and the fault's offset.
+pub enum Reading {
+    Accept(Accept),
+    Reject(u8),
+    Bad(Fault, usize),
+}
+
+fn wide(x: u8) -> usize
+    ensures { λ r. ⌜ (r ≡ x) × (r < 256) ⌝ }
+{
+    x as usize
+}
+
+fn word(x: u8) -> u32
+    ensures { λ r. ⌜ (r ≡ x) × (r < 256) ⌝ }
+{
+    x as u32
+}
+
+// The octet at a place, 0 past the end.
+fn octet(msg: &[u8], at: usize) -> u8
+    ensures { λ r. ⌜ r ≡ getD (now (msg .entry)) at 0 ⌝ }
+{
+    if at < msg.len() {
+        return msg[at];
+    }
+    0
+}
+
+fn guti(msg: &[u8], p: Part) -> Part
+    ensures { λ r. ⌜ r ≡ gutiOf (now (msg .entry)) p ⌝ }
+{
+    let start = p.start;
+    if p.held {
+        if 11 <= p.len {
+            if start < msg.len() {
+                if msg[start] == 0xF2 {
+                    return Part {
+                        held: true,
+                        start: start + 1,
+                        len: 10,
+                    };
+                }
+            }
+        }
+    }
+    Part {
+        held: false,
+        start: 0,
+        len: 0,
+    }
+}
+
+fn count(p: Part) -> u8
+    ensures { λ r. ⌜ r ≡ countOf p ⌝ }
+{
+    if p.held {
+        let n = p.len / 3;
+        if n < 15 {
+            return n as u8;
+        }
+        return 15;
+    }
+    0
+}
+
+// The place of the equivalents, or 0 where there are none.
+fn place(none: bool, start: usize) -> usize
+    ensures { λ r. ⌜ r ≡ cond none 0 start ⌝ }
+{
+    if none { 0 } else { start }
+}
+
+fn wait(msg: &[u8], p: Part) -> Span
+    ensures { λ r. ⌜ r ≡ waitOf (now (msg .entry)) p ⌝ }
+{
+    if p.held {
+        if p.len == 0 {
+            return Span::Off;
+        }
+        return timers::timer(octet(msg, p.start));
+    }
+    Span::Off
+}
+
+fn timed(s: Span) -> bool
+    ensures { λ r. ⌜ r ≡ timedOf s ⌝ }
+{
+    match s {
+        Span::Off => false,
+        Span::Seconds(_) => true,
+    }
+}
+
+fn seconds(s: Span) -> u16
+    ensures { λ r. ⌜ r ≡ secondsOf s ⌝ }
+{
+    match s {
+        Span::Off => 0,
+        Span::Seconds(n) => n,
+    }
+}
+
+// An accept, by its first 77, 4A and 16.
+fn accepted(msg: &[u8], p: Part, q: Part, t: Part) -> Accept
+    ensures { λ r. ⌜ r ≡ acceptOf (now (msg .entry)) p q t ⌝ }
+{
+    let g = guti(msg, p);
+    let n = count(q);
+    let w = wait(msg, t);
+    Accept {
+        result: octet(msg, 4),
+        given: g.held,
+        guti: g.start,
+        triplets: place(n == 0, q.start),
+        count: n,
+        timed: timed(w),
+        wait: seconds(w),
+    }
+}
+
+fn read_accept(msg: &[u8]) -> Reading
+    ensures { λ r. ⌜ r ≡ acceptReading (now (msg .entry)) ⌝ }
+{
+    if msg.len() <= 3 {
+        return Reading::Bad(Fault::Cut, 3);
+    }
+    let n = wide(msg[3]);
+    if n == 0 {
+        return Reading::Bad(Fault::Cut, 3);
+    }
+    if msg.len() < 4 + n {
+        return Reading::Bad(Fault::Cut, msg.len());
+    }
+    match octets::gather(msg, 4 + n, false, 0x77, 0x4A, 0x16) {
+        Gathered::Broken(f, at) => Reading::Bad(f, at),
+        Gathered::Whole(p, q, t) => Reading::Accept(accepted(msg, p, q, t)),
+    }
+}
+
+fn read_reject(msg: &[u8]) -> Reading
+    ensures { λ r. ⌜ r ≡ rejectReading (now (msg .entry)) ⌝ }
+{
+    if msg.len() <= 3 {
+        return Reading::Bad(Fault::Cut, 3);
+    }
+    let cause = msg[3];
+    match octets::gather(msg, 4, false, 0x00, 0x00, 0x00) {
+        Gathered::Broken(f, at) => Reading::Bad(f, at),
+        Gathered::Whole(_, _, _) => Reading::Reject(cause),
+    }
+}
+
+fn read_type(msg: &[u8]) -> Reading
+    ensures { λ r. ⌜ r ≡ typeReading (now (msg .entry)) ⌝ }
+{
+    if msg.len() <= 2 {
+        return Reading::Bad(Fault::Cut, 2);
+    }
+    if msg[2] == 0x42 {
+        return read_accept(msg);
+    }
+    if msg[2] == 0x44 {
+        return read_reject(msg);
+    }
+    Reading::Bad(Fault::Kind, 2)
+}
+
+pub fn read(msg: &[u8]) -> Reading
+    ensures { λ r. ⌜ r ≡ readingOf (now (msg .entry)) ⌝ }
+{
+    if msg.len() == 0 {
+        return Reading::Bad(Fault::Cut, 0);
+    }
+    if msg[0] != 0x7E {
+        return Reading::Bad(Fault::First, 0);
+    }
+    if msg.len() <= 1 {
+        return Reading::Bad(Fault::Cut, 1);
+    }
+    if msg[1] != 0x00 {
+        return Reading::Bad(Fault::Second, 1);
+    }
+    read_type(msg)
+}
+
+// The number that document 01 has for a fault.
+pub fn number(f: Fault) -> u8
+    ensures { λ r. ⌜ r ≡ numberOf f ⌝ }
+{
+    match f {
+        Fault::Cut => 3,
+        Fault::First => 3,
+        Fault::Second => 3,
+        Fault::Kind => 3,
+        Fault::Past => 3,
+        Fault::Strange => 3,
+    }
+}
+
+#[no_mangle]
+pub extern "C" fn reject_cause(msg: &[u8]) -> u32
+    ensures { λ r. ⌜ r ≡ causeOf (readingOf (now (msg .entry))) ⌝ }
+{
+    match read(msg) {
+        Reading::Accept(_) => 256 + word(number(Fault::Kind)),
+        Reading::Reject(cause) => word(cause),
+        Reading::Bad(f, _) => 256 + word(number(f)),
+    }
+}
+
+#[no_mangle]
+pub extern "C" fn timer_seconds(octet: u8) -> u32
+    ensures { λ r. ⌜ r ≡ timerOf (spanOf octet) ⌝ }
+{
+    match timers::timer(octet) {
+        Span::Off => 65535,
+        Span::Seconds(n) => n as u32,
+    }
+}

@@ -1,0 +1,5 @@
+-- The answers in their order of checks, the effect of each event, the plan that both make.
+pub mod Hot
+pub mod Answers
+pub mod Effects
+pub mod Plan

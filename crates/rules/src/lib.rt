@@ -1,0 +1,94 @@
+// What an event is answered and what it plans: decided on the record's numbers, what stands about a network, and the message's reading.
+use entries::Seen;
+use messages::Accept;
+use messages::Reading;
+use record::Access;
+use record::Answer;
+use record::Device;
+use record::Hot;
+use turns::Clocks;
+use turns::Order;
+use turns::Orders;
+use turns::Row;
+use turns::Told;
+use turns::Turn;
+ghost use mathlib.Core.Path.{_≡_};
+
+// A card's SUCI and a message's octets come beside the event.
+pub enum Event {
+    Card(u32),
+    Start {
+        access: u8,
+        manual: u8,
+        net: u32,
+        code: u32,
+    },
+    Message {
+        access: u8,
+        sure: u8,
+        draw: u16,
+    },
+    Timer {
+        number: u8,
+        access: u8,
+    },
+    Power,
+    Key {
+        access: u8,
+        set: u8,
+    },
+    Unknown,
+}
+
+// A request to the caller, and the access that it is meant for.
+pub enum Asked {
+    No,
+    On(u8),
+}
+
+pub struct Reply {
+    pub answer: Answer,
+    pub c0: Clocks,
+    pub c1: Clocks,
+    pub t3247: Told,
+    pub restart: Asked,
+    pub leave: Asked,
+    pub update: Asked,
+}
+
+// What an event asks about before it is decided: its access, the network and area at hand, whether the area lists are looked at, and a message's protection.
+pub struct Ask {
+    pub access: u8,
+    pub net: u32,
+    pub code: u32,
+    pub area: bool,
+    pub sure: u8,
+}
+
+// What is to be done on the arrays, by the kinds of crates entries and areas; keep: 0 nothing, 1 an accept's GUTI and equivalents, 2 a card's SUCI.
+pub struct Work {
+    pub deed: u8,
+    pub roaming: u8,
+    pub regional: u8,
+    pub keep: u8,
+}
+
+// A taken event: the device's numbers, the turn of its access and of the other one, T3247, the work, and whether a restart is asked.
+pub struct Effect {
+    pub dev: Device,
+    pub mine: Turn,
+    pub theirs: Turn,
+    pub t3247: Order,
+    pub work: Work,
+    pub restart: bool,
+}
+
+// What an event comes to: the reply, the numbers after it but for the area lists' counts, and the work on the arrays with what it needs.
+pub struct Plan {
+    pub reply: Reply,
+    pub hot: Hot,
+    pub work: Work,
+    pub ask: Ask,
+    pub seen: Seen,
+    pub gift: Accept,
+}
