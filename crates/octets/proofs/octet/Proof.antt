@@ -21,7 +21,7 @@ returns : tie.Need-returns
 returns c = (simp getD-drop (c .wide .ensures .0), search needs)
 
 returns-2 : tie.Need-returns-2
-returns-2 c = (missing _ _ _ (c .if1 .left), search needs)
+returns-2 c = (missing (c .before .before .args .msg .now) (c .before .before .args .from) (c .before .before .args .i) (c .if1 .left), search needs)
 
 pub octet-spec : {M : Type 1} → statement M
 octet-spec =
