@@ -64,10 +64,10 @@ sweptList count xs = stayed count xs ++ drop (length (stayed count xs)) xs
 -- what an event makes of a list: a reject puts an area there; T3247 out; all areas clear
 unfoldable pub listAfter : Task → ℕ → List ℕ → List ℕ
 listAfter t count xs =
-    cond (eqb (t .kind) 1) (placed (t .area) (t .sure) count xs)
+    cond (eqb (t .kind) 1) (placed (areaOf (t .net) (t .code)) (t .sure) count xs)
     (cond (eqb (t .kind) 2) (sweptList count xs) (cond (eqb (t .kind) 3) (replicate 40 0) xs))
 
 unfoldable pub countAfter : Task → ℕ → List ℕ → ℕ
 countAfter t count xs =
-    cond (eqb (t .kind) 1) (placedCount (t .area) count xs)
+    cond (eqb (t .kind) 1) (placedCount (areaOf (t .net) (t .code)) count xs)
     (cond (eqb (t .kind) 2) (length (stayed count xs)) (cond (eqb (t .kind) 3) 0 count))

@@ -4,7 +4,8 @@ ghost use mathlib.Core.Path.{_≡_};
 // What becomes of a list: the kind is one of those below. An area is its network times 2^24 plus its code.
 pub struct Task {
     pub kind: u8,
-    pub area: u64,
+    pub net: u32,
+    pub code: u32,
     pub sure: u8,
 }
 

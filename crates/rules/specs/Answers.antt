@@ -5,7 +5,7 @@ use mathlib.Core.Bool.{Bool, true, false, cond}
 use mathlib.Core.List.{List}
 use lib.ListN.{length, getD}
 use lib.Dec.{ltb, leb, eqb}
-use Rattle.record.specs.Tests.{both, either, within, isFlag, isShort}
+use Rattle.record.specs.Tests.{both, either, flip, within, isFlag, isShort}
 use Rattle.record.specs.Network.{isNetwork}
 use Rattle.record.specs.declared.Access.{Access}
 use Rattle.record.specs.declared.Hot.{Hot}
@@ -20,7 +20,7 @@ use Rattle.rules.specs.Hot.{accessOf, otherOf}
 
 -- the answer where a check fails, else the rest
 abbrev pub check : Bool → Answer → Answer → Answer
-check ok no rest = cond ok rest no
+check passed refusal rest = cond passed rest refusal
 
 -- "allowed in 1, 2, 3 and 6"
 unfoldable pub mayStart : ℕ → Bool
@@ -41,11 +41,11 @@ startRange w manual net code = both (isFlag w) (both (isFlag manual) (both (isNe
 unfoldable pub startAnswer : Hot → ℕ → ℕ → ℕ → ℕ → Seen → Bool → Answer
 startAnswer h w manual net code s listed =
     check (startRange w manual net code) answer.Range
-    (check (cond (eqb (accessOf h w .state) 0) false true) answer.NoCard
+    (check (flip (eqb (accessOf h w .state) 0)) answer.NoCard
     (check (mayStart (accessOf h w .state)) answer.State
-    (check (cond (isSame (otherOf h w) net) false true) answer.Same
+    (check (flip (isSame (otherOf h w) net)) answer.Same
     (check (isFree manual s) answer.Listed
-    (check (cond (eqb w 0) (cond listed false true) true) answer.Area
+    (check (flip (both (eqb w 0) listed)) answer.Area
     answer.Taken)))))
 
 -- the row of a reject that comes over access w now
@@ -59,18 +59,18 @@ isIgnored sure cause other = both (isCard cause) (both (eqb sure 0) (eqb (other 
 
 -- "entry needed, network not in the access's table, all 16 entries held"
 unfoldable pub isFull : Row → Seen → Bool
-isFull row s = both (needsEntry row) (cond (ltb (s .at) 16) false true)
+isFull row s = both (needsEntry row) (flip (ltb (s .at) 16))
 
 -- a reject: 2, 4
 unfoldable pub rejectAnswer : Hot → ℕ → ℕ → ℕ → Seen → Answer
 rejectAnswer h w sure cause s =
-    check (cond (isIgnored sure cause (otherOf h w)) false true) answer.Ignored
-    (check (cond (isFull (rowNow h w sure cause) s) false true) answer.Full
+    check (flip (isIgnored sure cause (otherOf h w))) answer.Ignored
+    (check (flip (isFull (rowNow h w sure cause) s)) answer.Full
     answer.Taken)
 
 -- what was read: 3, 10, then those of a reject
 unfoldable pub readAnswer : Hot → ℕ → ℕ → Reading → Seen → Answer
-readAnswer h w sure (reading.Accept g) s = check (cond (eqb sure 0) false true) answer.Bare answer.Taken
+readAnswer h w sure (reading.Accept g) s = check (flip (eqb sure 0)) answer.Bare answer.Taken
 readAnswer h w sure (reading.Reject cause) s = rejectAnswer h w sure cause s
 readAnswer h w sure (reading.Bad f at) s = answer.Malformed f at
 
@@ -100,7 +100,7 @@ runs h number w =
 unfoldable pub timerAnswer : Hot → ℕ → ℕ → Answer
 timerAnswer h number w =
     check (timerRange number w) answer.Range
-    (check (cond (eqb (runs h number w) 0) false true) answer.Idle
+    (check (flip (eqb (runs h number w) 0)) answer.Idle
     answer.Taken)
 
 -- Key set (0 to 6): 1, 6

@@ -90,7 +90,7 @@ hotAfter h w e =
     (clocked (e .theirs .orders) (e .theirs .access))
 
 abbrev pub askedOn : Bool → ℕ → Asked
-askedOn yes w = cond yes (On w) No
+askedOn wanted w = cond wanted (On w) No
 
 -- what is told of a taken event: the timers by how they ran before it, and a restart of its access
 unfoldable pub takenReply : Hot → ℕ → Effect → Reply

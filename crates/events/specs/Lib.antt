@@ -1,0 +1,3 @@
+-- Events on the whole record.
+pub mod Parts
+pub mod Step
