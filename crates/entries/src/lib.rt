@@ -4,7 +4,7 @@ ghost use mathlib.Core.Bool.{cond};
 ghost use Prim.Native.Nat.{_≤_};
 ghost use lib.ListN.{replicate};
 ghost use Rattle.laws.specs.Upto.{upto, seekTo};
-ghost use Rattle.entries.specs.Entries.{sameNet, sizeOf, liftMark, bumped, putAt, raised, peekAt, seenIn, entriesOf, banned, swept, cycled, none, entriesAfter};
+ghost use Rattle.entries.specs.Entries.{sameNet, sizeOf, liftMark, bumped, putAt, raised, peekAt, seenIn, entriesOf, banned, none, entriesAfter};
 
 // Dense from 0 to a count that the access keeps; behind it nothing is looked at.
 pub struct Entries {
@@ -33,10 +33,15 @@ pub struct Deed {
 }
 
 pub const BAN: u8 = 1;
+
 pub const BAR: u8 = 2;
+
 pub const ACCEPT: u8 = 3;
+
 pub const SWEEP: u8 = 4;
+
 pub const POWER: u8 = 5;
+
 pub const FRESH: u8 = 6;
 
 pub fn size(count: u8) -> usize
@@ -73,13 +78,11 @@ pub fn look(count: u8, net: u32, nets: &[u32; 16], forbidden: &[u8; 16], barred:
 {
     let n = size(count);
     let at = find(nets, n, net);
-    let f = peek(forbidden, at, n);
-    let b = peek(barred, at, n);
     Seen {
         at: at,
         found: at < n,
-        forbidden: f,
-        barred: b,
+        forbidden: peek(forbidden, at, n),
+        barred: peek(barred, at, n),
     }
 }
 
@@ -88,8 +91,10 @@ fn lift_by(zero: bool, small: bool, mark: u8) -> u8
 {
     if zero {
         mark
+    } else if small {
+        0
     } else {
-        if small { 0 } else { mark }
+        mark
     }
 }
 
@@ -174,11 +179,12 @@ fn strike(
 )
     ensures { λ r. ⌜ entriesOf (now (nets .exit)) (now (counts .exit)) (now (others .exit)) (now (marks .exit)) (now (spare .exit)) ≡ banned k limit (entriesOf (now (nets .entry)) (now (counts .entry)) (now (others .entry)) (now (marks .entry)) (now (spare .entry))) ⌝ }
 {
+    let new = !k.found;
     put_net(nets, k.at, k.net);
     raise(counts, k.at, k.found, limit, k.sure);
-    clear(!k.found, others, k.at);
+    clear(new, others, k.at);
     put(marks, k.at, 1);
-    clear(!k.found, spare, k.at);
+    clear(new, spare, k.at);
 }
 
 fn sweep_both(

@@ -1,3 +1,4 @@
+-- `bump` meets its contract: its three ways are the definition's.
 use Rattle.entries.specs.Entries.{bumped}
 use borrow.Author.Tests.{lt-ltb, le-ltb, eq-eqb, ne-eqb}
 use borrow.Author.Needs.{needs}

@@ -1,7 +1,7 @@
+-- `find` meets its contract. The loop's invariant: what the search finds from i on, and i, is what it finds from the front.
 use Prim.Native.Nat.{_≤_, _-_, _+_}
-use mathlib.Core.Path.{_≡_, sym, _∙_, refl}
-use lib.ListN.{length, drop, take}
-use native.Mathlib.Nat.{zero-add}
+use mathlib.Core.Path.{_≡_}
+use lib.ListN.{drop}
 use borrow.Author.Tests.{eq-eqb, ne-eqb}
 use Rattle.laws.specs.Upto.{seekTo}
 use Rattle.entries.specs.Entries.{sameNet}
@@ -27,7 +27,6 @@ element-copy-out-if1 : tie.Need-element-copy-out-if1 Inv-loop μ-loop
 element-copy-out-if1 c = search needs
 
 returns : tie.Need-returns Inv-loop μ-loop
-unfolding sameNet
 returns c = seek-hit (sameNet _) (c .before .before .before .before .args .n) (c .before .before .before .loop .i) (c .before .before .before .before .args .nets .now) (c .before .before .before .loop .inv .1) (eq-eqb _ _ (c .if1 .taken)) (search needs)
 
 add-i : tie.Need-add-i Inv-loop μ-loop
@@ -37,7 +36,6 @@ loop-less : tie.Need-loop-less Inv-loop μ-loop
 loop-less c = omega arith
 
 loop-again : tie.Need-loop-again Inv-loop μ-loop
-unfolding sameNet
 loop-again c = (search needs, seek-miss (sameNet _) (c .before .before .before .before .args .n) (c .before .before .before .loop .i) (c .before .before .before .before .args .nets .now) (c .before .before .before .loop .inv .1) (ne-eqb _ _ (c .if1 .left)) (search needs))
 
 returns-2 : tie.Need-returns-2 Inv-loop μ-loop

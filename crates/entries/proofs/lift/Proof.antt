@@ -1,3 +1,4 @@
+-- `lift` meets its contract: its two tests are the definition's.
 use Rattle.entries.specs.Entries.{liftMark}
 use borrow.Author.Needs.{needs}
 use Rattle.entries.proofs.lift.Statement.{statement}

@@ -1,3 +1,4 @@
+-- `look` meets its contract: the place found, and the marks that stand there.
 use Rattle.entries.specs.Entries.{seenIn, placeIn}
 use borrow.Author.Needs.{needs}
 use Rattle.entries.proofs.look.Statement.{statement}

@@ -1,6 +1,7 @@
+-- `size` meets its contract: the test on the count is the definition's.
 use borrow.Author.Needs.{needs}
 use Rattle.entries.specs.Entries.{sizeOf}
-use borrow.Author.Tests.{lt-ltb, le-ltb, eq-eqb, ne-eqb}
+use borrow.Author.Tests.{lt-ltb, le-ltb}
 use Rattle.entries.proofs.size.Statement.{statement}
 use Rattle.entries.proofs.size.Tie as tie
 

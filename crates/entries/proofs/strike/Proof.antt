@@ -23,13 +23,14 @@ clear-requires-2 c κs = search needs
 returns : tie.Need-returns
 unfolding banned
 returns c =
-    rw (c .before .before .before .before .before .before .before .before .before .before .put-net .ensures,
-        c .before .before .before .before .before .before .before .before .raise .ensures,
-        c .before .before .before .before .before .clear .ensures,
-        c .before .before .before .put .ensures,
-        c .clear2 .ensures,
-        fresh,
-        fresh)
+    rw (
+      c .before .before .before .before .before .before .before .before .put-net .ensures,
+      c .before .before .before .before .before .before .raise .ensures,
+      c .before .before .before .before .clear .ensures,
+      c .before .before .put .ensures,
+      c .clear2 .ensures,
+    )
+    (simp fresh)
 
 pub strike-spec : {M : Type 1} → statement M
 strike-spec =

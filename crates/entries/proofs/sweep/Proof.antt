@@ -1,8 +1,6 @@
-use Prim.Native.Nat.{_≤_, _-_, _+_}
-use mathlib.Core.Path.{_≡_, sym, _∙_, refl}
-use lib.ListN.{length, drop, take}
-use native.Mathlib.Nat.{zero-add}
-use borrow.Author.Tests.{eq-eqb, ne-eqb}
+-- `sweep` meets its contract. The loop's invariant: the first i marks are lifted by their counters, the others stand.
+use Prim.Native.Nat.{_≤_, _-_}
+use mathlib.Core.Path.{_≡_}
 use Rattle.laws.specs.Upto.{upto}
 use Rattle.entries.specs.Entries.{liftMark}
 use Rattle.laws.proofs.Zip.{zip-none, zip-step}

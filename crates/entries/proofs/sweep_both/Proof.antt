@@ -1,3 +1,4 @@
+-- `sweep_both` meets its contract: `size` says how far both sweeps go.
 use borrow.Author.Needs.{needs}
 use Rattle.entries.proofs.sweep_both.Statement.{statement}
 use Rattle.entries.proofs.sweep_both.Tie as tie

@@ -1,65 +1,64 @@
+-- `tend` meets its contract: the kind picks the definition, and the callee's contract is that definition.
 use borrow.Author.Needs.{needs}
+use borrow.Author.Tests.{eq-eqb, ne-eqb}
+use Rattle.entries.specs.Entries.{accepted, swept, cycled, entriesAfter}
+use Rattle.entries.proofs.Laws.{turn}
 use Rattle.entries.proofs.tend.Statement.{statement}
 use Rattle.entries.proofs.tend.Tie as tie
-use Rattle.entries.proofs.tend.Reads as reads
-use Rattle.entries.proofs.tend.Lts as lts
-use Rattle.entries.proofs.clear.Reads as clear-reads
-use Rattle.entries.proofs.cycle.Reads as cycle-reads
-use Rattle.entries.proofs.strike.Reads as strike-reads
-use Rattle.entries.proofs.sweep_both.Reads as sweep-both-reads
-use Rattle.entries.proofs.wipe.Reads as wipe-reads
 
--- src/lib.rt:240:9
 strike-requires : tie.Need-strike-requires
 strike-requires c κs = search needs
 
--- src/lib.rt:241:9
 returns : tie.Need-returns
-returns c = ?
+unfolding entriesAfter
+returns c = rw (eq-eqb _ _ (c .before .before .before .before .before .before .if1 .taken)) (c .strike .ensures)
 
--- src/lib.rt:244:9
 strike-requires-2 : tie.Need-strike-requires-2
 strike-requires-2 c κs = search needs
 
--- src/lib.rt:245:9
 returns-2 : tie.Need-returns-2
-returns-2 c = ?
+unfolding entriesAfter
+returns-2 c = rw (ne-eqb _ _ (c .before .before .before .before .before .before .before .before .if1 .left), eq-eqb _ _ (c .before .before .before .before .before .before .if2 .taken)) (turn _ _ _ _ (c .strike2 .ensures))
 
--- src/lib.rt:248:9
 clear-requires : tie.Need-clear-requires
 clear-requires c κs = search needs
 
--- src/lib.rt:249:9
 returns-3 : tie.Need-returns-3
-returns-3 c = ?
+unfolding entriesAfter accepted
+returns-3 c = rw (c .before .before .if3 .taken, c .clear .ensures)
 
--- src/lib.rt:252:9
 sweep-both-requires : tie.Need-sweep-both-requires
 sweep-both-requires c κs = search needs
 
--- src/lib.rt:253:9
 returns-4 : tie.Need-returns-4
-returns-4 c = ?
+unfolding entriesAfter swept
+returns-4 c = rw (c .before .before .before .before .before .if4 .taken, c .sweep-both .ensures .0, c .sweep-both .ensures .1)
 
--- src/lib.rt:256:9
 cycle-requires : tie.Need-cycle-requires
 cycle-requires c κs = search needs
 
--- src/lib.rt:257:9
 returns-5 : tie.Need-returns-5
-returns-5 c = ?
+unfolding entriesAfter cycled
+returns-5 c = rw (c .before .before .before .before .if5 .taken, c .cycle .ensures .0, c .cycle .ensures .1)
 
--- src/lib.rt:260:9
 wipe-requires : tie.Need-wipe-requires
 wipe-requires c κs = search needs
 
--- src/lib.rt:226:1
 returns-6 : tie.Need-returns-6
-returns-6 c = ?
+unfolding entriesAfter
+returns-6 c = rw (c .before .before .before .before .before .before .if6 .taken) (c .wipe .ensures)
 
--- src/lib.rt:226:1
 returns-7 : tie.Need-returns-7
-returns-7 c = ?
+unfolding entriesAfter
+returns-7 c =
+    rw (
+      ne-eqb _ _ (c .before .before .before .before .before .before .before .before .before .before .if1 .left),
+      ne-eqb _ _ (c .before .before .before .before .before .before .before .before .if2 .left),
+      ne-eqb _ _ (c .before .before .before .before .before .before .if3 .left),
+      ne-eqb _ _ (c .before .before .before .before .if4 .left),
+      ne-eqb _ _ (c .before .before .if5 .left),
+      ne-eqb _ _ (c .if6 .left),
+    )
 
 pub tend-spec : {M : Type 1} → statement M
 tend-spec =
