@@ -38,6 +38,9 @@ module _ (p : ℕ → Bool) (xs : List ℕ) where
   unfolding kept
   kept-none = record { size = refl; cells = refl }
 
+  pub kept-all : (i j : ℕ) (out : List ℕ) → Kept p xs i j out → (out ≡ kept p (take i xs) ++ drop (length (kept p (take i xs))) xs) × (j ≡ length (kept p (take i xs)))
+  kept-all i j out k = (k .cells ∙ ap (λ (n : ℕ). kept p (take i xs) ++ drop n xs) (k .size), k .size)
+
   module _ (i j : ℕ) (out : List ℕ) (k : Kept p xs i j out) (h : j ≤ i) where
     same : getD out i 0 ≡ getD xs i 0
     same =
