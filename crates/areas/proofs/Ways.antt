@@ -1,11 +1,11 @@
 -- Whether an area is listed and the three ways of putting it in a list, from the place that a search found. Assumes nothing.
 use mathlib.Core.Path.{_≡_, refl, sym, ap, _∙_}
-use mathlib.Core.Bool.{true, false}
+use mathlib.Core.Bool.{Bool, true, false, cond}
 use mathlib.Core.List.{List, [], _∷_, _++_}
-use Prim.Native.Nat.{ℕ, _+_, _≤_, _<_}
+use Prim.Native.Nat.{ℕ, _+_, _*_, _≤_, _<_}
 use native.Mathlib.Omega.{arith}
 use borrow.Author.Tests.{lt-ltb, le-ltb}
-use lib.Dec.{ltb}
+use lib.Dec.{ltb, eqb}
 use lib.ListN.{getD, set, drop}
 use Rattle.laws.specs.Upto.{seekTo}
 use Rattle.areas.specs.Areas.{sameArea, sizeOf, placeIn, listedIn, marked, remarked, placed, placedCount}
@@ -15,6 +15,13 @@ unfolding sizeOf
 size-small count h = rw (lt-ltb count 40 h)
 
 module _ (area count n at : ℕ) (xs : List ℕ) (en : n ≡ sizeOf count) (ea : at ≡ seekTo (sameArea area) n xs) where
+  chosen : (sure old x : ℕ) → x ≡ marked area sure → cond (eqb sure 0) old x ≡ remarked area sure old
+  chosen sure old x m = rw m (by-test (eqb sure 0))
+    where
+      by-test : (b : Bool) → cond b old (area * 2 + cond b 0 1) ≡ cond b old (area * 2 + 1)
+      by-test true = refl
+      by-test false = refl
+
   place : at ≡ placeIn area count xs
   unfolding placeIn
   place = ea ∙ ap (λ (m : ℕ). seekTo (sameArea area) m xs) en
@@ -31,14 +38,14 @@ module _ (area count n at : ℕ) (xs : List ℕ) (en : n ≡ sizeOf count) (ea :
   unfolding listedIn
   unlisted h = le-ltb (placeIn area count xs) (sizeOf count) (omega (arith, place, en))
 
-  pub put-again : (sure v : ℕ) → at < n → v ≡ remarked area sure (getD xs at 0) → (set xs at v ≡ placed area sure count xs) × (count ≡ placedCount area count xs)
+  pub put-again : (sure v x : ℕ) → at < n → x ≡ marked area sure → v ≡ cond (eqb sure 0) (getD xs at 0) x → (set xs at v ≡ placed area sure count xs) × (count ≡ placedCount area count xs)
   unfolding placed placedCount
-  put-again sure v h e = (rw (listed h, e, place), rw (listed h))
+  put-again sure v x h m e = (rw (listed h, e ∙ chosen sure (getD xs at 0) x m, place), rw (listed h))
 
-  pub put-behind : (sure v : ℕ) → n ≤ at → count < 40 → v ≡ marked area sure → (set xs n v ≡ placed area sure count xs) × (count + 1 ≡ placedCount area count xs)
+  pub put-behind : (sure x : ℕ) → n ≤ at → count < 40 → x ≡ marked area sure → (set xs n x ≡ placed area sure count xs) × (count + 1 ≡ placedCount area count xs)
   unfolding placed placedCount
-  put-behind sure v h k e = let s : n ≡ count = en ∙ size-small count k in (rw (unlisted h, lt-ltb count 40 k, e, s), rw (unlisted h, lt-ltb count 40 k))
+  put-behind sure x h k m = let s : n ≡ count = en ∙ size-small count k in (rw (unlisted h, lt-ltb count 40 k, m, s), rw (unlisted h, lt-ltb count 40 k))
 
-  pub put-full : (sure v : ℕ) (out : List ℕ) → n ≤ at → 40 ≤ count → v ≡ marked area sure → out ≡ drop 1 xs ++ (v ∷ []) → (out ≡ placed area sure count xs) × (count ≡ placedCount area count xs)
+  pub put-full : (sure x : ℕ) (out : List ℕ) → n ≤ at → 40 ≤ count → x ≡ marked area sure → out ≡ drop 1 xs ++ (x ∷ []) → (out ≡ placed area sure count xs) × (count ≡ placedCount area count xs)
   unfolding placed placedCount
-  put-full sure v out h k e o = (o ∙ rw (unlisted h, le-ltb count 40 k, e), rw (unlisted h, le-ltb count 40 k))
+  put-full sure x out h k m o = (o ∙ rw (unlisted h, le-ltb count 40 k, m), rw (unlisted h, le-ltb count 40 k))

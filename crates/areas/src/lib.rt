@@ -1,10 +1,12 @@
 // A list of forty areas as numbers, the oldest first: twice the area, and one more where its mark is protected.
 ghost use mathlib.Core.Path.{_≡_};
+ghost use mathlib.Core.Bool.{cond};
 ghost use mathlib.Core.List.{[], _∷_, _++_};
 ghost use Prim.Native.Nat.{_≤_, _<_, _^_};
+ghost use lib.Dec.{eqb};
 ghost use lib.ListN.{length, drop};
 ghost use Rattle.laws.specs.Upto.{seekTo};
-ghost use Rattle.areas.specs.Areas.{areaOf, sameArea, isProtected, sizeOf, listedIn, marked, remarked, placed, placedCount, stayed, sweptList, listAfter, countAfter};
+ghost use Rattle.areas.specs.Areas.{areaOf, sameArea, isProtected, sizeOf, listedIn, marked, placed, placedCount, stayed, sweptList, listAfter, countAfter};
 
 // What becomes of a list: the kind is one of those below. An area is a network and a code, which only PUT looks at.
 pub struct Task {
@@ -70,11 +72,11 @@ fn mark(area: u64, sure: u8) -> u64
     if sure == 0 { area * 2 } else { area * 2 + 1 }
 }
 
-fn remark(area: u64, sure: u8, x: u64) -> u64
-    requires { ⌜ area < 2 ^ 57 ⌝ }
-    ensures { λ r. ⌜ r ≡ remarked area sure x ⌝ }
+// An unprotected reject leaves the old element, a protected one puts the new.
+fn remark(sure: u8, old: u64, new: u64) -> u64
+    ensures { λ r. ⌜ r ≡ cond (eqb sure 0) old new ⌝ }
 {
-    if sure == 0 { x } else { area * 2 + 1 }
+    if sure == 0 { old } else { new }
 }
 
 // A lent array brings no length: a copy of it does, and the copy is gone when compiled.
@@ -103,19 +105,20 @@ fn put(area: u64, sure: u8, count: u8, list: &mut [u64; 40]) -> u8
 {
     let n = size(count);
     let at = seek(list, n, area);
+    let x = mark(area, sure);
     if at < n {
-        list[at] = remark(area, sure, list[at]);
+        list[at] = remark(sure, list[at], x);
         return count;
     }
     if count < 40 {
-        list[n] = mark(area, sure);
+        list[n] = x;
         return count + 1;
     }
-    push(list, mark(area, sure));
+    push(list, x);
     count
 }
 
-fn sure(x: u64) -> bool
+fn protected(x: u64) -> bool
     ensures { λ r. ⌜ r ≡ isProtected x ⌝ }
 {
     x % 2 == 1
@@ -131,7 +134,7 @@ fn sweep(count: u8, list: &mut [u64; 40]) -> u8
     let mut j: usize = 0;
     while i < n {
         let x = list[i];
-        if sure(x) {
+        if protected(x) {
             list[j] = x;
             j += 1;
         }

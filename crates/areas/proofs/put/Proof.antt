@@ -18,6 +18,9 @@ size-requires c κs = search needs
 seek-requires : tie.Need-seek-requires
 seek-requires c κs = search needs
 
+mark-requires : tie.Need-mark-requires
+mark-requires c κs = search needs
+
 mul-remark : tie.Need-mul-remark
 mul-remark c = search needs
 
@@ -35,17 +38,14 @@ element-write-list c = search needs
 
 returns : tie.Need-returns
 returns c =
-    let a = c .before .before .before .before .before .before .args in
-    put-again (a .area) _ _ _ _ (c .before .before .before .before .before .size .ensures .0) (c .before .before .before .seek .ensures) (a .sure) _ (c .before .before .if1 .taken) (c .remark .ensures)
-
-mark-requires : tie.Need-mark-requires
-mark-requires c κs = search needs
+    let a = c .before .before .before .before .before .before .before .args in
+    put-again (a .area) _ _ _ _ (c .before .before .before .before .before .before .size .ensures .0) (c .before .before .before .before .seek .ensures) (a .sure) _ _ (c .before .before .if1 .taken) (c .before .before .before .mark .ensures) (c .remark .ensures)
 
 mul-list-2 : tie.Need-mul-list-2
 mul-list-2 c = search needs
 
 element-write-list-2 : tie.Need-element-write-list-2
-element-write-list-2 c = omega (arith, c .before .before .before .before .before .size .ensures .0, size-small (c .before .before .before .before .before .before .args .count) (c .before .if2 .taken))
+element-write-list-2 c = omega (arith, c .before .before .before .before .before .size .ensures .0, size-small (c .before .before .before .before .before .before .args .count) (c .if2 .taken))
 
 add-result : tie.Need-add-result
 add-result c = search needs
@@ -53,10 +53,7 @@ add-result c = search needs
 returns-2 : tie.Need-returns-2
 returns-2 c =
     let a = c .before .before .before .before .before .before .args in
-    put-behind (a .area) _ _ _ _ (c .before .before .before .before .before .size .ensures .0) (c .before .before .before .seek .ensures) (a .sure) _ (c .before .before .if1 .left) (c .before .if2 .taken) (c .mark .ensures)
-
-mark-requires-2 : tie.Need-mark-requires-2
-mark-requires-2 c κs = search needs
+    put-behind (a .area) _ _ _ _ (c .before .before .before .before .before .size .ensures .0) (c .before .before .before .seek .ensures) (a .sure) _ (c .before .if1 .left) (c .if2 .taken) (c .before .before .mark .ensures)
 
 push-requires : tie.Need-push-requires
 push-requires c κs = search needs
@@ -64,7 +61,7 @@ push-requires c κs = search needs
 returns-3 : tie.Need-returns-3
 returns-3 c =
     let a = c .before .before .before .before .before .before .before .before .args in
-    put-full (a .area) _ _ _ _ (c .before .before .before .before .before .before .before .size .ensures .0) (c .before .before .before .before .before .seek .ensures) (a .sure) _ _ (c .before .before .before .before .if1 .left) (c .before .before .before .if2 .left) (c .before .mark2 .ensures) (c .push .ensures)
+    put-full (a .area) _ _ _ _ (c .before .before .before .before .before .before .before .size .ensures .0) (c .before .before .before .before .before .seek .ensures) (a .sure) _ _ (c .before .before .before .if1 .left) (c .before .before .if2 .left) (c .before .before .before .before .mark .ensures) (c .push .ensures)
 
 pub put-spec : {M : Type 1} → statement M
 put-spec =
@@ -72,17 +69,16 @@ put-spec =
     (tie.spec
     size-requires
     seek-requires
+    mark-requires
     mul-remark
     element-copy-out-remark
     remark-requires
     mul-list
     element-write-list
     returns
-    mark-requires
     mul-list-2
     element-write-list-2
     add-result
     returns-2
-    mark-requires-2
     push-requires
     returns-3)

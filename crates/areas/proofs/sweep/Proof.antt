@@ -11,7 +11,7 @@ use Rattle.areas.proofs.sweep.Tie as tie
 use Rattle.areas.proofs.sweep.Reads as reads
 use Rattle.areas.proofs.sweep.Lts as lts
 use Rattle.areas.proofs.size.Reads as size-reads
-use Rattle.areas.proofs.sure.Reads as sure-reads
+use Rattle.areas.proofs.protected.Reads as protected-reads
 
 abbrev Inv-loop : tie.InvT-loop
 Inv-loop count list₀ n i₀ j₀ list i j = (i ≤ n) × (j ≤ i) × Kept isProtected list₀ i j list
@@ -31,8 +31,8 @@ mul-x c = omega arith
 element-copy-out-x : tie.Need-element-copy-out-x Inv-loop μ-loop
 element-copy-out-x c = search needs
 
-sure-requires : tie.Need-sure-requires Inv-loop μ-loop
-sure-requires c κs = search needs
+protected-requires : tie.Need-protected-requires Inv-loop μ-loop
+protected-requires c κs = search needs
 
 mul-list : tie.Need-mul-list Inv-loop μ-loop
 mul-list c = omega arith
@@ -52,7 +52,7 @@ loop-less c = omega arith
 loop-again : tie.Need-loop-again Inv-loop μ-loop
 loop-again c =
     let l = c .before .before .before .before .loop in
-    let s = c .before .sure .ensures in
+    let s = c .before .protected .ensures in
     ⊎-elim
     (λ w. (search needs, omega (arith, w .2), kept-more isProtected _ (l .i) (l .j) (l .list) (l .inv .2) (l .inv .1) refl _ _ (sym s ∙ w .0 .taken) (w .2) (w .1)))
     (λ w. (search needs, omega (arith, w .2), kept-skip isProtected _ (l .i) (l .j) (l .list) (l .inv .2) (l .inv .1) _ _ (sym s ∙ w .0 .left) (w .2) (w .1)))
@@ -75,7 +75,7 @@ sweep-spec =
     loop-holds
     mul-x
     element-copy-out-x
-    sure-requires
+    protected-requires
     mul-list
     element-write-list
     add-j
