@@ -1,5 +1,5 @@
 -- Whether an area is listed and the three ways of putting it in a list, from the place that a search found. Assumes nothing.
-use mathlib.Core.Path.{_≡_, refl, sym, ap, _∙_}
+use mathlib.Core.Path.{_≡_, refl, ap, _∙_}
 use mathlib.Core.Bool.{Bool, true, false, cond}
 use mathlib.Core.List.{List, [], _∷_, _++_}
 use Prim.Native.Nat.{ℕ, _+_, _*_, _≤_, _<_}
@@ -14,14 +14,14 @@ pub size-small : (count : ℕ) → count < 40 → sizeOf count ≡ count
 unfolding sizeOf
 size-small count h = rw (lt-ltb count 40 h)
 
-module _ (area count n at : ℕ) (xs : List ℕ) (en : n ≡ sizeOf count) (ea : at ≡ seekTo (sameArea area) n xs) where
-  chosen : (sure old x : ℕ) → x ≡ marked area sure → cond (eqb sure 0) old x ≡ remarked area sure old
-  chosen sure old x m = rw m (by-test (eqb sure 0))
-    where
-      by-test : (b : Bool) → cond b old (area * 2 + cond b 0 1) ≡ cond b old (area * 2 + 1)
-      by-test true = refl
-      by-test false = refl
+chosen : (area sure old x : ℕ) → x ≡ marked area sure → cond (eqb sure 0) old x ≡ remarked area sure old
+chosen area sure old x m = rw m (by-test (eqb sure 0))
+  where
+    by-test : (b : Bool) → cond b old (area * 2 + cond b 0 1) ≡ cond b old (area * 2 + 1)
+    by-test true = refl
+    by-test false = refl
 
+module _ (area count n at : ℕ) (xs : List ℕ) (en : n ≡ sizeOf count) (ea : at ≡ seekTo (sameArea area) n xs) where
   place : at ≡ placeIn area count xs
   unfolding placeIn
   place = ea ∙ ap (λ (m : ℕ). seekTo (sameArea area) m xs) en
@@ -40,7 +40,7 @@ module _ (area count n at : ℕ) (xs : List ℕ) (en : n ≡ sizeOf count) (ea :
 
   pub put-again : (sure v x : ℕ) → at < n → x ≡ marked area sure → v ≡ cond (eqb sure 0) (getD xs at 0) x → (set xs at v ≡ placed area sure count xs) × (count ≡ placedCount area count xs)
   unfolding placed placedCount
-  put-again sure v x h m e = (rw (listed h, e ∙ chosen sure (getD xs at 0) x m, place), rw (listed h))
+  put-again sure v x h m e = (rw (listed h, e ∙ chosen area sure (getD xs at 0) x m, place), rw (listed h))
 
   pub put-behind : (sure x : ℕ) → n ≤ at → count < 40 → x ≡ marked area sure → (set xs n x ≡ placed area sure count xs) × (count + 1 ≡ placedCount area count xs)
   unfolding placed placedCount

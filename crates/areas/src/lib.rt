@@ -17,7 +17,9 @@ pub struct Task {
 }
 
 pub const PUT: u8 = 1;
+
 pub const SWEEP: u8 = 2;
+
 pub const CLEAR: u8 = 3;
 
 // Areas in use: a count above forty counts as forty.
@@ -82,8 +84,7 @@ fn remark(sure: u8, old: u64, new: u64) -> u64
 // A lent array brings no length: a copy of it does, and the copy is gone when compiled.
 fn long(list: [u64; 40])
     ensures { λ r. ⌜ length list ≡ 40 ⌝ }
-{
-}
+{}
 
 // A full list drops its oldest.
 fn push(list: &mut [u64; 40], x: u64)

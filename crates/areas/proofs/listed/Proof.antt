@@ -4,11 +4,6 @@ use Rattle.areas.specs.Areas.{areaOf}
 use Rattle.areas.proofs.Ways.{listed-by}
 use Rattle.areas.proofs.listed.Statement.{statement}
 use Rattle.areas.proofs.listed.Tie as tie
-use Rattle.areas.proofs.listed.Reads as reads
-use Rattle.areas.proofs.listed.Lts as lts
-use Rattle.areas.proofs.area.Reads as area-reads
-use Rattle.areas.proofs.seek.Reads as seek-reads
-use Rattle.areas.proofs.size.Reads as size-reads
 
 size-requires : tie.Need-size-requires
 size-requires c κs = search needs

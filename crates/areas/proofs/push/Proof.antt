@@ -1,6 +1,6 @@
 -- So far the first i elements are those one place behind; of forty elements that leaves the last for the new one.
 use Prim.Native.Nat.{_≤_, _-_}
-use mathlib.Core.Path.{_≡_, refl}
+use mathlib.Core.Path.{_≡_}
 use lib.ListN.{drop}
 use native.Mathlib.Omega.{arith}
 use borrow.Author.Needs.{needs}
@@ -9,9 +9,6 @@ use Rattle.laws.proofs.Lists.{shift-step, shift-all}
 use Rattle.laws.proofs.Zip.{zip-none}
 use Rattle.areas.proofs.push.Statement.{statement}
 use Rattle.areas.proofs.push.Tie as tie
-use Rattle.areas.proofs.push.Reads as reads
-use Rattle.areas.proofs.push.Lts as lts
-use Rattle.areas.proofs.long.Reads as long-reads
 
 abbrev Inv-loop : tie.InvT-loop
 Inv-loop list₀ x i₀ list i = (i ≤ 39) × (list ≡ upto first i (drop 1 list₀) list₀)

@@ -4,13 +4,6 @@ use borrow.Author.Needs.{needs}
 use Rattle.areas.proofs.Ways.{size-small, put-again, put-behind, put-full}
 use Rattle.areas.proofs.put.Statement.{statement}
 use Rattle.areas.proofs.put.Tie as tie
-use Rattle.areas.proofs.put.Reads as reads
-use Rattle.areas.proofs.put.Lts as lts
-use Rattle.areas.proofs.mark.Reads as mark-reads
-use Rattle.areas.proofs.push.Reads as push-reads
-use Rattle.areas.proofs.remark.Reads as remark-reads
-use Rattle.areas.proofs.seek.Reads as seek-reads
-use Rattle.areas.proofs.size.Reads as size-reads
 
 size-requires : tie.Need-size-requires
 size-requires c κs = search needs

@@ -8,10 +8,6 @@ use Rattle.areas.specs.Areas.{isProtected, sizeOf, stayed, sweptList}
 use Rattle.areas.proofs.Keep.{Kept, kept-none, kept-all, kept-more, kept-skip}
 use Rattle.areas.proofs.sweep.Statement.{statement}
 use Rattle.areas.proofs.sweep.Tie as tie
-use Rattle.areas.proofs.sweep.Reads as reads
-use Rattle.areas.proofs.sweep.Lts as lts
-use Rattle.areas.proofs.size.Reads as size-reads
-use Rattle.areas.proofs.protected.Reads as protected-reads
 
 abbrev Inv-loop : tie.InvT-loop
 Inv-loop count list₀ n i₀ j₀ list i j = (i ≤ n) × (j ≤ i) × Kept isProtected list₀ i j list

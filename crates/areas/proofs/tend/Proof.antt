@@ -4,11 +4,6 @@ use borrow.Author.Tests.{eq-eqb, ne-eqb}
 use Rattle.areas.specs.Areas.{listAfter, countAfter}
 use Rattle.areas.proofs.tend.Statement.{statement}
 use Rattle.areas.proofs.tend.Tie as tie
-use Rattle.areas.proofs.tend.Reads as reads
-use Rattle.areas.proofs.tend.Lts as lts
-use Rattle.areas.proofs.area.Reads as area-reads
-use Rattle.areas.proofs.put.Reads as put-reads
-use Rattle.areas.proofs.sweep.Reads as sweep-reads
 
 area-requires : tie.Need-area-requires
 area-requires c κs = search needs
