@@ -299,6 +299,27 @@ impl Access {
         self.state = state;
     }
 
+    /// 11, 73 away from home; false if it has no entry and all are held.
+    fn ban_row(&mut self, a: usize, limit: u8, protected: bool) -> bool {
+        let Some(entry) = self.claim(network_of(&self.pending)) else { return false };
+        entry.forbidden = true;
+        entry.ban = counted(entry.ban, limit, protected);
+        self.barred(if a == 0 { SEARCH } else { LIMITED });
+        self.equivalents.clear();
+        self.attempts = 0;
+        true
+    }
+
+    /// 27, and 72 over access 1; false if it has no entry and all are held.
+    fn n1_row(&mut self, limit: u8, protected: bool) -> bool {
+        let Some(entry) = self.claim(network_of(&self.pending)) else { return false };
+        entry.n1_barred = true;
+        entry.n1 = counted(entry.n1, limit, protected);
+        self.barred(LIMITED);
+        self.attempts = 0;
+        true
+    }
+
     /// T3510 out, once T3510 is stopped.
     fn failed(&mut self, a: usize, reply: &mut Reply) {
         if self.attempts < MOST_ATTEMPTS {
@@ -314,17 +335,6 @@ impl Access {
             reply.start(T3502 + a, &mut self.t3502, self.t3502_length);
         }
     }
-}
-
-/// The rows of the table of rejects.
-enum Row {
-    Card,
-    Ban,
-    Home,
-    Area,
-    N1,
-    Fault,
-    Other,
 }
 
 impl Record {
@@ -447,75 +457,9 @@ impl Record {
             reply.update = Some(1 - a as u8);
             return reply;
         }
-        let this = &mut self.access[a];
-        let area = this.pending;
-        let network = network_of(&area);
-        let row = match cause {
-            3 | 6 | 7 => Row::Card,
-            11 | 73 if network != self.home => Row::Ban,
-            11 | 73 if !protected => Row::Home,
-            12 | 13 | 15 if a == 0 => Row::Area,
-            27 => Row::N1,
-            72 if a == 1 => Row::N1,
-            95 | 96 | 97 | 99 | 111 => Row::Fault,
-            _ => Row::Other,
-        };
         let mut reply = Reply::of(TAKEN);
-        match row {
-            Row::Card if !protected && this.cards < self.limits.card => {
-                this.barred(LIMITED);
-                this.cards += 1;
-                if a == 0 {
-                    this.equivalents.clear();
-                    this.attempts = 0;
-                    list(&mut self.roaming, area, false);
-                }
-            }
-            Row::Card => {
-                this.barred(NO_SUPI);
-                this.equivalents.clear();
-                if protected {
-                    self.access[0].cards = self.limits.card;
-                    self.access[1].cards = self.limits.card;
-                }
-            }
-            Row::Ban => {
-                let Some(entry) = this.claim(network) else { return Reply::of(FULL) };
-                entry.forbidden = true;
-                entry.ban = counted(entry.ban, self.limits.ban, protected);
-                this.barred(if a == 0 { SEARCH } else { LIMITED });
-                this.equivalents.clear();
-                this.attempts = 0;
-            }
-            Row::Home => {
-                this.barred(LIMITED);
-                this.equivalents.clear();
-                this.attempts = 0;
-                if a == 0 {
-                    list(&mut self.roaming, area, false);
-                }
-            }
-            Row::Area => {
-                this.barred(LIMITED);
-                this.attempts = 0;
-                if cause == 13 {
-                    this.equivalents.clear();
-                }
-                let areas = if cause == 12 { &mut self.regional } else { &mut self.roaming };
-                list(areas, area, protected);
-            }
-            Row::N1 => {
-                let Some(entry) = this.claim(network) else { return Reply::of(FULL) };
-                entry.n1_barred = true;
-                entry.n1 = counted(entry.n1, self.limits.n1, protected);
-                this.barred(LIMITED);
-                this.attempts = 0;
-            }
-            Row::Fault => {
-                this.attempts = MOST_ATTEMPTS;
-                this.failed(a, &mut reply);
-            }
-            Row::Other => this.failed(a, &mut reply),
+        if !self.row(a, cause, protected, &mut reply) {
+            return Reply::of(FULL);
         }
         reply.stop(T3510 + a, &mut self.access[a].t3510);
         let starts = matches!(cause, 3 | 6 | 7 | 11 | 12 | 13 | 15 | 27 | 72 | 73);
@@ -525,6 +469,70 @@ impl Record {
         reply
     }
 
+    /// The row of the table for a cause; false if it needs an entry and all are held.
+    fn row(&mut self, a: usize, cause: u8, protected: bool, reply: &mut Reply) -> bool {
+        let this = &mut self.access[a];
+        let home = network_of(&this.pending) == self.home;
+        match cause {
+            3 | 6 | 7 => self.card_row(a, protected),
+            11 | 73 if !home => return this.ban_row(a, self.limits.ban, protected),
+            11 | 73 if !protected => self.home_row(a),
+            12 | 13 | 15 if a == 0 => self.area_row(cause, protected),
+            27 => return this.n1_row(self.limits.n1, protected),
+            72 if a == 1 => return this.n1_row(self.limits.n1, protected),
+            95 | 96 | 97 | 99 | 111 => {
+                this.attempts = MOST_ATTEMPTS;
+                this.failed(a, reply);
+            }
+            _ => this.failed(a, reply),
+        }
+        true
+    }
+
+    /// 3, 6, 7: the first three rows.
+    fn card_row(&mut self, a: usize, protected: bool) {
+        let this = &mut self.access[a];
+        if protected || this.cards == self.limits.card {
+            this.barred(NO_SUPI);
+            this.equivalents.clear();
+            if protected {
+                self.access[0].cards = self.limits.card;
+                self.access[1].cards = self.limits.card;
+            }
+            return;
+        }
+        this.barred(LIMITED);
+        this.cards += 1;
+        if a == 0 {
+            this.equivalents.clear();
+            this.attempts = 0;
+            list(&mut self.roaming, this.pending, false);
+        }
+    }
+
+    /// 11, 73 unprotected at home.
+    fn home_row(&mut self, a: usize) {
+        let this = &mut self.access[a];
+        this.barred(LIMITED);
+        this.equivalents.clear();
+        this.attempts = 0;
+        if a == 0 {
+            list(&mut self.roaming, this.pending, false);
+        }
+    }
+
+    /// 12, 13, 15 over access 0.
+    fn area_row(&mut self, cause: u8, protected: bool) {
+        let this = &mut self.access[0];
+        this.barred(LIMITED);
+        this.attempts = 0;
+        if cause == 13 {
+            this.equivalents.clear();
+        }
+        let areas = if cause == 12 { &mut self.regional } else { &mut self.roaming };
+        list(areas, this.pending, protected);
+    }
+
     /// Timer numbers as in the log: 1 T3510, 2 T3511, 3 T3502, 4 T3247 (access 0).
     pub fn timer(&mut self, number: u8, access: u8) -> Reply {
         if !(1..=4).contains(&number) || access > 1 || number == 4 && access != 0 {
@@ -532,34 +540,25 @@ impl Record {
         }
         let a = access as usize;
         let this = &mut self.access[a];
-        let running = match number {
-            1 => this.t3510,
-            2 => this.t3511,
-            3 => this.t3502,
-            _ => self.t3247,
+        let (timer, running) = match number {
+            1 => (T3510 + a, &mut this.t3510),
+            2 => (T3511 + a, &mut this.t3511),
+            3 => (T3502 + a, &mut this.t3502),
+            _ => (T3247, &mut self.t3247),
         };
-        if !running {
+        if !*running {
             return Reply::of(NOT_RUNNING);
         }
         let mut reply = Reply::of(TAKEN);
+        reply.stop(timer, running);
         match number {
-            1 => {
-                reply.stop(T3510 + a, &mut this.t3510);
-                this.failed(a, &mut reply);
-            }
-            2 => {
-                reply.stop(T3511 + a, &mut this.t3511);
-                reply.restart = Some(access);
-            }
+            1 => this.failed(a, &mut reply),
+            2 => reply.restart = Some(access),
             3 => {
-                reply.stop(T3502 + a, &mut this.t3502);
                 reply.restart = Some(access);
                 this.attempts = 0;
             }
-            _ => {
-                reply.stop(T3247, &mut self.t3247);
-                self.lift();
-            }
+            _ => self.lift(),
         }
         reply
     }

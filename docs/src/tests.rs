@@ -131,10 +131,42 @@ const ROWS: &[Case] = &[
     (&[3, 6, 7], 1, 0, AWAY, "2 5U3 a2 cleared eq1 c12 e[] r[] g[]", true, None),
     (&[3, 6, 7], 0, 1, AWAY, "0 5U3 a2 cleared eq0 c33 e[] r[] g[]", false, None),
     (&[3, 6, 7], 1, 1, HOME, "0 5U3 a2 cleared eq0 c33 e[] r[] g[]", false, None),
-    (&[11, 73], 0, 0, AWAY, "6 5U3 a0 cleared eq0 c11 e[\"1 0 (true, false)\"] r[] g[]", true, None),
-    (&[11, 73], 1, 0, AWAY, "2 5U3 a0 cleared eq0 c11 e[\"1 0 (true, false)\"] r[] g[]", true, None),
-    (&[11, 73], 0, 1, AWAY, "6 5U3 a0 cleared eq0 c11 e[\"3 0 (true, false)\"] r[] g[]", false, None),
-    (&[11, 73], 1, 1, AWAY, "2 5U3 a0 cleared eq0 c11 e[\"3 0 (true, false)\"] r[] g[]", false, None),
+    (
+        &[11, 73],
+        0,
+        0,
+        AWAY,
+        "6 5U3 a0 cleared eq0 c11 e[\"1 0 (true, false)\"] r[] g[]",
+        true,
+        None,
+    ),
+    (
+        &[11, 73],
+        1,
+        0,
+        AWAY,
+        "2 5U3 a0 cleared eq0 c11 e[\"1 0 (true, false)\"] r[] g[]",
+        true,
+        None,
+    ),
+    (
+        &[11, 73],
+        0,
+        1,
+        AWAY,
+        "6 5U3 a0 cleared eq0 c11 e[\"3 0 (true, false)\"] r[] g[]",
+        false,
+        None,
+    ),
+    (
+        &[11, 73],
+        1,
+        1,
+        AWAY,
+        "2 5U3 a0 cleared eq0 c11 e[\"3 0 (true, false)\"] r[] g[]",
+        false,
+        None,
+    ),
     (&[11, 73], 0, 0, HOME, "2 5U3 a0 cleared eq0 c11 e[] r[u] g[]", true, None),
     (&[11, 73], 1, 0, HOME, "2 5U3 a0 cleared eq0 c11 e[] r[] g[]", true, None),
     (&[11, 73], 0, 1, HOME, FAILED, false, RETRY),
@@ -149,12 +181,44 @@ const ROWS: &[Case] = &[
     (&[12, 13, 15], 1, 1, HOME, FAILED, false, RETRY),
     (&[27], 0, 0, AWAY, "2 5U3 a0 cleared eq1 c11 e[\"0 1 (false, true)\"] r[] g[]", true, None),
     (&[27], 0, 1, HOME, "2 5U3 a0 cleared eq1 c11 e[\"0 3 (false, true)\"] r[] g[]", false, None),
-    (&[27, 72], 1, 0, HOME, "2 5U3 a0 cleared eq1 c11 e[\"0 1 (false, true)\"] r[] g[]", true, None),
-    (&[27, 72], 1, 1, AWAY, "2 5U3 a0 cleared eq1 c11 e[\"0 3 (false, true)\"] r[] g[]", false, None),
+    (
+        &[27, 72],
+        1,
+        0,
+        HOME,
+        "2 5U3 a0 cleared eq1 c11 e[\"0 1 (false, true)\"] r[] g[]",
+        true,
+        None,
+    ),
+    (
+        &[27, 72],
+        1,
+        1,
+        AWAY,
+        "2 5U3 a0 cleared eq1 c11 e[\"0 3 (false, true)\"] r[] g[]",
+        false,
+        None,
+    ),
     (&[72], 0, 0, AWAY, FAILED, true, RETRY),
     (&[72], 0, 1, HOME, FAILED, false, RETRY),
-    (&[95, 96, 97, 99, 111], 0, 0, AWAY, "3 5U2 a5 cleared eq0 c11 e[] r[] g[]", false, Some((T3502, 60))),
-    (&[95, 96, 97, 99, 111], 1, 1, HOME, "3 5U2 a5 cleared eq0 c11 e[] r[] g[]", false, Some((T3502, 60))),
+    (
+        &[95, 96, 97, 99, 111],
+        0,
+        0,
+        AWAY,
+        "3 5U2 a5 cleared eq0 c11 e[] r[] g[]",
+        false,
+        Some((T3502, 60)),
+    ),
+    (
+        &[95, 96, 97, 99, 111],
+        1,
+        1,
+        HOME,
+        "3 5U2 a5 cleared eq0 c11 e[] r[] g[]",
+        false,
+        Some((T3502, 60)),
+    ),
     (&[0, 5, 9, 10, 22, 62, 98, 110, 255], 0, 0, AWAY, FAILED, false, RETRY),
     (&[0, 5, 9, 10, 22, 62, 98, 110, 255], 1, 1, HOME, FAILED, false, RETRY),
 ];
@@ -263,7 +327,9 @@ fn ban(record: &Record) -> (u8, bool) {
 /// Facts 2 to 6: what T3247 lifts.
 #[test]
 fn bans() {
-    for (limit, count, counter, stays) in [(3, 3, 3, true), (3, 2, 2, false), (1, 1, 1, true), (3, 4, 3, true)] {
+    for (limit, count, counter, stays) in
+        [(3, 3, 3, true), (3, 2, 2, false), (1, 1, 1, true), (3, 4, 3, true)]
+    {
         let mut record = banned(limit, count, 0);
         assert_eq!(ban(&record), (counter, true));
         assert_eq!(out(&mut record, 4, 0).answer, 0);
@@ -394,7 +460,9 @@ type Said = (Option<Guti>, Vec<u8>, Option<u16>);
 
 fn said(octets: &[u8]) -> Option<Said> {
     match message::read(octets) {
-        Some(Message::Accept(accept)) => Some((accept.guti, accept.equivalents.to_vec(), accept.t3502)),
+        Some(Message::Accept(accept)) => {
+            Some((accept.guti, accept.equivalents.to_vec(), accept.t3502))
+        }
         _ => None,
     }
 }
@@ -413,8 +481,9 @@ fn guti_element(lead: u8, extra: usize) -> Vec<u8> {
 #[test]
 fn accepts() {
     let whole = [
-        0x77, 0x00, 0x0B, 0xF2, 0x00, 0xF1, 0x10, 0x80, 0x01, 0xC5, 0xD1, 0xC2, 0xB3, 0xA4, 0x4A, 0x06,
-        0x00, 0xF2, 0x20, 0x00, 0xF3, 0x30, 0x5E, 0x01, 0x2A, 0x16, 0x01, 0x3F, 0x75, 0x00, 0x00,
+        0x77, 0x00, 0x0B, 0xF2, 0x00, 0xF1, 0x10, 0x80, 0x01, 0xC5, 0xD1, 0xC2, 0xB3, 0xA4, 0x4A,
+        0x06, 0x00, 0xF2, 0x20, 0x00, 0xF3, 0x30, 0x5E, 0x01, 0x2A, 0x16, 0x01, 0x3F, 0x75, 0x00,
+        0x00,
     ];
     let pair = vec![0x00, 0xF2, 0x20, 0x00, 0xF3, 0x30];
     assert_eq!(accepted(&whole), Some((Some(GUTI), pair, Some(1860))));
@@ -442,8 +511,20 @@ fn accepts() {
 #[test]
 fn accept_event() {
     let mut record = pending(0, AWAY);
-    record.access[0].entries.push(Entry { network: AWAY, ban: 2, n1: 1, forbidden: true, n1_barred: true });
-    record.access[1].entries.push(Entry { network: AWAY, ban: 2, n1: 1, forbidden: true, n1_barred: true });
+    record.access[0].entries.push(Entry {
+        network: AWAY,
+        ban: 2,
+        n1: 1,
+        forbidden: true,
+        n1_barred: true,
+    });
+    record.access[1].entries.push(Entry {
+        network: AWAY,
+        ban: 2,
+        n1: 1,
+        forbidden: true,
+        n1_barred: true,
+    });
     let new = [0x00, 0xF2, 0x20, 1, 2, 3, 4, 5, 6, 7];
     let mut octets = vec![0x7E, 0x00, 0x42, 0x01, 0x01, 0x77, 0x00, 0x0B, 0xF2];
     octets.extend(new);
@@ -502,7 +583,14 @@ fn starts() {
     assert_eq!(start(&mut record, 0, AWAY), 5);
     assert_eq!(start(&mut record, 2, AWAY), 1);
     assert_eq!(record.start(0, 2, area(AWAY)).answer, 1);
-    for bad in [[0x0A, 0xF2, 0x20], [0xA0, 0xF2, 0x20], [0, 0xE2, 0x20], [0, 0xFB, 0x20], [0, 0xF2, 0xF0], [0, 0xF2, 0x0A]] {
+    for bad in [
+        [0x0A, 0xF2, 0x20],
+        [0xA0, 0xF2, 0x20],
+        [0, 0xE2, 0x20],
+        [0, 0xFB, 0x20],
+        [0, 0xF2, 0xF0],
+        [0, 0xF2, 0x0A],
+    ] {
         assert_eq!(start(&mut record, 0, bad), 1);
     }
     record.card(HOME, &SUCI);
@@ -584,7 +672,9 @@ fn t3511_out() {
 #[test]
 fn timer_checks() {
     let mut record = limited(3);
-    for (number, access, answer) in [(0, 0, 1), (5, 0, 1), (1, 2, 1), (4, 1, 1), (4, 2, 1), (4, 0, 11)] {
+    for (number, access, answer) in
+        [(0, 0, 1), (5, 0, 1), (1, 2, 1), (4, 1, 1), (4, 2, 1), (4, 0, 11)]
+    {
         assert_eq!(out(&mut record, number, access), Reply::of(answer));
     }
     for number in 1..=3 {
@@ -602,7 +692,13 @@ fn marked() -> Record {
         for counter in 0..4 {
             let network = [counter, 0, 0];
             let n1 = 3 - counter;
-            access.entries.push(Entry { network, ban: counter, n1, forbidden: true, n1_barred: true });
+            access.entries.push(Entry {
+                network,
+                ban: counter,
+                n1,
+                forbidden: true,
+                n1_barred: true,
+            });
         }
         access.attempts = 4;
         access.guti = Some(GUTI);
@@ -628,7 +724,8 @@ fn t3247_out() {
     let mut expected = Reply::of(0);
     expected.timers[T3247] = Change::Stopped;
     assert_eq!(out(&mut record, 4, 0), expected);
-    let after = [(0, 3, true, true), (1, 2, false, false), (2, 1, false, false), (3, 0, true, true)];
+    let after =
+        [(0, 3, true, true), (1, 2, false, false), (2, 1, false, false), (3, 0, true, true)];
     for a in 0..2 {
         assert_eq!(marks_of(&record, a), after);
         assert_eq!(record.access[a].attempts, 4);
@@ -651,11 +748,15 @@ fn power() {
         expected.timers[timer] = Change::Stopped;
     }
     assert_eq!(record.power(), expected);
-    let after = [(0, 3, true, false), (1, 2, false, false), (2, 1, false, false), (3, 0, true, false)];
+    let after =
+        [(0, 3, true, false), (1, 2, false, false), (2, 1, false, false), (3, 0, true, false)];
     for a in 0..2 {
         assert_eq!(marks_of(&record, a), after);
         let this = &record.access[a];
-        assert_eq!((this.state, this.attempts, this.guti, this.last, this.ksi), (1, 0, Some(GUTI), Some(OLD), 2));
+        assert_eq!(
+            (this.state, this.attempts, this.guti, this.last, this.ksi),
+            (1, 0, Some(GUTI), Some(OLD), 2)
+        );
     }
     assert_eq!(record.roaming.len() + record.regional.len(), 0);
     let mut bare = Record::new(record.limits, &[0], &[0, 0]);
@@ -669,7 +770,9 @@ fn cards() {
     record.access[1].state = 5;
     let mut suci = [7; 64];
     suci[0] = 1;
-    for (home, suci) in [(AWAY, &suci[..8]), (AWAY, &[1; 65]), (AWAY, &suci[1..]), ([0xA0, 0, 0], &suci[..])] {
+    for (home, suci) in
+        [(AWAY, &suci[..8]), (AWAY, &[1; 65]), (AWAY, &suci[1..]), ([0xA0, 0, 0], &suci[..])]
+    {
         let before = text(&record);
         assert_eq!(record.card(home, suci), Reply::of(1));
         assert_eq!(text(&record), before);
@@ -691,7 +794,8 @@ fn cards() {
 #[test]
 fn keys() {
     let mut record = pending(0, AWAY);
-    for (access, set, answer) in [(2, 0, 1), (0, 7, 1), (1, 7, 1), (1, 0, 6), (0, 6, 0), (0, 0, 0)] {
+    for (access, set, answer) in [(2, 0, 1), (0, 7, 1), (1, 7, 1), (1, 0, 6), (0, 6, 0), (0, 0, 0)]
+    {
         assert_eq!(record.key(access, set), Reply::of(answer));
     }
     assert_eq!((record.access[0].ksi, record.access[1].ksi), (0, 3));
@@ -870,7 +974,10 @@ fn requests_read_back() {
     let turned = with("31", suci, "52 0 1 2 3 4 5 2E 02 F0 F0 10 00 10 01 00").unwrap();
     assert_eq!((turned.area, turned.security, turned.capability), (Some(16..22), 24..26, None));
     assert_eq!(request::read(&[]), Err(3));
-    assert_eq!(request::read(&octets("7E 00 42 71 00 09 01 00 F1 10 F0 FF 00 00 07 2E 02 F0 F0")), Err(3));
+    assert_eq!(
+        request::read(&octets("7E 00 42 71 00 09 01 00 F1 10 F0 FF 00 00 07 2E 02 F0 F0")),
+        Err(3)
+    );
 }
 
 /// Gives its octets in pieces of a fixed size.
@@ -993,7 +1100,11 @@ fn events_at_random() {
         let before = record;
         let a = below(2);
         let reply = match below(12) {
-            0..=4 => record.start(a, below(4) / 3, [below(30) / 10 * 16, 0xF1, 0x10, 0, below(4), below(20)]),
+            0..=4 => record.start(
+                a,
+                below(4) / 3,
+                [below(30) / 10 * 16, 0xF1, 0x10, 0, below(4), below(20)],
+            ),
             5..=7 => {
                 let cause = causes[below(12) as usize];
                 record.message(a, below(2), 2000, &[0x7E, 0, 0x44, cause])

@@ -76,9 +76,8 @@ const PHASES: [Phase; 8] = [
     Phase::Register,
 ];
 
-const CAUSES: [u8; 24] = [
-    3, 6, 7, 11, 73, 12, 13, 15, 27, 72, 95, 96, 97, 99, 111, 22, 5, 9, 10, 11, 27, 13, 62, 0,
-];
+const CAUSES: [u8; 24] =
+    [3, 6, 7, 11, 73, 12, 13, 15, 27, 72, 95, 96, 97, 99, 111, 22, 5, 9, 10, 11, 27, 13, 62, 0];
 const ONE: [u8; 6] = [0x80, 0x9F, 0xA1, 0xB0, 0xFF, 0xD2];
 const SHORT: [u8; 12] = [0x10, 0x2E, 0x52, 0x5E, 0x5F, 0x15, 0x27, 0x31, 0x6F, 0x34, 0x4A, 0x16];
 const LONG: [u8; 7] = [0x70, 0x71, 0x72, 0x75, 0x79, 0x7F, 0x77];
@@ -97,6 +96,7 @@ struct Generator {
     phase: Phase,
     left: usize,
     fresh: usize,
+    past: Vec<record::Area>,
 }
 
 impl Generator {
@@ -108,6 +108,7 @@ impl Generator {
             phase: Phase::Mixed,
             left: 40,
             fresh: 0,
+            past: Vec::new(),
         }
     }
 
@@ -117,7 +118,11 @@ impl Generator {
     }
 
     fn access(&mut self, a: usize) -> u8 {
-        if self.spoil(2) { self.random.pick(&[2, 3, 128, 255]) } else { a as u8 }
+        if self.spoil(2) {
+            self.random.pick(&[2, 3, 128, 255])
+        } else {
+            a as u8
+        }
     }
 
     fn flag(&mut self, percent: usize) -> u8 {
@@ -180,14 +185,18 @@ impl Generator {
         [0, self.random.below(3) as u8, self.random.below(24) as u8]
     }
 
-    /// Sometimes an area that stands on a list.
-    fn listed(&mut self) -> Option<record::Area> {
-        let lists = [&self.record.roaming, &self.record.regional];
-        let areas = lists[self.random.below(2)];
-        if areas.is_empty() || !self.random.odds(6) {
+    /// Sometimes an area that stands on a list, or one started before that may have left it.
+    fn again(&mut self) -> Option<record::Area> {
+        if !self.random.odds(8) {
             return None;
         }
-        Some(areas[self.random.below(areas.len())].area)
+        let record = &self.record;
+        let listed = if self.random.odds(50) { &record.roaming } else { &record.regional };
+        if !listed.is_empty() && self.random.odds(50) {
+            return Some(listed[self.random.below(listed.len())].area);
+        }
+        let past = self.past.len().min(64);
+        (past > 0).then(|| self.past[self.past.len() - 1 - self.random.below(past)])
     }
 
     fn start(&mut self, a: usize) -> Vec<u8> {
@@ -195,11 +204,15 @@ impl Generator {
         let access = self.access(a);
         let manual = self.flag(15);
         let mut body = vec![2, 0, access, manual];
-        if let Some(listed) = self.listed() {
-            body.extend(listed);
+        if let Some(area) = self.again() {
+            body.extend(area);
         } else {
             body.extend(self.code(chosen));
             body.extend(self.area());
+        }
+        self.past.extend(<[u8; 6]>::try_from(&body[4..]));
+        if self.past.len() > 200 {
+            self.past.drain(..100);
         }
         body
     }
@@ -297,7 +310,8 @@ impl Generator {
     fn elements(&mut self, accept: bool, octets: &mut Vec<u8>) {
         let count = self.random.below(if self.wild { 6 } else { 4 });
         for _ in 0..count {
-            let element = if accept && self.random.odds(70) { self.known() } else { self.unknown() };
+            let element =
+                if accept && self.random.odds(70) { self.known() } else { self.unknown() };
             octets.extend(element);
         }
     }
@@ -369,7 +383,13 @@ impl Generator {
         if self.spoil(12) {
             self.damage(&mut octets);
         }
-        let percent = if accept { 95 } else if self.phase == Phase::Areas { 60 } else { 20 };
+        let percent = if accept {
+            95
+        } else if self.phase == Phase::Areas {
+            60
+        } else {
+            20
+        };
         let mut body = vec![3, 0, self.access(a), self.flag(percent)];
         body.extend(self.draw());
         body.extend(octets);
@@ -383,7 +403,11 @@ impl Generator {
     }
 
     fn key(&mut self, a: usize) -> Vec<u8> {
-        let set = if self.spoil(10) { self.random.pick(&[7, 8, 255]) } else { self.random.below(7) as u8 };
+        let set = if self.spoil(10) {
+            self.random.pick(&[7, 8, 255])
+        } else {
+            self.random.below(7) as u8
+        };
         vec![6, 0, self.access(a), set]
     }
 
@@ -470,7 +494,11 @@ impl Generator {
             }
             a = 1 - a;
         }
-        if states[a] == 4 { self.initiated(a) } else { self.idle(a) }
+        if states[a] == 4 {
+            self.initiated(a)
+        } else {
+            self.idle(a)
+        }
     }
 
     /// Wrong kinds and body lengths, and records of random octets.
@@ -576,7 +604,9 @@ fn main() {
     let number = |word: &str| word.parse::<u64>().expect("a number");
     let result = match words[..] {
         ["pieces", seed] => pieces(number(seed)),
-        [seed, events] | [seed, events, "realistic"] => generate(number(seed), number(events), false),
+        [seed, events] | [seed, events, "realistic"] => {
+            generate(number(seed), number(events), false)
+        }
         [seed, events, "wild"] => generate(number(seed), number(events), true),
         _ => Err(io::Error::other("generate SEED EVENTS [realistic|wild] | generate pieces SEED")),
     };
