@@ -63,9 +63,10 @@ enum Phase {
     Cards,
     Attempts,
     Register,
+    Manual,
 }
 
-const PHASES: [Phase; 8] = [
+const PHASES: [Phase; 9] = [
     Phase::Mixed,
     Phase::Mixed,
     Phase::Mixed,
@@ -74,6 +75,7 @@ const PHASES: [Phase; 8] = [
     Phase::Cards,
     Phase::Attempts,
     Phase::Register,
+    Phase::Manual,
 ];
 
 const CAUSES: [u8; 24] =
@@ -89,6 +91,11 @@ fn network(index: usize) -> [u8; 3] {
     [digit(index / 10) << 4, third << 4 | digit(index + 1), digit(index) << 4 | digit(index / 7)]
 }
 
+/// The oldest area of a full list.
+fn first(areas: &record::Areas) -> Option<record::Area> {
+    areas.full().then(|| areas[0].area)
+}
+
 struct Generator {
     random: Random,
     record: Record,
@@ -97,6 +104,7 @@ struct Generator {
     left: usize,
     fresh: usize,
     past: Vec<record::Area>,
+    dropped: Option<record::Area>,
 }
 
 impl Generator {
@@ -109,6 +117,7 @@ impl Generator {
             left: 40,
             fresh: 0,
             past: Vec::new(),
+            dropped: None,
         }
     }
 
@@ -163,6 +172,10 @@ impl Generator {
     /// A network that may be started, in most cases.
     fn choose(&mut self, a: usize) -> [u8; 3] {
         let mut chosen = self.record.home;
+        let entries = &self.record.access[a].entries;
+        if self.phase == Phase::Manual && entries.len() > 2 && self.random.odds(70) {
+            return entries[self.random.below(3)].network;
+        }
         if self.random.odds(20) {
             return chosen;
         }
@@ -190,10 +203,15 @@ impl Generator {
         if !self.random.odds(8) {
             return None;
         }
+        if self.dropped.is_some() && self.random.odds(20) {
+            return self.dropped.take();
+        }
         let record = &self.record;
         let listed = if self.random.odds(50) { &record.roaming } else { &record.regional };
         if !listed.is_empty() && self.random.odds(50) {
-            return Some(listed[self.random.below(listed.len())].area);
+            let oldest = listed.full() && self.random.odds(50);
+            let place = if oldest { 0 } else { self.random.below(listed.len()) };
+            return Some(listed[place].area);
         }
         let past = self.past.len().min(64);
         (past > 0).then(|| self.past[self.past.len() - 1 - self.random.below(past)])
@@ -202,7 +220,7 @@ impl Generator {
     fn start(&mut self, a: usize) -> Vec<u8> {
         let chosen = self.choose(a);
         let access = self.access(a);
-        let manual = self.flag(15);
+        let manual = self.flag(if self.phase == Phase::Manual { 50 } else { 15 });
         let mut body = vec![2, 0, access, manual];
         if let Some(area) = self.again() {
             body.extend(area);
@@ -233,6 +251,7 @@ impl Generator {
             Phase::Areas => self.random.pick(&[12, 12, 12, 13, 15]),
             Phase::Networks => self.random.pick(&[11, 73, 27, 72, 11, 27]),
             Phase::Cards => self.random.pick(&[3, 6, 7]),
+            Phase::Manual => self.random.pick(&[11, 73, 11, 27, 22]),
             Phase::Attempts => self.random.pick(&[22, 5, 9, 95, 111, 72, 12]),
             _ if self.wild && self.random.odds(10) => self.random.octet(),
             _ => self.random.pick(&CAUSES),
@@ -264,11 +283,15 @@ impl Generator {
                 let length = self.random.below(20);
                 self.element(identifier, length)
             }
-            6 if self.random.odds(20) => vec![self.random.octet() & 15, 0, 0],
+            6 if self.random.odds(40) => {
+                let octet = self.random.octet() & 15;
+                vec![self.random.pick(&[0x00, 0x0F, octet]), 0]
+            }
             7 if self.random.odds(10) => vec![0x7A],
             8 if self.random.odds(10) => vec![0x7A, 0xFF, 0xFE, 1],
             _ => {
-                let identifier = self.random.octet() | 16;
+                let octet = self.random.octet() | 16;
+                let identifier = self.random.pick(&[octet, 0x10, 0x6F, 0x70, 0x7F, 0x80]);
                 let length = self.random.pick(&[0, 1, 255]);
                 self.element(identifier, length)
             }
@@ -369,6 +392,7 @@ impl Generator {
         let accepts = match self.phase {
             Phase::Register => 80,
             Phase::Mixed => 25,
+            Phase::Manual => 40,
             Phase::Areas => 1,
             _ => 4,
         };
@@ -536,7 +560,14 @@ impl Generator {
             body = self.spoiled(body);
         }
         body.truncate(65535);
+        let oldest = [&self.record.roaming, &self.record.regional].map(first);
         log::apply(&mut self.record, &body);
+        let now = [&self.record.roaming, &self.record.regional].map(first);
+        for list in 0..2 {
+            if oldest[list] != now[list] && now[list].is_some() {
+                self.dropped = oldest[list];
+            }
+        }
         body
     }
 
