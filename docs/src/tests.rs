@@ -78,21 +78,22 @@ fn marks(areas: &Areas) -> String {
 fn shown(record: &Record, a: usize) -> String {
     let this = &record.access[a];
     let identity = match (this.guti, this.last, this.ksi) {
-        (None, None, 7) => "cleared",
-        (Some(GUTI), Some(OLD), 3) => "kept",
-        _ => "mixed",
+        (None, None, 7) => "-",
+        (Some(GUTI), Some(OLD), 3) => "+",
+        _ => "?",
     };
-    let entries: Vec<String> = this
+    let entries: String = this
         .entries
         .iter()
         .map(|entry| {
             assert_eq!(entry.network, network_of(&this.pending));
-            let marks = (entry.forbidden, entry.n1_barred);
-            format!("{} {} {:?}", entry.ban, entry.n1, marks)
+            let forbidden = if entry.forbidden { "F" } else { "-" };
+            let barred = if entry.n1_barred { "N" } else { "-" };
+            format!("{}{}{forbidden}{barred}", entry.ban, entry.n1)
         })
         .collect();
     format!(
-        "{} 5U{} a{} {} eq{} c{}{} e{:?} r[{}] g[{}]",
+        "{} 5U{} a{} {} eq{} c{}{} e[{}] r[{}] g[{}]",
         this.state,
         this.status,
         this.attempts,
@@ -107,7 +108,7 @@ fn shown(record: &Record, a: usize) -> String {
 }
 
 /// A taken reject's reply: T3510 stopped, T3247 and one timer of the access started.
-fn reply(a: usize, t3247: bool, started: Option<(usize, u16)>) -> Reply {
+fn reply(a: usize, t3247: bool, started: Started) -> Reply {
     let mut reply = Reply::of(0);
     reply.timers[T3510 + a] = Change::Stopped;
     if t3247 {
@@ -119,108 +120,49 @@ fn reply(a: usize, t3247: bool, started: Option<(usize, u16)>) -> Reply {
     reply
 }
 
-type Case = (&'static [u8], usize, u8, Network, &'static str, bool, Option<(usize, u16)>);
+type Started = Option<(usize, u16)>;
+type Case = (&'static [u8], usize, u8, Network, &'static str, bool, Started);
 
-const FAILED: &str = "3 5U1 a3 kept eq1 c11 e[] r[] g[]";
-const RETRY: Option<(usize, u16)> = Some((T3511, 10));
+const FAILED: &str = "3 5U1 a3 + eq1 c11 e[] r[] g[]";
+const FIVE: &[u8] = &[95, 96, 97, 99, 111];
+const OTHERS: &[u8] = &[0, 5, 9, 10, 22, 62, 98, 110, 255];
+const LATER: Started = Some((T3502, 60));
+const RETRY: Started = Some((T3511, 10));
 
-/// Each row of the table, over each access, protected or not, at home and away.
+/// Each row of the table: causes, access, protected, network, what `shown` tells after it,
+/// whether T3247 starts and which other timer does.
 const ROWS: &[Case] = &[
-    (&[3, 6, 7], 0, 0, AWAY, "2 5U3 a0 cleared eq0 c21 e[] r[u] g[]", true, None),
-    (&[3, 6, 7], 0, 0, HOME, "2 5U3 a0 cleared eq0 c21 e[] r[u] g[]", true, None),
-    (&[3, 6, 7], 1, 0, AWAY, "2 5U3 a2 cleared eq1 c12 e[] r[] g[]", true, None),
-    (&[3, 6, 7], 0, 1, AWAY, "0 5U3 a2 cleared eq0 c33 e[] r[] g[]", false, None),
-    (&[3, 6, 7], 1, 1, HOME, "0 5U3 a2 cleared eq0 c33 e[] r[] g[]", false, None),
-    (
-        &[11, 73],
-        0,
-        0,
-        AWAY,
-        "6 5U3 a0 cleared eq0 c11 e[\"1 0 (true, false)\"] r[] g[]",
-        true,
-        None,
-    ),
-    (
-        &[11, 73],
-        1,
-        0,
-        AWAY,
-        "2 5U3 a0 cleared eq0 c11 e[\"1 0 (true, false)\"] r[] g[]",
-        true,
-        None,
-    ),
-    (
-        &[11, 73],
-        0,
-        1,
-        AWAY,
-        "6 5U3 a0 cleared eq0 c11 e[\"3 0 (true, false)\"] r[] g[]",
-        false,
-        None,
-    ),
-    (
-        &[11, 73],
-        1,
-        1,
-        AWAY,
-        "2 5U3 a0 cleared eq0 c11 e[\"3 0 (true, false)\"] r[] g[]",
-        false,
-        None,
-    ),
-    (&[11, 73], 0, 0, HOME, "2 5U3 a0 cleared eq0 c11 e[] r[u] g[]", true, None),
-    (&[11, 73], 1, 0, HOME, "2 5U3 a0 cleared eq0 c11 e[] r[] g[]", true, None),
+    (&[3, 6, 7], 0, 0, AWAY, "2 5U3 a0 - eq0 c21 e[] r[u] g[]", true, None),
+    (&[3, 6, 7], 0, 0, HOME, "2 5U3 a0 - eq0 c21 e[] r[u] g[]", true, None),
+    (&[3, 6, 7], 1, 0, AWAY, "2 5U3 a2 - eq1 c12 e[] r[] g[]", true, None),
+    (&[3, 6, 7], 0, 1, AWAY, "0 5U3 a2 - eq0 c33 e[] r[] g[]", false, None),
+    (&[3, 6, 7], 1, 1, HOME, "0 5U3 a2 - eq0 c33 e[] r[] g[]", false, None),
+    (&[11, 73], 0, 0, AWAY, "6 5U3 a0 - eq0 c11 e[10F-] r[] g[]", true, None),
+    (&[11, 73], 1, 0, AWAY, "2 5U3 a0 - eq0 c11 e[10F-] r[] g[]", true, None),
+    (&[11, 73], 0, 1, AWAY, "6 5U3 a0 - eq0 c11 e[30F-] r[] g[]", false, None),
+    (&[11, 73], 1, 1, AWAY, "2 5U3 a0 - eq0 c11 e[30F-] r[] g[]", false, None),
+    (&[11, 73], 0, 0, HOME, "2 5U3 a0 - eq0 c11 e[] r[u] g[]", true, None),
+    (&[11, 73], 1, 0, HOME, "2 5U3 a0 - eq0 c11 e[] r[] g[]", true, None),
     (&[11, 73], 0, 1, HOME, FAILED, false, RETRY),
     (&[11, 73], 1, 1, HOME, FAILED, false, RETRY),
-    (&[12], 0, 0, AWAY, "2 5U3 a0 cleared eq1 c11 e[] r[] g[u]", true, None),
-    (&[12], 0, 1, HOME, "2 5U3 a0 cleared eq1 c11 e[] r[] g[p]", false, None),
-    (&[13], 0, 0, AWAY, "2 5U3 a0 cleared eq0 c11 e[] r[u] g[]", true, None),
-    (&[13], 0, 1, HOME, "2 5U3 a0 cleared eq0 c11 e[] r[p] g[]", false, None),
-    (&[15], 0, 0, HOME, "2 5U3 a0 cleared eq1 c11 e[] r[u] g[]", true, None),
-    (&[15], 0, 1, AWAY, "2 5U3 a0 cleared eq1 c11 e[] r[p] g[]", false, None),
+    (&[12], 0, 0, AWAY, "2 5U3 a0 - eq1 c11 e[] r[] g[u]", true, None),
+    (&[12], 0, 1, HOME, "2 5U3 a0 - eq1 c11 e[] r[] g[p]", false, None),
+    (&[13], 0, 0, AWAY, "2 5U3 a0 - eq0 c11 e[] r[u] g[]", true, None),
+    (&[13], 0, 1, HOME, "2 5U3 a0 - eq0 c11 e[] r[p] g[]", false, None),
+    (&[15], 0, 0, HOME, "2 5U3 a0 - eq1 c11 e[] r[u] g[]", true, None),
+    (&[15], 0, 1, AWAY, "2 5U3 a0 - eq1 c11 e[] r[p] g[]", false, None),
     (&[12, 13, 15], 1, 0, AWAY, FAILED, true, RETRY),
     (&[12, 13, 15], 1, 1, HOME, FAILED, false, RETRY),
-    (&[27], 0, 0, AWAY, "2 5U3 a0 cleared eq1 c11 e[\"0 1 (false, true)\"] r[] g[]", true, None),
-    (&[27], 0, 1, HOME, "2 5U3 a0 cleared eq1 c11 e[\"0 3 (false, true)\"] r[] g[]", false, None),
-    (
-        &[27, 72],
-        1,
-        0,
-        HOME,
-        "2 5U3 a0 cleared eq1 c11 e[\"0 1 (false, true)\"] r[] g[]",
-        true,
-        None,
-    ),
-    (
-        &[27, 72],
-        1,
-        1,
-        AWAY,
-        "2 5U3 a0 cleared eq1 c11 e[\"0 3 (false, true)\"] r[] g[]",
-        false,
-        None,
-    ),
+    (&[27], 0, 0, AWAY, "2 5U3 a0 - eq1 c11 e[01-N] r[] g[]", true, None),
+    (&[27], 0, 1, HOME, "2 5U3 a0 - eq1 c11 e[03-N] r[] g[]", false, None),
+    (&[27, 72], 1, 0, HOME, "2 5U3 a0 - eq1 c11 e[01-N] r[] g[]", true, None),
+    (&[27, 72], 1, 1, AWAY, "2 5U3 a0 - eq1 c11 e[03-N] r[] g[]", false, None),
     (&[72], 0, 0, AWAY, FAILED, true, RETRY),
     (&[72], 0, 1, HOME, FAILED, false, RETRY),
-    (
-        &[95, 96, 97, 99, 111],
-        0,
-        0,
-        AWAY,
-        "3 5U2 a5 cleared eq0 c11 e[] r[] g[]",
-        false,
-        Some((T3502, 60)),
-    ),
-    (
-        &[95, 96, 97, 99, 111],
-        1,
-        1,
-        HOME,
-        "3 5U2 a5 cleared eq0 c11 e[] r[] g[]",
-        false,
-        Some((T3502, 60)),
-    ),
-    (&[0, 5, 9, 10, 22, 62, 98, 110, 255], 0, 0, AWAY, FAILED, false, RETRY),
-    (&[0, 5, 9, 10, 22, 62, 98, 110, 255], 1, 1, HOME, FAILED, false, RETRY),
+    (FIVE, 0, 0, AWAY, "3 5U2 a5 - eq0 c11 e[] r[] g[]", false, LATER),
+    (FIVE, 1, 1, HOME, "3 5U2 a5 - eq0 c11 e[] r[] g[]", false, LATER),
+    (OTHERS, 0, 0, AWAY, FAILED, false, RETRY),
+    (OTHERS, 1, 1, HOME, FAILED, false, RETRY),
 ];
 
 #[test]
@@ -265,7 +207,7 @@ fn card_row_at_the_limit() {
         record.access[a].cards = 3;
         assert_eq!(reject(&mut record, a as u8, 0, 6), reply(a, true, None));
         let cards = if a == 0 { "c31" } else { "c13" };
-        assert_eq!(shown(&record, a), format!("0 5U3 a2 cleared eq0 {cards} e[] r[] g[]"));
+        assert_eq!(shown(&record, a), format!("0 5U3 a2 - eq0 {cards} e[] r[] g[]"));
         assert_eq!(start(&mut record, a as u8, AWAY), 5);
         assert_eq!(record.power().answer, 0);
         assert_eq!(start(&mut record, a as u8, AWAY), 0);
@@ -639,13 +581,13 @@ fn attempts() {
     let mut record = pending(1, AWAY);
     for attempts in 3..5 {
         assert_eq!(out(&mut record, 1, 1), reply(1, false, RETRY));
-        assert_eq!(shown(&record, 1), format!("3 5U1 a{attempts} kept eq1 c11 e[] r[] g[]"));
+        assert_eq!(shown(&record, 1), format!("3 5U1 a{attempts} + eq1 c11 e[] r[] g[]"));
         assert_eq!(start(&mut record, 1, AWAY), 0);
         assert!(!record.access[1].t3511);
     }
     for _ in 0..2 {
-        assert_eq!(out(&mut record, 1, 1), reply(1, false, Some((T3502, 60))));
-        assert_eq!(shown(&record, 1), "3 5U2 a5 cleared eq0 c11 e[] r[] g[]");
+        assert_eq!(out(&mut record, 1, 1), reply(1, false, LATER));
+        assert_eq!(shown(&record, 1), "3 5U2 a5 - eq0 c11 e[] r[] g[]");
         assert_eq!(start(&mut record, 1, AWAY), 0);
     }
     record.access[1].t3502_length = 0;
