@@ -44,6 +44,7 @@ pub const POWER: u8 = 5;
 
 pub const FRESH: u8 = 6;
 
+// Any count is taken, so that no caller owes one: above sixteen it is sixteen.
 pub fn size(count: u8) -> usize
     ensures { λ r. ⌜ r ≡ sizeOf count ⌝ }
     ensures { λ r. ⌜ r ≤ 16 ⌝ }
@@ -72,7 +73,7 @@ fn peek(xs: &[u8; 16], at: usize, n: usize) -> u8
     if at < n { xs[at] } else { 0 }
 }
 
-// Its marks read as none where the network has no entry.
+// A network with no entry has no marks.
 pub fn look(count: u8, net: u32, nets: &[u32; 16], forbidden: &[u8; 16], barred: &[u8; 16]) -> Seen
     ensures { λ r. ⌜ r ≡ seenIn count net (now (nets .entry)) (now (forbidden .entry)) (now (barred .entry)) ⌝ }
 {
@@ -127,7 +128,7 @@ fn bump(n: u8, limit: u8, sure: u8) -> u8
     }
 }
 
-// A place past the end is left: the caller's table is full then.
+// Sixteen is the place in a full table: nothing is stored there.
 fn put_net(xs: &mut [u32; 16], at: usize, v: u32)
     ensures { λ r. ⌜ now (xs .exit) ≡ putAt (now (xs .entry)) at v ⌝ }
 {
@@ -187,6 +188,7 @@ fn strike(
     clear(new, spare, k.at);
 }
 
+// Each mark goes by its own counter and limit.
 fn sweep_both(
     count: u8,
     banlimit: u8,
@@ -229,6 +231,7 @@ fn wipe(
     *barred = [0u8; 16];
 }
 
+// Barring is striking with the columns changed about; a kind not named leaves all as it is.
 pub fn tend(
     k: Deed,
     count: u8,

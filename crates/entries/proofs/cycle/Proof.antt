@@ -10,7 +10,7 @@ sweep-requires : tie.Need-sweep-requires
 sweep-requires c κs = search needs
 
 returns : tie.Need-returns
-returns c = (cc, search needs)
+returns c = (rw (← c .before .before .before .size .ensures .0) (c .before .sweep .ensures), search needs)
 
 pub cycle-spec : {M : Type 1} → statement M
 cycle-spec = tie.close (tie.spec size-requires sweep-requires returns)

@@ -9,7 +9,7 @@ lift-by-requires c κs = search needs
 
 returns : tie.Need-returns
 unfolding liftMark
-returns c = search needs
+returns c = c .lift-by .ensures
 
 pub lift-spec : {M : Type 1} → statement M
 lift-spec = tie.close (tie.spec lift-by-requires returns)

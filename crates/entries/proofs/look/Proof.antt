@@ -18,7 +18,7 @@ peek-requires-2 c κs = search needs
 
 returns : tie.Need-returns
 unfolding seenIn placeIn
-returns c = cc
+returns c = rw (c .peek2 .ensures, c .before .peek .ensures, c .before .before .find .ensures, c .before .before .before .size .ensures .0)
 
 pub look-spec : {M : Type 1} → statement M
 look-spec = tie.close (tie.spec size-requires find-requires peek-requires peek-requires-2 returns)

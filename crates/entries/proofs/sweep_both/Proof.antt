@@ -13,7 +13,7 @@ sweep-requires-2 : tie.Need-sweep-requires-2
 sweep-requires-2 c κs = search needs
 
 returns : tie.Need-returns
-returns c = (cc, cc)
+returns c = (rw (← c .before .before .before .before .size .ensures .0) (c .before .before .sweep .ensures), rw (← c .before .before .before .before .size .ensures .0) (c .sweep2 .ensures))
 
 pub sweep-both-spec : {M : Type 1} → statement M
 sweep-both-spec = tie.close (tie.spec size-requires sweep-requires sweep-requires-2 returns)
