@@ -1,11 +1,10 @@
 // Messages from the network: the reading of an accept or a reject, and the calls for C firmware.
 ghost use mathlib.Core.Path.{_≡_};
-ghost use Prim.Native.Nat.{_<_, _≤_};
+ghost use Prim.Native.Nat.{_<_};
 ghost use mathlib.Core.Bool.{cond};
-ghost use lib.Dec.{eqb};
-ghost use lib.ListN.{length, getD};
+ghost use lib.ListN.{getD};
 ghost use Rattle.timers.specs.Timer.{spanOf};
-ghost use Rattle.messages.specs.Message.{gutiOf, countOf, tripletsOf, waitOf, timedOf, secondsOf, acceptOf, acceptReading, rejectReading, typeReading, readingOf, numberOf, causeOf, timerOf};
+ghost use Rattle.messages.specs.Message.{gutiOf, countOf, waitOf, timedOf, secondsOf, acceptOf, acceptReading, rejectReading, typeReading, readingOf, numberOf, causeOf, timerOf};
 use octets::Fault;
 use octets::Gathered;
 use octets::Part;
