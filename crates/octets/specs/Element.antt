@@ -43,6 +43,12 @@ elementOf request at i s =
 unfoldable pub elementAt : Bool → List ℕ → ℕ → Element
 elementAt request s at = cond (ltb at (length s)) (elementOf request at (getD s at 0) (drop (suc at) s)) End
 
+-- the place after an element, or the same place where there is none
+unfoldable pub afterOf : Element → ℕ → ℕ
+afterOf End at = at
+afterOf (Bad f) at = at
+afterOf (At i start n next) at = next
+
 -- The elements of a message from a place on: its end, a fault and its offset, or an element and those behind it
 pub data Elements : Type 0 where
   over : Elements
