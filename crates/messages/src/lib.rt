@@ -56,24 +56,28 @@ fn octet(msg: &[u8], at: usize) -> u8
 fn guti(msg: &[u8], p: Part) -> Part
     ensures { λ r. ⌜ r ≡ gutiOf (now (msg .entry)) p ⌝ }
 {
-    let start = p.start;
-    if p.held {
-        if 11 <= p.len {
-            if start < msg.len() {
-                if msg[start] == 0xF2 {
-                    return Part {
-                        held: true,
-                        start: start + 1,
-                        len: 10,
-                    };
-                }
-            }
-        }
-    }
-    Part {
+    let absent = Part {
         held: false,
         start: 0,
         len: 0,
+    };
+    let start = p.start;
+    if !p.held {
+        return absent;
+    }
+    if p.len < 11 {
+        return absent;
+    }
+    if msg.len() <= start {
+        return absent;
+    }
+    if msg[start] != 0xF2 {
+        return absent;
+    }
+    Part {
+        held: true,
+        start: start + 1,
+        len: 10,
     }
 }
 
