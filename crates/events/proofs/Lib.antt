@@ -1,0 +1,3 @@
+-- Laws of the events' definitions.
+pub mod Networks
+pub mod Rest
