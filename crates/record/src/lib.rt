@@ -1,6 +1,9 @@
 // The registration record: what document 01 holds, as numbers and arrays of numbers, so that any octets lent are a record.
 use entries::Entries;
 use octets::Fault;
+mod joins;
+mod code;
+pub use code::network;
 ghost use mathlib.Core.Path.{_≡_};
 
 // The device's numbers. A flag is 0 or 1; lengths and counts say how much of an array is in use.
