@@ -1,8 +1,11 @@
 // The registration record: what document 01 holds, as numbers and arrays of numbers, so that any octets lent are a record.
 use entries::Entries;
 use octets::Fault;
+mod answers;
 mod joins;
 mod code;
+pub use answers::number;
+pub use answers::taken;
 pub use code::network;
 ghost use mathlib.Core.Path.{_≡_};
 
