@@ -3,10 +3,14 @@ use entries::Entries;
 use octets::Fault;
 mod answers;
 mod joins;
+mod new;
 mod code;
 pub use answers::number;
 pub use answers::taken;
 pub use code::network;
+pub use new::empty;
+pub use new::fresh;
+pub use new::new_access;
 ghost use mathlib.Core.Path.{_≡_};
 
 // The device's numbers. A flag is 0 or 1; lengths and counts say how much of an array is in use.
