@@ -2,6 +2,7 @@
 use entries::Entries;
 use octets::Fault;
 mod answers;
+mod columns;
 mod joins;
 mod new;
 mod code;
