@@ -5,6 +5,7 @@ mod answers;
 mod columns;
 mod joins;
 mod new;
+mod valid;
 mod code;
 pub use answers::number;
 pub use answers::taken;

@@ -1,0 +1,93 @@
+// What makes a record valid: one that is not is answer 1.
+use crate::Access;
+use crate::Device;
+use crate::Hot;
+use crate::Record;
+use crate::columns::items;
+use crate::columns::limited;
+use crate::columns::listed_once;
+use crate::columns::networks;
+use crate::columns::once;
+use crate::columns::short;
+use crate::joins::all;
+use crate::joins::and;
+use crate::joins::or;
+use crate::joins::ranged;
+use crate::network;
+use entries::Entries;
+ghost use mathlib.Core.Path.{_≡_};
+ghost use mathlib.Core.Bool.{true};
+ghost use Prim.Native.Nat.{_≤_};
+ghost use Rattle.record.specs.Valid.{deviceRanges, modeRanges, identityRanges, heldRanges, accessRanges, rangesOf, countersOf, cardOf, suciOf, codesOf, clockOf, onceOf, validOf};
+
+fn device_ranges(d: Device) -> bool
+    ensures { λ r. ⌜ r ≡ deviceRanges d ⌝ }
+{
+    let suci = or(d.card == 0, ranged(9, 64, d.suci));
+    let lists = all(ranged(2, 8, d.security), d.t3247 <= 1, d.roaming <= 40, d.regional <= 40);
+    let limits = all(ranged(1, 10, d.banlimit), ranged(1, 10, d.n1limit), ranged(1, 13, d.capability), lists);
+    all(d.card <= 1, suci, ranged(1, 10, d.cardlimit), limits)
+}
+
+fn mode_ranges(a: Access) -> bool
+    ensures { λ r. ⌜ r ≡ modeRanges a ⌝ }
+{
+    let timers = all(a.t3510 <= 1, a.t3511 <= 1, a.t3502 <= 1, a.wait <= 11160);
+    all(a.state <= 6, ranged(1, 3, a.status), a.attempts <= 5, timers)
+}
+
+fn identity_ranges(a: Access) -> bool
+    ensures { λ r. ⌜ r ≡ identityRanges a ⌝ }
+{
+    let last = or(a.visited == 0, and(a.lastnet < 16777216, a.lastcode < 16777216));
+    let counts = all(last, a.ksi <= 7, a.equivalents <= 15, a.entries <= 16);
+    all(a.code < 16777216, a.guti <= 1, a.visited <= 1, counts)
+}
+
+fn held_ranges(a: Access, equivalents: &[u32; 15], t: Entries) -> bool
+    requires { ⌜ (a .equivalents ≤ 15) × (a .entries ≤ 16) ⌝ }
+    ensures { λ r. ⌜ r ≡ heldRanges a (now (equivalents .entry)) t ⌝ }
+{
+    let n = a.entries as usize;
+    let known = short(equivalents, a.equivalents as usize);
+    and(known, and(limited(&t.forbidden, n, 1), limited(&t.barred, n, 1)))
+}
+
+fn access_ranges(a: Access, equivalents: &[u32; 15], t: Entries) -> bool
+    ensures { λ r. ⌜ r ≡ accessRanges a (now (equivalents .entry)) t ⌝ }
+{
+    if !mode_ranges(a) {
+        return false;
+    }
+    if !identity_ranges(a) {
+        return false;
+    }
+    held_ranges(a, equivalents, t)
+}
+
+fn counters(d: Device, a: Access, t: Entries) -> bool
+    requires { ⌜ a .entries ≤ 16 ⌝ }
+    ensures { λ r. ⌜ r ≡ countersOf d a t ⌝ }
+{
+    let n = a.entries as usize;
+    let tables = and(limited(&t.bans, n, d.banlimit), limited(&t.n1s, n, d.n1limit));
+    and(a.cards <= d.cardlimit, tables)
+}
+
+fn card(h: Hot) -> bool
+    ensures { λ r. ⌜ r ≡ cardOf h ⌝ }
+{
+    or(h.dev.card == 1, and(h.a0.state == 0, h.a1.state == 0))
+}
+
+fn opens(d: Device, suci: &[u8; 64]) -> bool
+    ensures { λ r. ⌜ r ≡ suciOf d (now (suci .entry)) ⌝ }
+{
+    or(d.card == 0, suci[0] == 1)
+}
+
+fn clock(a: Access) -> bool
+    ensures { λ r. ⌜ r ≡ clockOf a ⌝ }
+{
+    or(a.t3510 == 0, a.state == 4)
+}
