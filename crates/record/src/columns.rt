@@ -7,10 +7,11 @@ ghost use Rattle.record.specs.Tests.{upTo, isShort};
 ghost use Rattle.record.specs.Network.{isNetwork};
 ghost use Rattle.record.specs.Valid.{isItem, itself, halved};
 
-pub(crate) fn limited(xs: &[u8; 16], n: usize, limit: u8) -> bool
-    requires { ⌜ n ≤ 16 ⌝ }
-    ensures { λ r. ⌜ r ≡ allTo (upTo limit) n (now (xs .entry)) ⌝ }
+pub(crate) fn limited(xs: &[u8; 16], count: u8, limit: u8) -> bool
+    requires { ⌜ count ≤ 16 ⌝ }
+    ensures { λ r. ⌜ r ≡ allTo (upTo limit) count (now (xs .entry)) ⌝ }
 {
+    let n = count as usize;
     let mut i = 0;
     while i < n {
         if limit < xs[i] {
@@ -21,10 +22,11 @@ pub(crate) fn limited(xs: &[u8; 16], n: usize, limit: u8) -> bool
     true
 }
 
-pub(crate) fn short(xs: &[u32; 15], n: usize) -> bool
-    requires { ⌜ n ≤ 15 ⌝ }
-    ensures { λ r. ⌜ r ≡ allTo isShort n (now (xs .entry)) ⌝ }
+pub(crate) fn short(xs: &[u32; 15], count: u8) -> bool
+    requires { ⌜ count ≤ 15 ⌝ }
+    ensures { λ r. ⌜ r ≡ allTo isShort count (now (xs .entry)) ⌝ }
 {
+    let n = count as usize;
     let mut i = 0;
     while i < n {
         if 16777216 <= xs[i] {
@@ -35,10 +37,11 @@ pub(crate) fn short(xs: &[u32; 15], n: usize) -> bool
     true
 }
 
-pub(crate) fn items(xs: &[u64; 40], n: usize) -> bool
-    requires { ⌜ n ≤ 40 ⌝ }
-    ensures { λ r. ⌜ r ≡ allTo isItem n (now (xs .entry)) ⌝ }
+pub(crate) fn items(xs: &[u64; 40], count: u8) -> bool
+    requires { ⌜ count ≤ 40 ⌝ }
+    ensures { λ r. ⌜ r ≡ allTo isItem count (now (xs .entry)) ⌝ }
 {
+    let n = count as usize;
     let mut i = 0;
     while i < n {
         if 562949953421312 <= xs[i] {
@@ -49,10 +52,11 @@ pub(crate) fn items(xs: &[u64; 40], n: usize) -> bool
     true
 }
 
-pub(crate) fn networks(xs: &[u32; 16], n: usize) -> bool
-    requires { ⌜ n ≤ 16 ⌝ }
-    ensures { λ r. ⌜ r ≡ allTo isNetwork n (now (xs .entry)) ⌝ }
+pub(crate) fn networks(xs: &[u32; 16], count: u8) -> bool
+    requires { ⌜ count ≤ 16 ⌝ }
+    ensures { λ r. ⌜ r ≡ allTo isNetwork count (now (xs .entry)) ⌝ }
 {
+    let n = count as usize;
     let mut i = 0;
     while i < n {
         if !network(xs[i]) {
@@ -77,10 +81,11 @@ fn place(xs: &[u32; 16], n: usize, net: u32) -> usize
     i
 }
 
-pub(crate) fn once(xs: &[u32; 16], n: usize) -> bool
-    requires { ⌜ n ≤ 16 ⌝ }
-    ensures { λ r. ⌜ r ≡ distinctTo itself n (now (xs .entry)) ⌝ }
+pub(crate) fn once(xs: &[u32; 16], count: u8) -> bool
+    requires { ⌜ count ≤ 16 ⌝ }
+    ensures { λ r. ⌜ r ≡ distinctTo itself count (now (xs .entry)) ⌝ }
 {
+    let n = count as usize;
     let mut i = 0;
     while i < n {
         let net = xs[i];
@@ -106,10 +111,11 @@ fn place_of(xs: &[u64; 40], n: usize, item: u64) -> usize
     i
 }
 
-pub(crate) fn listed_once(xs: &[u64; 40], n: usize) -> bool
-    requires { ⌜ n ≤ 40 ⌝ }
-    ensures { λ r. ⌜ r ≡ distinctTo halved n (now (xs .entry)) ⌝ }
+pub(crate) fn listed_once(xs: &[u64; 40], count: u8) -> bool
+    requires { ⌜ count ≤ 40 ⌝ }
+    ensures { λ r. ⌜ r ≡ distinctTo halved count (now (xs .entry)) ⌝ }
 {
+    let n = count as usize;
     let mut i = 0;
     while i < n {
         let item = xs[i];

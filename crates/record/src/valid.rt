@@ -18,6 +18,7 @@ use entries::Entries;
 ghost use mathlib.Core.Path.{_≡_};
 ghost use mathlib.Core.Bool.{true};
 ghost use Prim.Native.Nat.{_≤_};
+ghost use Rattle.record.specs.Tests.{both};
 ghost use Rattle.record.specs.Valid.{deviceRanges, modeRanges, identityRanges, heldRanges, accessRanges, rangesOf, countersOf, cardOf, suciOf, codesOf, clockOf, onceOf, validOf};
 
 fn device_ranges(d: Device) -> bool
@@ -48,8 +49,8 @@ fn held_ranges(a: Access, equivalents: &[u32; 15], t: Entries) -> bool
     requires { ⌜ (a .equivalents ≤ 15) × (a .entries ≤ 16) ⌝ }
     ensures { λ r. ⌜ r ≡ heldRanges a (now (equivalents .entry)) t ⌝ }
 {
-    let n = a.entries as usize;
-    let known = short(equivalents, a.equivalents as usize);
+    let n = a.entries;
+    let known = short(equivalents, a.equivalents);
     and(known, and(limited(&t.forbidden, n, 1), limited(&t.barred, n, 1)))
 }
 
@@ -69,7 +70,7 @@ fn counters(d: Device, a: Access, t: Entries) -> bool
     requires { ⌜ a .entries ≤ 16 ⌝ }
     ensures { λ r. ⌜ r ≡ countersOf d a t ⌝ }
 {
-    let n = a.entries as usize;
+    let n = a.entries;
     let tables = and(limited(&t.bans, n, d.banlimit), limited(&t.n1s, n, d.n1limit));
     and(a.cards <= d.cardlimit, tables)
 }
@@ -90,4 +91,51 @@ fn clock(a: Access) -> bool
     ensures { λ r. ⌜ r ≡ clockOf a ⌝ }
 {
     or(a.t3510 == 0, a.state == 4)
+}
+
+fn ranges(r: Record) -> bool
+    ensures { λ o. ⌜ o ≡ rangesOf r ⌝ }
+{
+    let h = r.hot;
+    let d = h.dev;
+    if !device_ranges(d) {
+        return false;
+    }
+    let x = access_ranges(h.a0, &r.equivalents0, r.e0);
+    let y = access_ranges(h.a1, &r.equivalents1, r.e1);
+    let z = items(&r.roaming, d.roaming);
+    let w = items(&r.regional, d.regional);
+    all(x, y, z, w)
+}
+
+fn counted(r: Record) -> bool
+    requires { ⌜ rangesOf r ≡ true ⌝ }
+    ensures { λ o. ⌜ o ≡ both (countersOf (r .hot .dev) (r .hot .a0) (r .e0)) (countersOf (r .hot .dev) (r .hot .a1) (r .e1)) ⌝ }
+{
+    let h = r.hot;
+    let x = counters(h.dev, h.a0, r.e0);
+    let y = counters(h.dev, h.a1, r.e1);
+    and(x, y)
+}
+
+fn codes(r: Record) -> bool
+    requires { ⌜ rangesOf r ≡ true ⌝ }
+    ensures { λ o. ⌜ o ≡ codesOf r ⌝ }
+{
+    let h = r.hot;
+    let x = networks(&r.e0.nets, h.a0.entries);
+    let y = networks(&r.e1.nets, h.a1.entries);
+    all(network(h.dev.home), network(h.a0.net), network(h.a1.net), and(x, y))
+}
+
+fn singles(r: Record) -> bool
+    requires { ⌜ rangesOf r ≡ true ⌝ }
+    ensures { λ o. ⌜ o ≡ onceOf r ⌝ }
+{
+    let h = r.hot;
+    let x = once(&r.e0.nets, h.a0.entries);
+    let y = once(&r.e1.nets, h.a1.entries);
+    let z = listed_once(&r.roaming, h.dev.roaming);
+    let w = listed_once(&r.regional, h.dev.regional);
+    all(x, y, z, w)
 }

@@ -12,10 +12,10 @@ use Rattle.record.proofs.columns.items.Statement.{statement}
 use Rattle.record.proofs.columns.items.Tie as tie
 
 abbrev Inv-loop : tie.InvT-loop
-Inv-loop xs n i₀ i = (i ≤ n) × (allTo isItem i xs ≡ true)
+Inv-loop xs count n i₀ i = (i ≤ count) × (allTo isItem i xs ≡ true)
 
 abbrev μ-loop : tie.MeasureT-loop
-μ-loop xs n i₀ i = n - i
+μ-loop xs count n i₀ i = count - i
 
 loop-holds : tie.Need-loop-holds Inv-loop μ-loop
 loop-holds c = (search needs, all-none isItem _)
@@ -27,7 +27,7 @@ element-copy-out-if1 : tie.Need-element-copy-out-if1 Inv-loop μ-loop
 element-copy-out-if1 c = search needs
 
 returns : tie.Need-returns Inv-loop μ-loop
-returns c = all-ends isItem (c .before .before .before .before .args .xs .now) (c .before .before .before .before .args .n) (c .before .before .before .loop .i) (c .before .before .before .loop .inv .1) (le-ltb _ _ (c .if1 .taken)) (search needs)
+returns c = all-ends isItem (c .before .before .before .before .args .xs .now) (c .before .before .before .before .args .count) (c .before .before .before .loop .i) (c .before .before .before .loop .inv .1) (le-ltb _ _ (c .if1 .taken)) (search needs)
 
 add-i : tie.Need-add-i Inv-loop μ-loop
 add-i c = omega arith
@@ -39,7 +39,7 @@ loop-again : tie.Need-loop-again Inv-loop μ-loop
 loop-again c = (search needs, all-more isItem (c .before .before .before .before .args .xs .now) (c .before .before .before .loop .i) (c .before .before .before .loop .inv .1) (lt-ltb _ _ (c .if1 .left)))
 
 returns-2 : tie.Need-returns-2 Inv-loop μ-loop
-returns-2 c = all-over isItem (c .before .before .args .xs .now) (c .before .before .args .n) (c .before .loop .i) (c .before .loop .inv .1) (search needs) (search needs)
+returns-2 c = all-over isItem (c .before .before .args .xs .now) (c .before .before .args .count) (c .before .loop .i) (c .before .loop .inv .1) (search needs) (search needs)
 
 pub items-spec : {M : Type 1} → statement M
 items-spec =

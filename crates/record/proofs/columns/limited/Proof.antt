@@ -12,10 +12,10 @@ use Rattle.record.proofs.columns.limited.Statement.{statement}
 use Rattle.record.proofs.columns.limited.Tie as tie
 
 abbrev Inv-loop : tie.InvT-loop
-Inv-loop xs n limit i₀ i = (i ≤ n) × (allTo (upTo limit) i xs ≡ true)
+Inv-loop xs count limit n i₀ i = (i ≤ count) × (allTo (upTo limit) i xs ≡ true)
 
 abbrev μ-loop : tie.MeasureT-loop
-μ-loop xs n limit i₀ i = n - i
+μ-loop xs count limit n i₀ i = count - i
 
 loop-holds : tie.Need-loop-holds Inv-loop μ-loop
 loop-holds c = (search needs, all-none (upTo _) _)
@@ -24,7 +24,7 @@ element-copy-out-if1 : tie.Need-element-copy-out-if1 Inv-loop μ-loop
 element-copy-out-if1 c = search needs
 
 returns : tie.Need-returns Inv-loop μ-loop
-returns c = all-ends (upTo _) (c .before .before .before .before .args .xs .now) (c .before .before .before .before .args .n) (c .before .before .before .loop .i) (c .before .before .before .loop .inv .1) (lt-leb _ _ (c .if1 .taken)) (search needs)
+returns c = all-ends (upTo _) (c .before .before .before .before .args .xs .now) (c .before .before .before .before .args .count) (c .before .before .before .loop .i) (c .before .before .before .loop .inv .1) (lt-leb _ _ (c .if1 .taken)) (search needs)
 
 add-i : tie.Need-add-i Inv-loop μ-loop
 add-i c = omega arith
@@ -36,7 +36,7 @@ loop-again : tie.Need-loop-again Inv-loop μ-loop
 loop-again c = (search needs, all-more (upTo _) (c .before .before .before .before .args .xs .now) (c .before .before .before .loop .i) (c .before .before .before .loop .inv .1) (le-leb _ _ (c .if1 .left)))
 
 returns-2 : tie.Need-returns-2 Inv-loop μ-loop
-returns-2 c = all-over (upTo _) (c .before .before .args .xs .now) (c .before .before .args .n) (c .before .loop .i) (c .before .loop .inv .1) (search needs) (search needs)
+returns-2 c = all-over (upTo _) (c .before .before .args .xs .now) (c .before .before .args .count) (c .before .loop .i) (c .before .loop .inv .1) (search needs) (search needs)
 
 pub limited-spec : {M : Type 1} → statement M
 limited-spec =

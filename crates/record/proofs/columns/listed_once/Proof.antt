@@ -12,10 +12,10 @@ use Rattle.record.proofs.columns.listed_once.Statement.{statement}
 use Rattle.record.proofs.columns.listed_once.Tie as tie
 
 abbrev Inv-loop : tie.InvT-loop
-Inv-loop xs n i₀ i = (i ≤ n) × (distinctTo halved i xs ≡ true)
+Inv-loop xs count n i₀ i = (i ≤ count) × (distinctTo halved i xs ≡ true)
 
 abbrev μ-loop : tie.MeasureT-loop
-μ-loop xs n i₀ i = n - i
+μ-loop xs count n i₀ i = count - i
 
 loop-holds : tie.Need-loop-holds Inv-loop μ-loop
 loop-holds c = (search needs, distinct-none halved _)
@@ -30,7 +30,7 @@ place-of-requires : tie.Need-place-of-requires Inv-loop μ-loop
 place-of-requires c κs = search needs
 
 returns : tie.Need-returns Inv-loop μ-loop
-returns c = distinct-ends halved (c .before .before .before .before .before .args .xs .now) (c .before .before .before .before .before .args .n) (c .before .before .before .before .loop .i) (c .before .before .before .before .loop .inv .1) (rw (c .before .place-of .ensures) at (ne-eqb _ _ (c .if1 .taken))) (search needs)
+returns c = distinct-ends halved (c .before .before .before .before .before .args .xs .now) (c .before .before .before .before .before .args .count) (c .before .before .before .before .loop .i) (c .before .before .before .before .loop .inv .1) (rw (c .before .place-of .ensures) at (ne-eqb _ _ (c .if1 .taken))) (search needs)
 
 add-i : tie.Need-add-i Inv-loop μ-loop
 add-i c = omega arith
@@ -42,7 +42,7 @@ loop-again : tie.Need-loop-again Inv-loop μ-loop
 loop-again c = (search needs, distinct-more halved (c .before .before .before .before .before .args .xs .now) (c .before .before .before .before .loop .i) (c .before .before .before .before .loop .inv .1) (rw (c .before .place-of .ensures) at (eq-eqb _ _ (c .if1 .left))))
 
 returns-2 : tie.Need-returns-2 Inv-loop μ-loop
-returns-2 c = distinct-over halved (c .before .before .args .xs .now) (c .before .before .args .n) (c .before .loop .i) (c .before .loop .inv .1) (search needs) (search needs)
+returns-2 c = distinct-over halved (c .before .before .args .xs .now) (c .before .before .args .count) (c .before .loop .i) (c .before .loop .inv .1) (search needs) (search needs)
 
 pub listed-once-spec : {M : Type 1} → statement M
 listed-once-spec =

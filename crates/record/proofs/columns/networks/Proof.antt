@@ -12,10 +12,10 @@ use Rattle.record.proofs.columns.networks.Statement.{statement}
 use Rattle.record.proofs.columns.networks.Tie as tie
 
 abbrev Inv-loop : tie.InvT-loop
-Inv-loop xs n i₀ i = (i ≤ n) × (allTo isNetwork i xs ≡ true)
+Inv-loop xs count n i₀ i = (i ≤ count) × (allTo isNetwork i xs ≡ true)
 
 abbrev μ-loop : tie.MeasureT-loop
-μ-loop xs n i₀ i = n - i
+μ-loop xs count n i₀ i = count - i
 
 loop-holds : tie.Need-loop-holds Inv-loop μ-loop
 loop-holds c = (search needs, all-none isNetwork _)
@@ -30,7 +30,7 @@ network-requires : tie.Need-network-requires Inv-loop μ-loop
 network-requires c κs = search needs
 
 returns : tie.Need-returns Inv-loop μ-loop
-returns c = all-ends isNetwork (c .before .before .before .before .before .args .xs .now) (c .before .before .before .before .before .args .n) (c .before .before .before .before .loop .i) (c .before .before .before .before .loop .inv .1) (sym (c .before .network .ensures) ∙ not-true _ (c .if1 .taken)) (search needs)
+returns c = all-ends isNetwork (c .before .before .before .before .before .args .xs .now) (c .before .before .before .before .before .args .count) (c .before .before .before .before .loop .i) (c .before .before .before .before .loop .inv .1) (sym (c .before .network .ensures) ∙ not-true _ (c .if1 .taken)) (search needs)
 
 add-i : tie.Need-add-i Inv-loop μ-loop
 add-i c = omega arith
@@ -42,7 +42,7 @@ loop-again : tie.Need-loop-again Inv-loop μ-loop
 loop-again c = (search needs, all-more isNetwork (c .before .before .before .before .before .args .xs .now) (c .before .before .before .before .loop .i) (c .before .before .before .before .loop .inv .1) (sym (c .before .network .ensures) ∙ not-false _ (c .if1 .left)))
 
 returns-2 : tie.Need-returns-2 Inv-loop μ-loop
-returns-2 c = all-over isNetwork (c .before .before .args .xs .now) (c .before .before .args .n) (c .before .loop .i) (c .before .loop .inv .1) (search needs) (search needs)
+returns-2 c = all-over isNetwork (c .before .before .args .xs .now) (c .before .before .args .count) (c .before .loop .i) (c .before .loop .inv .1) (search needs) (search needs)
 
 pub networks-spec : {M : Type 1} → statement M
 networks-spec =

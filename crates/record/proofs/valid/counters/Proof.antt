@@ -4,9 +4,6 @@ use borrow.Author.Needs.{needs}
 use Rattle.record.proofs.valid.counters.Statement.{statement}
 use Rattle.record.proofs.valid.counters.Tie as tie
 
-cast-n : tie.Need-cast-n
-cast-n c = search needs
-
 limited-requires : tie.Need-limited-requires
 limited-requires c κs = search needs
 
@@ -25,5 +22,4 @@ returns c = cc
 
 pub counters-spec : {M : Type 1} → statement M
 counters-spec =
-    tie.close
-    (tie.spec cast-n limited-requires limited-requires-2 and-requires and-requires-2 returns)
+    tie.close (tie.spec limited-requires limited-requires-2 and-requires and-requires-2 returns)

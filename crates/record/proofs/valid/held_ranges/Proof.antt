@@ -4,12 +4,6 @@ use borrow.Author.Needs.{needs}
 use Rattle.record.proofs.valid.held_ranges.Statement.{statement}
 use Rattle.record.proofs.valid.held_ranges.Tie as tie
 
-cast-n : tie.Need-cast-n
-cast-n c = search needs
-
-cast-short : tie.Need-cast-short
-cast-short c = search needs
-
 short-requires : tie.Need-short-requires
 short-requires c κs = search needs
 
@@ -33,8 +27,6 @@ pub held-ranges-spec : {M : Type 1} → statement M
 held-ranges-spec =
     tie.close
     (tie.spec
-    cast-n
-    cast-short
     short-requires
     limited-requires
     limited-requires-2
