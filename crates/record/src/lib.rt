@@ -5,7 +5,7 @@ mod answers;
 mod columns;
 mod joins;
 mod new;
-mod valid;
+mod tests;
 mod code;
 pub use answers::number;
 pub use answers::taken;
@@ -13,6 +13,7 @@ pub use code::network;
 pub use new::empty;
 pub use new::fresh;
 pub use new::new_access;
+pub use tests::valid;
 ghost use mathlib.Core.Path.{_≡_};
 
 // The device's numbers. A flag is 0 or 1; lengths and counts say how much of an array is in use.

@@ -2,8 +2,8 @@
 use Rattle.record.specs.Valid.{onceOf}
 use Rattle.record.proofs.Bounds.{bounded}
 use borrow.Author.Needs.{needs}
-use Rattle.record.proofs.valid.singles.Statement.{statement}
-use Rattle.record.proofs.valid.singles.Tie as tie
+use Rattle.record.proofs.tests.singles.Statement.{statement}
+use Rattle.record.proofs.tests.singles.Tie as tie
 
 once-requires : tie.Need-once-requires
 once-requires c κs = bounded _ (c .before .before .before .pre) .first

@@ -1,8 +1,8 @@
 -- Each number is tested once, in the list's order. Assumes nothing.
 use Rattle.record.specs.Valid.{modeRanges}
 use borrow.Author.Needs.{needs}
-use Rattle.record.proofs.valid.mode_ranges.Statement.{statement}
-use Rattle.record.proofs.valid.mode_ranges.Tie as tie
+use Rattle.record.proofs.tests.mode_ranges.Statement.{statement}
+use Rattle.record.proofs.tests.mode_ranges.Tie as tie
 
 all-requires : tie.Need-all-requires
 all-requires c κs = search needs

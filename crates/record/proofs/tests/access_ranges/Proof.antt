@@ -4,8 +4,8 @@ use borrow.Author.Needs.{needs}
 use borrow.Author.Tests.{not-true, not-false}
 use Rattle.record.specs.Valid.{accessRanges}
 use Rattle.record.proofs.Bounds.{counts}
-use Rattle.record.proofs.valid.access_ranges.Statement.{statement}
-use Rattle.record.proofs.valid.access_ranges.Tie as tie
+use Rattle.record.proofs.tests.access_ranges.Statement.{statement}
+use Rattle.record.proofs.tests.access_ranges.Tie as tie
 
 mode-ranges-requires : tie.Need-mode-ranges-requires
 mode-ranges-requires c κs = search needs

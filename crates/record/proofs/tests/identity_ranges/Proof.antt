@@ -1,8 +1,8 @@
 -- Each number is tested once, in the list's order. Assumes nothing.
 use Rattle.record.specs.Valid.{identityRanges}
 use borrow.Author.Needs.{needs}
-use Rattle.record.proofs.valid.identity_ranges.Statement.{statement}
-use Rattle.record.proofs.valid.identity_ranges.Tie as tie
+use Rattle.record.proofs.tests.identity_ranges.Statement.{statement}
+use Rattle.record.proofs.tests.identity_ranges.Tie as tie
 
 and-requires : tie.Need-and-requires
 and-requires c κs = search needs

@@ -1,8 +1,8 @@
 -- Each number is tested once, in the list's order. Assumes nothing.
 use Rattle.record.specs.Valid.{suciOf}
 use borrow.Author.Needs.{needs}
-use Rattle.record.proofs.valid.opens.Statement.{statement}
-use Rattle.record.proofs.valid.opens.Tie as tie
+use Rattle.record.proofs.tests.opens.Statement.{statement}
+use Rattle.record.proofs.tests.opens.Tie as tie
 
 element-copy-out-or : tie.Need-element-copy-out-or
 element-copy-out-or c = search needs

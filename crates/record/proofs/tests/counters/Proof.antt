@@ -1,8 +1,8 @@
 -- The count is a bound, so each column is read to it. Assumes nothing.
 use Rattle.record.specs.Valid.{countersOf}
 use borrow.Author.Needs.{needs}
-use Rattle.record.proofs.valid.counters.Statement.{statement}
-use Rattle.record.proofs.valid.counters.Tie as tie
+use Rattle.record.proofs.tests.counters.Statement.{statement}
+use Rattle.record.proofs.tests.counters.Tie as tie
 
 limited-requires : tie.Need-limited-requires
 limited-requires c κs = search needs

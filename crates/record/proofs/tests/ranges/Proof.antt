@@ -4,8 +4,8 @@ use mathlib.Core.Path.{sym, _∙_}
 use borrow.Author.Tests.{not-true, not-false}
 use Rattle.record.proofs.Bounds.{lists}
 use borrow.Author.Needs.{needs}
-use Rattle.record.proofs.valid.ranges.Statement.{statement}
-use Rattle.record.proofs.valid.ranges.Tie as tie
+use Rattle.record.proofs.tests.ranges.Statement.{statement}
+use Rattle.record.proofs.tests.ranges.Tie as tie
 
 device-ranges-requires : tie.Need-device-ranges-requires
 device-ranges-requires c κs = search needs

@@ -1,8 +1,8 @@
 -- Each number is tested once, in the list's order. Assumes nothing.
 use Rattle.record.specs.Valid.{cardOf}
 use borrow.Author.Needs.{needs}
-use Rattle.record.proofs.valid.card.Statement.{statement}
-use Rattle.record.proofs.valid.card.Tie as tie
+use Rattle.record.proofs.tests.card.Statement.{statement}
+use Rattle.record.proofs.tests.card.Tie as tie
 
 and-requires : tie.Need-and-requires
 and-requires c κs = search needs

@@ -139,3 +139,30 @@ fn singles(r: Record) -> bool
     let w = listed_once(&r.regional, h.dev.regional);
     all(x, y, z, w)
 }
+
+fn clocks(h: Hot) -> bool
+    ensures { λ r. ⌜ r ≡ both (clockOf (h .a0)) (clockOf (h .a1)) ⌝ }
+{
+    let x = clock(h.a0);
+    let y = clock(h.a1);
+    and(x, y)
+}
+
+// What is left to test of a record whose ranges hold.
+fn kept(r: Record) -> bool
+    requires { ⌜ rangesOf r ≡ true ⌝ }
+    ensures { λ o. ⌜ o ≡ validOf r ⌝ }
+{
+    let h = r.hot;
+    let x = counted(r);
+    let y = opens(h.dev, &r.suci);
+    let z = and(codes(r), and(clocks(h), singles(r)));
+    all(x, card(h), y, z)
+}
+
+// The public test: a record that fails it is answer 1.
+pub fn valid(r: Record) -> bool
+    ensures { λ o. ⌜ o ≡ validOf r ⌝ }
+{
+    if ranges(r) { kept(r) } else { false }
+}

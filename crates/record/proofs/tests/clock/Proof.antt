@@ -1,8 +1,8 @@
 -- Each number is tested once, in the list's order. Assumes nothing.
 use Rattle.record.specs.Valid.{clockOf}
 use borrow.Author.Needs.{needs}
-use Rattle.record.proofs.valid.clock.Statement.{statement}
-use Rattle.record.proofs.valid.clock.Tie as tie
+use Rattle.record.proofs.tests.clock.Statement.{statement}
+use Rattle.record.proofs.tests.clock.Tie as tie
 
 or-requires : tie.Need-or-requires
 or-requires c κs = search needs

@@ -1,8 +1,8 @@
 -- The record's ranges hold, so each column is read to its count. Assumes nothing.
 use Rattle.record.proofs.Bounds.{bounded}
 use borrow.Author.Needs.{needs}
-use Rattle.record.proofs.valid.counted.Statement.{statement}
-use Rattle.record.proofs.valid.counted.Tie as tie
+use Rattle.record.proofs.tests.counted.Statement.{statement}
+use Rattle.record.proofs.tests.counted.Tie as tie
 
 counters-requires : tie.Need-counters-requires
 counters-requires c κs = bounded _ (c .before .pre) .first

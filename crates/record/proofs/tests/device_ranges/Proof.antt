@@ -1,8 +1,8 @@
 -- Each number is tested once, in the list's order. Assumes nothing.
 use Rattle.record.specs.Valid.{deviceRanges}
 use borrow.Author.Needs.{needs}
-use Rattle.record.proofs.valid.device_ranges.Statement.{statement}
-use Rattle.record.proofs.valid.device_ranges.Tie as tie
+use Rattle.record.proofs.tests.device_ranges.Statement.{statement}
+use Rattle.record.proofs.tests.device_ranges.Tie as tie
 
 ranged-requires : tie.Need-ranged-requires
 ranged-requires c κs = search needs

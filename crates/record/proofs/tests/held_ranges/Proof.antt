@@ -1,8 +1,8 @@
 -- The counts are bounds, so each column is read to its count. Assumes nothing.
 use Rattle.record.specs.Valid.{heldRanges}
 use borrow.Author.Needs.{needs}
-use Rattle.record.proofs.valid.held_ranges.Statement.{statement}
-use Rattle.record.proofs.valid.held_ranges.Tie as tie
+use Rattle.record.proofs.tests.held_ranges.Statement.{statement}
+use Rattle.record.proofs.tests.held_ranges.Tie as tie
 
 short-requires : tie.Need-short-requires
 short-requires c κs = search needs

@@ -2,8 +2,8 @@
 use Rattle.record.specs.Valid.{codesOf}
 use Rattle.record.proofs.Bounds.{bounded}
 use borrow.Author.Needs.{needs}
-use Rattle.record.proofs.valid.codes.Statement.{statement}
-use Rattle.record.proofs.valid.codes.Tie as tie
+use Rattle.record.proofs.tests.codes.Statement.{statement}
+use Rattle.record.proofs.tests.codes.Tie as tie
 
 networks-requires : tie.Need-networks-requires
 networks-requires c κs = bounded _ (c .before .before .before .pre) .first
