@@ -40,23 +40,23 @@ pub counts : (a : Access) → identityRanges a ≡ true → (a .equivalents ≤ 
 unfolding identityRanges
 counts a e =
     let ranges : both (upTo 15 (a .equivalents)) (upTo 16 (a .entries)) ≡ true =
-      rest (upTo 7 (a .ksi)) _
-      (rest (either (eqb (a .visited) 0) (both (isShort (a .lastnet)) (isShort (a .lastcode)))) _
-      (rest (isFlag (a .visited)) _
-      (rest (isFlag (a .guti)) _ (rest (isShort (a .code)) _ e)))) in
+    rest (upTo 7 (a .ksi)) _
+    (rest (either (eqb (a .visited) 0) (both (isShort (a .lastnet)) (isShort (a .lastcode)))) _
+    (rest (isFlag (a .visited)) _
+    (rest (isFlag (a .guti)) _ (rest (isShort (a .code)) _ e)))) in
     (leb-true _ _ (one _ _ ranges), leb-true _ _ (rest (upTo 15 (a .equivalents)) _ ranges))
 
 pub lists : (d : Device) → deviceRanges d ≡ true → (d .roaming ≤ 40) × (d .regional ≤ 40)
 unfolding deviceRanges
 lists d e =
     let ranges : both (upTo 40 (d .roaming)) (upTo 40 (d .regional)) ≡ true =
-      rest (isFlag (d .t3247)) _
-      (rest (within 2 8 (d .security)) _
-      (rest (within 1 13 (d .capability)) _
-      (rest (within 1 10 (d .n1limit)) _
-      (rest (within 1 10 (d .banlimit)) _
-      (rest (within 1 10 (d .cardlimit)) _
-      (rest (either (eqb (d .card) 0) (within 9 64 (d .suci))) _ (rest (isFlag (d .card)) _ e))))))) in
+    rest (isFlag (d .t3247)) _
+    (rest (within 2 8 (d .security)) _
+    (rest (within 1 13 (d .capability)) _
+    (rest (within 1 10 (d .n1limit)) _
+    (rest (within 1 10 (d .banlimit)) _
+    (rest (within 1 10 (d .cardlimit)) _
+    (rest (either (eqb (d .card) 0) (within 9 64 (d .suci))) _ (rest (isFlag (d .card)) _ e))))))) in
     (leb-true _ _ (one _ _ ranges), leb-true _ _ (rest (upTo 40 (d .roaming)) _ ranges))
 
 -- the same of a record: the counts of both accesses' entries and of both lists

@@ -1,13 +1,13 @@
 // A new record, from limits and capabilities.
-use crate::joins::all;
-use crate::joins::and;
-use crate::joins::ranged;
 use crate::Access;
 use crate::Answer;
 use crate::Device;
 use crate::Hot;
 use crate::Made;
 use crate::Record;
+use crate::joins::all;
+use crate::joins::and;
+use crate::joins::ranged;
 use entries::Entries;
 ghost use mathlib.Core.Path.{_≡_};
 ghost use Prim.Native.Nat.{_≤_};
@@ -120,8 +120,16 @@ fn security_of(s: &[u8]) -> [u8; 8]
 fn may_make(cardlimit: u8, banlimit: u8, n1limit: u8, capability: usize, security: usize) -> bool
     ensures { λ r. ⌜ r ≡ mayMake cardlimit banlimit n1limit capability security ⌝ }
 {
-    let sizes = and(and(1 <= capability, capability <= 13), and(2 <= security, security <= 8));
-    all(ranged(1, 10, cardlimit), ranged(1, 10, banlimit), ranged(1, 10, n1limit), sizes)
+    let sizes = and(
+        and(1 <= capability, capability <= 13),
+        and(2 <= security, security <= 8),
+    );
+    all(
+        ranged(1, 10, cardlimit),
+        ranged(1, 10, banlimit),
+        ranged(1, 10, n1limit),
+        sizes,
+    )
 }
 
 fn numbers(cardlimit: u8, banlimit: u8, n1limit: u8, capability: u8, security: u8) -> Hot
@@ -139,7 +147,13 @@ fn make(cardlimit: u8, banlimit: u8, n1limit: u8, capability: &[u8], security: &
     requires { ⌜ (length (now capability) ≤ 13) × (length (now security) ≤ 8) ⌝ }
     ensures { λ r. ⌜ r ≡ newRecord cardlimit banlimit n1limit (now (capability .entry)) (now (security .entry)) ⌝ }
 {
-    let h = numbers(cardlimit, banlimit, n1limit, capability.len() as u8, security.len() as u8);
+    let h = numbers(
+        cardlimit,
+        banlimit,
+        n1limit,
+        capability.len() as u8,
+        security.len() as u8,
+    );
     let c = capability_of(capability);
     let s = security_of(security);
     empty(h, [0; 64], c, s)
@@ -157,7 +171,13 @@ fn smallest() -> Record
 pub fn fresh(cardlimit: u8, banlimit: u8, n1limit: u8, capability: &[u8], security: &[u8]) -> Made
     ensures { λ r. ⌜ r ≡ madeOf cardlimit banlimit n1limit (now (capability .entry)) (now (security .entry)) ⌝ }
 {
-    if may_make(cardlimit, banlimit, n1limit, capability.len(), security.len()) {
+    if may_make(
+        cardlimit,
+        banlimit,
+        n1limit,
+        capability.len(),
+        security.len(),
+    ) {
         let made = make(cardlimit, banlimit, n1limit, capability, security);
         return Made {
             answer: Answer::Taken,

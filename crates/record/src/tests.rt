@@ -25,8 +25,18 @@ fn device_ranges(d: Device) -> bool
     ensures { λ r. ⌜ r ≡ deviceRanges d ⌝ }
 {
     let suci = or(d.card == 0, ranged(9, 64, d.suci));
-    let lists = all(ranged(2, 8, d.security), d.t3247 <= 1, d.roaming <= 40, d.regional <= 40);
-    let limits = all(ranged(1, 10, d.banlimit), ranged(1, 10, d.n1limit), ranged(1, 13, d.capability), lists);
+    let lists = all(
+        ranged(2, 8, d.security),
+        d.t3247 <= 1,
+        d.roaming <= 40,
+        d.regional <= 40,
+    );
+    let limits = all(
+        ranged(1, 10, d.banlimit),
+        ranged(1, 10, d.n1limit),
+        ranged(1, 13, d.capability),
+        lists,
+    );
     all(d.card <= 1, suci, ranged(1, 10, d.cardlimit), limits)
 }
 
@@ -34,13 +44,21 @@ fn mode_ranges(a: Access) -> bool
     ensures { λ r. ⌜ r ≡ modeRanges a ⌝ }
 {
     let timers = all(a.t3510 <= 1, a.t3511 <= 1, a.t3502 <= 1, a.wait <= 11160);
-    all(a.state <= 6, ranged(1, 3, a.status), a.attempts <= 5, timers)
+    all(
+        a.state <= 6,
+        ranged(1, 3, a.status),
+        a.attempts <= 5,
+        timers,
+    )
 }
 
 fn identity_ranges(a: Access) -> bool
     ensures { λ r. ⌜ r ≡ identityRanges a ⌝ }
 {
-    let last = or(a.visited == 0, and(a.lastnet < 16777216, a.lastcode < 16777216));
+    let last = or(
+        a.visited == 0,
+        and(a.lastnet < 16777216, a.lastcode < 16777216),
+    );
     let counts = all(last, a.ksi <= 7, a.equivalents <= 15, a.entries <= 16);
     all(a.code < 16777216, a.guti <= 1, a.visited <= 1, counts)
 }
@@ -51,7 +69,10 @@ fn held_ranges(a: Access, equivalents: &[u32; 15], t: Entries) -> bool
 {
     let n = a.entries;
     let known = short(equivalents, a.equivalents);
-    and(known, and(limited(&t.forbidden, n, 1), limited(&t.barred, n, 1)))
+    and(
+        known,
+        and(limited(&t.forbidden, n, 1), limited(&t.barred, n, 1)),
+    )
 }
 
 fn access_ranges(a: Access, equivalents: &[u32; 15], t: Entries) -> bool
@@ -71,7 +92,10 @@ fn counters(d: Device, a: Access, t: Entries) -> bool
     ensures { λ r. ⌜ r ≡ countersOf d a t ⌝ }
 {
     let n = a.entries;
-    let tables = and(limited(&t.bans, n, d.banlimit), limited(&t.n1s, n, d.n1limit));
+    let tables = and(
+        limited(&t.bans, n, d.banlimit),
+        limited(&t.n1s, n, d.n1limit),
+    );
     and(a.cards <= d.cardlimit, tables)
 }
 
@@ -125,7 +149,12 @@ fn codes(r: Record) -> bool
     let h = r.hot;
     let x = networks(&r.e0.nets, h.a0.entries);
     let y = networks(&r.e1.nets, h.a1.entries);
-    all(network(h.dev.home), network(h.a0.net), network(h.a1.net), and(x, y))
+    all(
+        network(h.dev.home),
+        network(h.a0.net),
+        network(h.a1.net),
+        and(x, y),
+    )
 }
 
 fn singles(r: Record) -> bool
