@@ -44,7 +44,7 @@ fn word(x: u8) -> u32
 }
 
 // The octet at a place, 0 past the end.
-fn octet(msg: &[u8], at: usize) -> u8
+pub fn octet(msg: &[u8], at: usize) -> u8
     ensures { λ r. ⌜ r ≡ getD (now (msg .entry)) at 0 ⌝ }
 {
     if at < msg.len() {
