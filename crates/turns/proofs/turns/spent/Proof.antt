@@ -12,8 +12,8 @@ forgotten-requires c κs = search needs
 emptied-requires : tie.Need-emptied-requires
 emptied-requires c κs = search needs
 
-cast-t8 : tie.Need-cast-t8
-cast-t8 c = search needs
+seconds-requires : tie.Need-seconds-requires
+seconds-requires c κs = search needs
 
 timed-requires : tie.Need-timed-requires
 timed-requires c κs = search needs
@@ -24,4 +24,4 @@ returns c = cc
 pub spent-spec : {M : Type 1} → statement M
 spent-spec =
     tie.close
-    (tie.spec moved-requires forgotten-requires emptied-requires cast-t8 timed-requires returns)
+    (tie.spec moved-requires forgotten-requires emptied-requires seconds-requires timed-requires returns)
