@@ -170,10 +170,29 @@ fn rejected(a: Access) -> Turn
     timed(a, Order::Stop, Order::Leave, Order::Leave)
 }
 
+// "5U3, clear identity": how every row begins.
+fn barred(state: u8, attempts: u8, a: Access) -> Access
+    ensures { λ r. ⌜ r ≡ sets.forgotten (sets.moved state 3 attempts a) ⌝ }
+{
+    forgotten(moved(state, 3, attempts, a))
+}
+
 fn one_more(limit: u8, n: u8) -> u8
     ensures { λ r. ⌜ r ≡ events.oneMore limit n ⌝ }
 {
     if n < limit { n + 1 } else { n }
+}
+
+fn card_first(n: u8, a: Access) -> Turn
+    ensures { λ r. ⌜ r ≡ events.rejected (sets.emptied (sets.counted n (sets.forgotten (sets.moved 2 3 0 a)))) ⌝ }
+{
+    rejected(emptied(counted(n, barred(2, 0, a))))
+}
+
+fn card_second(n: u8, a: Access) -> Turn
+    ensures { λ r. ⌜ r ≡ events.rejected (sets.counted n (sets.forgotten (sets.moved 2 3 (a .attempts) a))) ⌝ }
+{
+    rejected(counted(n, barred(2, a.attempts, a)))
 }
 
 pub fn card_below(w: u8, limit: u8, a: Access) -> Turn
@@ -181,45 +200,41 @@ pub fn card_below(w: u8, limit: u8, a: Access) -> Turn
 {
     let n = one_more(limit, a.cards);
     if w == 0 {
-        let b = counted(n, forgotten(moved(2, 3, 0, a)));
-        rejected(emptied(b))
+        card_first(n, a)
     } else {
-        let b = forgotten(moved(2, 3, a.attempts, a));
-        rejected(counted(n, b))
+        card_second(n, a)
     }
 }
 
 pub fn card_limit(a: Access) -> Turn
     ensures { λ r. ⌜ r ≡ events.cardLimit a ⌝ }
 {
-    let b = moved(0, 3, a.attempts, a);
-    rejected(emptied(forgotten(b)))
+    rejected(emptied(barred(0, a.attempts, a)))
 }
 
 pub fn card_protected(limit: u8, a: Access) -> Turn
     ensures { λ r. ⌜ r ≡ events.cardProtected limit a ⌝ }
 {
-    let b = moved(0, 3, a.attempts, a);
-    rejected(counted(limit, emptied(forgotten(b))))
+    rejected(counted(limit, emptied(barred(0, a.attempts, a))))
 }
 
 pub fn away(w: u8, found: bool, a: Access) -> Turn
     ensures { λ r. ⌜ r ≡ events.away w found a ⌝ }
 {
-    let b = moved(pick(w == 0, 6, 2), 3, 0, a);
-    rejected(entered(found, emptied(forgotten(b))))
+    let b = barred(pick(w == 0, 6, 2), 0, a);
+    rejected(entered(found, emptied(b)))
 }
 
 pub fn home(a: Access) -> Turn
     ensures { λ r. ⌜ r ≡ events.home a ⌝ }
 {
-    rejected(emptied(forgotten(moved(2, 3, 0, a))))
+    rejected(emptied(barred(2, 0, a)))
 }
 
 pub fn area(cause: u8, a: Access) -> Turn
     ensures { λ r. ⌜ r ≡ events.area cause a ⌝ }
 {
-    let b = forgotten(moved(2, 3, 0, a));
+    let b = barred(2, 0, a);
     if cause == 13 {
         rejected(emptied(b))
     } else {
@@ -230,7 +245,7 @@ pub fn area(cause: u8, a: Access) -> Turn
 pub fn n1(found: bool, a: Access) -> Turn
     ensures { λ r. ⌜ r ≡ events.n1 found a ⌝ }
 {
-    rejected(entered(found, forgotten(moved(2, 3, 0, a))))
+    rejected(entered(found, barred(2, 0, a)))
 }
 
 // The receiving access.

@@ -5,11 +5,8 @@ use borrow.Author.Needs.{needs}
 use Rattle.turns.proofs.turns.area.Statement.{statement}
 use Rattle.turns.proofs.turns.area.Tie as tie
 
-moved-requires : tie.Need-moved-requires
-moved-requires c κs = search needs
-
-forgotten-requires : tie.Need-forgotten-requires
-forgotten-requires c κs = search needs
+barred-requires : tie.Need-barred-requires
+barred-requires c κs = search needs
 
 emptied-requires : tie.Need-emptied-requires
 emptied-requires c κs = search needs
@@ -22,18 +19,17 @@ rejected-requires-2 c κs = search needs
 
 returns : tie.Need-returns
 unfolding area
-returns c = rw (eq-eqb _ _ (c .before .before .if1 .taken), c .rejected .ensures, c .before .emptied .ensures, c .before .before .before .forgotten .ensures, c .before .before .before .before .moved .ensures)
+returns c = rw (eq-eqb _ _ (c .before .before .if1 .taken), c .rejected .ensures, c .before .emptied .ensures, c .before .before .before .barred .ensures)
 
 returns-2 : tie.Need-returns-2
 unfolding area
-returns-2 c = rw (ne-eqb _ _ (c .before .if1 .left), c .rejected2 .ensures, c .before .before .forgotten .ensures, c .before .before .before .moved .ensures)
+returns-2 c = rw (ne-eqb _ _ (c .before .if1 .left), c .rejected2 .ensures, c .before .before .barred .ensures)
 
 pub area-spec : {M : Type 1} → statement M
 area-spec =
     tie.close
     (tie.spec
-    moved-requires
-    forgotten-requires
+    barred-requires
     emptied-requires
     rejected-requires
     rejected-requires-2

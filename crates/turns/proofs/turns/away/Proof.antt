@@ -7,11 +7,8 @@ use Rattle.turns.proofs.turns.away.Tie as tie
 pick-requires : tie.Need-pick-requires
 pick-requires c κs = search needs
 
-moved-requires : tie.Need-moved-requires
-moved-requires c κs = search needs
-
-forgotten-requires : tie.Need-forgotten-requires
-forgotten-requires c κs = search needs
+barred-requires : tie.Need-barred-requires
+barred-requires c κs = search needs
 
 emptied-requires : tie.Need-emptied-requires
 emptied-requires c κs = search needs
@@ -31,8 +28,7 @@ away-spec =
     tie.close
     (tie.spec
     pick-requires
-    moved-requires
-    forgotten-requires
+    barred-requires
     emptied-requires
     entered-requires
     rejected-requires

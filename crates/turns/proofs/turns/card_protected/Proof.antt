@@ -4,11 +4,8 @@ use borrow.Author.Needs.{needs}
 use Rattle.turns.proofs.turns.card_protected.Statement.{statement}
 use Rattle.turns.proofs.turns.card_protected.Tie as tie
 
-moved-requires : tie.Need-moved-requires
-moved-requires c κs = search needs
-
-forgotten-requires : tie.Need-forgotten-requires
-forgotten-requires c κs = search needs
+barred-requires : tie.Need-barred-requires
+barred-requires c κs = search needs
 
 emptied-requires : tie.Need-emptied-requires
 emptied-requires c κs = search needs
@@ -26,10 +23,4 @@ returns c = cc
 pub card-protected-spec : {M : Type 1} → statement M
 card-protected-spec =
     tie.close
-    (tie.spec
-    moved-requires
-    forgotten-requires
-    emptied-requires
-    counted-requires
-    rejected-requires
-    returns)
+    (tie.spec barred-requires emptied-requires counted-requires rejected-requires returns)

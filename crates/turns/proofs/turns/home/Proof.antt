@@ -4,11 +4,8 @@ use borrow.Author.Needs.{needs}
 use Rattle.turns.proofs.turns.home.Statement.{statement}
 use Rattle.turns.proofs.turns.home.Tie as tie
 
-moved-requires : tie.Need-moved-requires
-moved-requires c κs = search needs
-
-forgotten-requires : tie.Need-forgotten-requires
-forgotten-requires c κs = search needs
+barred-requires : tie.Need-barred-requires
+barred-requires c κs = search needs
 
 emptied-requires : tie.Need-emptied-requires
 emptied-requires c κs = search needs
@@ -21,6 +18,4 @@ unfolding home
 returns c = cc
 
 pub home-spec : {M : Type 1} → statement M
-home-spec =
-    tie.close
-    (tie.spec moved-requires forgotten-requires emptied-requires rejected-requires returns)
+home-spec = tie.close (tie.spec barred-requires emptied-requires rejected-requires returns)

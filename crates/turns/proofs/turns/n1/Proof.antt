@@ -4,11 +4,8 @@ use borrow.Author.Needs.{needs}
 use Rattle.turns.proofs.turns.n1.Statement.{statement}
 use Rattle.turns.proofs.turns.n1.Tie as tie
 
-moved-requires : tie.Need-moved-requires
-moved-requires c κs = search needs
-
-forgotten-requires : tie.Need-forgotten-requires
-forgotten-requires c κs = search needs
+barred-requires : tie.Need-barred-requires
+barred-requires c κs = search needs
 
 entered-requires : tie.Need-entered-requires
 entered-requires c κs = search needs
@@ -21,6 +18,4 @@ unfolding n1
 returns c = cc
 
 pub n1-spec : {M : Type 1} → statement M
-n1-spec =
-    tie.close
-    (tie.spec moved-requires forgotten-requires entered-requires rejected-requires returns)
+n1-spec = tie.close (tie.spec barred-requires entered-requires rejected-requires returns)
