@@ -1,5 +1,5 @@
 // An event on the whole record: the core over lent columns and lists, what it leaves to keep, and the step by value.
-//mod core;
+mod core;
 mod keep;
 //mod step;
 
