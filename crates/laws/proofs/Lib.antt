@@ -1,2 +1,3 @@
 -- Laws of the definitions over arrays of numbers.
+pub mod Tests
 pub mod Zip

@@ -1,6 +1,16 @@
 // The registration record: what document 01 holds, as numbers and arrays of numbers, so that any octets lent are a record.
 use entries::Entries;
 use octets::Fault;
+mod answers;
+mod joins;
+mod new;
+mod code;
+pub use answers::number;
+pub use answers::taken;
+pub use code::network;
+pub use new::empty;
+pub use new::fresh;
+pub use new::new_access;
 ghost use mathlib.Core.Path.{_≡_};
 
 // The device's numbers. A flag is 0 or 1; lengths and counts say how much of an array is in use.

@@ -1,0 +1,2 @@
+-- What the tests of a record show, and that a new record passes them.
+pub mod Bounds
