@@ -18,7 +18,7 @@ pub(crate) fn moved(state: u8, status: u8, attempts: u8, a: Access) -> Access
     q
 }
 
-// "Clear identity"
+// "Clear identity".
 pub(crate) fn forgotten(a: Access) -> Access
     ensures { λ r. ⌜ r ≡ sets.forgotten a ⌝ }
 {
@@ -82,6 +82,7 @@ pub(crate) fn taught(given: bool, count: u8, wait: u16, a: Access) -> Access
     q
 }
 
+// One entry more where the network had none.
 fn more(found: bool, entries: u8) -> u8
     ensures { λ r. ⌜ r ≡ cond found entries (cond (ltb entries 16) (entries + 1) entries) ⌝ }
 {

@@ -1,9 +1,11 @@
 // What an event makes of one access's numbers and timers: the rows of document 01, each by its own words.
 use record::Access;
+
 mod access;
 mod rows;
 mod timers;
 mod turns;
+
 pub use access::clocked;
 pub use rows::needs_entry;
 pub use rows::row_of;
@@ -27,10 +29,10 @@ pub use turns::other_turn;
 pub use turns::renewed;
 pub use turns::row_turn;
 pub use turns::started;
+pub use turns::still;
 pub use turns::t3502_out;
 pub use turns::t3510_out;
 pub use turns::t3511_out;
-ghost use mathlib.Core.Path.{_≡_};
 
 // What an event does to a timer: nothing, stop it, or run it for so many seconds.
 pub enum Order {

@@ -53,7 +53,11 @@ fn card_row(bare: bool, below: bool) -> Row
     ensures { λ r. ⌜ r ≡ cond bare (cond below CardBelow CardLimit) CardProtected ⌝ }
 {
     if bare {
-        if below { Row::CardBelow } else { Row::CardLimit }
+        if below {
+            Row::CardBelow
+        } else {
+            Row::CardLimit
+        }
     } else {
         Row::CardProtected
     }
@@ -90,6 +94,7 @@ fn chosen(first: bool, a: Row, second: bool, b: Row, c: Row) -> Row
     if second { b } else { c }
 }
 
+// The rows after those of the card and of the network.
 fn further(w: u8, cause: u8) -> Row
     ensures { λ r. ⌜ r ≡ cond (cond (isAreaNo cause) (eqb w 0) false) Area (cond (isN1No w cause) N1 (cond (isProtocol cause) Protocol Other)) ⌝ }
 {

@@ -6,7 +6,6 @@ use crate::Told;
 use record::Access;
 ghost use mathlib.Core.Path.{_≡_};
 ghost use mathlib.Core.Bool.{cond};
-ghost use lib.Dec.{eqb};
 ghost use Rattle.turns.specs.Timers.{flagAfter, toldOf, clocksOf};
 ghost use Rattle.turns.specs.declared.Told.the-variants.{Left, Stopped};
 

@@ -14,21 +14,29 @@ use crate::access::taught;
 use record::Access;
 ghost use mathlib.Core.Path.{_≡_};
 ghost use mathlib.Core.Bool.{cond};
-ghost use lib.Dec.{eqb};
 ghost use Rattle.record.specs.New.{newAccess};
 ghost use Rattle.turns.specs.declared.Order.the-variants.{Leave, Stop, Run};
 ghost use Rattle.turns.specs.Access as sets;
 ghost use Rattle.turns.specs.Timers.{ordersOf};
 ghost use Rattle.turns.specs.Turns as events;
 
+// An access and the orders to its timers, T3510 first.
 fn timed(a: Access, t3510: Order, t3511: Order, t3502: Order) -> Turn
     ensures { λ r. ⌜ r ≡ events.turnOf a (ordersOf t3510 t3511 t3502) ⌝ }
 {
-    let orders = Orders { t3510: t3510, t3511: t3511, t3502: t3502 };
-    Turn { access: a, orders: orders }
+    let orders = Orders {
+        t3510: t3510,
+        t3511: t3511,
+        t3502: t3502,
+    };
+    Turn {
+        access: a,
+        orders: orders,
+    }
 }
 
-fn still(a: Access) -> Turn
+// The access that an event leaves alone.
+pub fn still(a: Access) -> Turn
     ensures { λ r. ⌜ r ≡ events.still a ⌝ }
 {
     timed(a, Order::Leave, Order::Leave, Order::Leave)
@@ -37,10 +45,11 @@ fn still(a: Access) -> Turn
 pub fn started(net: u32, code: u32, a: Access) -> Turn
     ensures { λ r. ⌜ r ≡ events.started net code a ⌝ }
 {
-    let b = moved(4, a.status, a.attempts, a);
-    timed(pending(net, code, b), Order::Run(15), Order::Stop, Order::Stop)
+    let b = pending(net, code, moved(4, a.status, a.attempts, a));
+    timed(b, Order::Run(15), Order::Stop, Order::Stop)
 }
 
+// Stored as ngKSI.
 pub fn key_set(set: u8, a: Access) -> Turn
     ensures { λ r. ⌜ r ≡ events.keySet set a ⌝ }
 {
@@ -54,27 +63,36 @@ pub fn accepted(given: bool, count: u8, wait: u16, a: Access) -> Turn
     timed(b, Order::Stop, Order::Leave, Order::Leave)
 }
 
+// "up by one unless 5"
 fn tried(n: u8) -> u8
     ensures { λ r. ⌜ r ≡ events.tried n ⌝ }
 {
     if n < 5 { n + 1 } else { n }
 }
 
-// Below 5: T3511 and its 10 s.
+// Below 5, T3511 starts.
 fn again(n: u8, a: Access) -> Turn
     ensures { λ r. ⌜ r ≡ events.turnOf (sets.moved 3 (a .status) n a) (ordersOf Stop (Run 10) Leave) ⌝ }
 {
-    timed(moved(3, a.status, n, a), Order::Stop, Order::Run(10), Order::Leave)
+    let b = moved(3, a.status, n, a);
+    timed(b, Order::Stop, Order::Run(10), Order::Leave)
 }
 
-// At 5: T3502 and the stored length.
+fn seconds(wait: u16) -> u32
+    ensures { λ r. ⌜ r ≡ wait ⌝ }
+{
+    wait as u32
+}
+
+// At 5, T3502 starts with the stored length.
 fn spent(n: u8, a: Access) -> Turn
     ensures { λ r. ⌜ r ≡ events.turnOf (sets.emptied (sets.forgotten (sets.moved 3 2 n a))) (ordersOf Stop Leave (Run (a .wait))) ⌝ }
 {
     let b = emptied(forgotten(moved(3, 2, n, a)));
-    timed(b, Order::Stop, Order::Leave, Order::Run(a.wait as u32))
+    timed(b, Order::Stop, Order::Leave, Order::Run(seconds(a.wait)))
 }
 
+// T3510 out, with the attempt counter now n.
 pub fn failed(n: u8, a: Access) -> Turn
     ensures { λ r. ⌜ r ≡ events.failed n a ⌝ }
 {
@@ -106,6 +124,7 @@ fn pick(first: bool, x: u8, y: u8) -> u8
     if first { x } else { y }
 }
 
+// Power cycle.
 pub fn cycled(card: u8, a: Access) -> Turn
     ensures { λ r. ⌜ r ≡ events.cycled card a ⌝ }
 {
@@ -137,12 +156,14 @@ fn new_access(state: u8) -> Access
     }
 }
 
+// Card change.
 pub fn renewed() -> Turn
     ensures { λ r. ⌜ r ≡ events.renewed ⌝ }
 {
     timed(new_access(1), Order::Stop, Order::Stop, Order::Stop)
 }
 
+// Every taken reject stops T3510.
 fn rejected(a: Access) -> Turn
     ensures { λ r. ⌜ r ≡ events.rejected a ⌝ }
 {
@@ -199,7 +220,11 @@ pub fn area(cause: u8, a: Access) -> Turn
     ensures { λ r. ⌜ r ≡ events.area cause a ⌝ }
 {
     let b = forgotten(moved(2, 3, 0, a));
-    if cause == 13 { rejected(emptied(b)) } else { rejected(b) }
+    if cause == 13 {
+        rejected(emptied(b))
+    } else {
+        rejected(b)
+    }
 }
 
 pub fn n1(found: bool, a: Access) -> Turn
@@ -208,6 +233,7 @@ pub fn n1(found: bool, a: Access) -> Turn
     rejected(entered(found, forgotten(moved(2, 3, 0, a))))
 }
 
+// The receiving access.
 pub fn row_turn(row: Row, w: u8, limit: u8, cause: u8, found: bool, a: Access) -> Turn
     ensures { λ r. ⌜ r ≡ events.rowTurn row w limit cause found a ⌝ }
 {
@@ -224,6 +250,7 @@ pub fn row_turn(row: Row, w: u8, limit: u8, cause: u8, found: bool, a: Access) -
     }
 }
 
+// The other access: only a protected 3, 6 or 7 reaches it.
 pub fn other_turn(row: Row, limit: u8, a: Access) -> Turn
     ensures { λ r. ⌜ r ≡ events.otherTurn row limit a ⌝ }
 {

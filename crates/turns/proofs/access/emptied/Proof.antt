@@ -1,11 +1,12 @@
+-- Each field is set as the definition says or copied. Assumes nothing.
+use Rattle.turns.specs.Access.{emptied}
+use borrow.Author.Needs.{needs}
 use Rattle.turns.proofs.access.emptied.Statement.{statement}
 use Rattle.turns.proofs.access.emptied.Tie as tie
-use Rattle.turns.proofs.access.emptied.Reads as reads
-use Rattle.turns.proofs.access.emptied.Lts as lts
 
--- src/access.rt:32:1
 returns : tie.Need-returns
-returns c = ?
+unfolding emptied
+returns c = search needs
 
 pub emptied-spec : {M : Type 1} → statement M
 emptied-spec = tie.close (tie.spec returns)

@@ -1,11 +1,12 @@
+-- Each field is set as the definition says or copied. Assumes nothing.
+use Rattle.turns.specs.Access.{forgotten}
+use borrow.Author.Needs.{needs}
 use Rattle.turns.proofs.access.forgotten.Statement.{statement}
 use Rattle.turns.proofs.access.forgotten.Tie as tie
-use Rattle.turns.proofs.access.forgotten.Reads as reads
-use Rattle.turns.proofs.access.forgotten.Lts as lts
 
--- src/access.rt:22:1
 returns : tie.Need-returns
-returns c = ?
+unfolding forgotten
+returns c = search needs
 
 pub forgotten-spec : {M : Type 1} → statement M
 forgotten-spec = tie.close (tie.spec returns)

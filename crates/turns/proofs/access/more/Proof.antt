@@ -1,24 +1,20 @@
+-- The test of the count is the one of the definition. Assumes nothing.
+use borrow.Author.Tests.{lt-ltb, le-ltb}
 use borrow.Author.Needs.{needs}
 use Rattle.turns.proofs.access.more.Statement.{statement}
 use Rattle.turns.proofs.access.more.Tie as tie
-use Rattle.turns.proofs.access.more.Reads as reads
-use Rattle.turns.proofs.access.more.Lts as lts
 
--- src/access.rt:89:9
 returns : tie.Need-returns
 returns c = search needs
 
--- src/access.rt:91:23
 add-result : tie.Need-add-result
 add-result c = search needs
 
--- src/access.rt:85:1
 returns-2 : tie.Need-returns-2
-returns-2 c = ?
+returns-2 c = rw (c .before .if1 .left, lt-ltb _ _ (c .if2 .taken))
 
--- src/access.rt:85:1
 returns-3 : tie.Need-returns-3
-returns-3 c = ?
+returns-3 c = rw (c .before .if1 .left, le-ltb _ _ (c .if2 .left))
 
 pub more-spec : {M : Type 1} → statement M
 more-spec = tie.close (tie.spec returns add-result returns-2 returns-3)

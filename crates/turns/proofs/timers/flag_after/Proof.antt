@@ -1,32 +1,29 @@
+-- Order by order, as the definition. Assumes nothing.
+use Rattle.turns.specs.Timers.{flagAfter}
 use borrow.Author.Needs.{needs}
 use Rattle.turns.proofs.timers.flag_after.Statement.{statement}
 use Rattle.turns.proofs.timers.flag_after.Tie as tie
-use Rattle.turns.proofs.timers.flag_after.Reads as reads
-use Rattle.turns.proofs.timers.flag_after.Lts as lts
 
--- src/timers.rt:17:25
 enum-told : tie.Need-enum-told
 enum-told c = search needs
 
--- src/timers.rt:18:24
 enum-told-2 : tie.Need-enum-told-2
 enum-told-2 c = search needs
 
--- src/timers.rt:19:26
 enum-told-3 : tie.Need-enum-told-3
 enum-told-3 c = search needs
 
--- src/timers.rt:13:1
 returns : tie.Need-returns
-returns c = ?
+unfolding flagAfter
+returns c = rw (c .enum-told .given .1)
 
--- src/timers.rt:13:1
 returns-2 : tie.Need-returns-2
-returns-2 c = ?
+unfolding flagAfter
+returns-2 c = rw (c .enum-told2 .given .1)
 
--- src/timers.rt:13:1
 returns-3 : tie.Need-returns-3
-returns-3 c = ?
+unfolding flagAfter
+returns-3 c = rw (c .enum-told3 .given .1)
 
 pub flag-after-spec : {M : Type 1} → statement M
 flag-after-spec =

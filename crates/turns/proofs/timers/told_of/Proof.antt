@@ -1,37 +1,32 @@
+-- Order by order, as the definition. Assumes nothing.
+use Rattle.turns.specs.Timers.{toldOf}
 use borrow.Author.Needs.{needs}
 use Rattle.turns.proofs.timers.told_of.Statement.{statement}
 use Rattle.turns.proofs.timers.told_of.Tie as tie
-use Rattle.turns.proofs.timers.told_of.Reads as reads
-use Rattle.turns.proofs.timers.told_of.Lts as lts
-use Rattle.turns.proofs.timers.halted.Reads as halted-reads
 
--- src/timers.rt:34:25
 enum-told : tie.Need-enum-told
 enum-told c = search needs
 
--- src/timers.rt:35:31
 enum-told-2 : tie.Need-enum-told-2
 enum-told-2 c = search needs
 
--- src/timers.rt:35:24
 halted-requires : tie.Need-halted-requires
 halted-requires c κs = search needs
 
--- src/timers.rt:36:20
 enum-known-o : tie.Need-enum-known-o
 enum-known-o c = search needs
 
--- src/timers.rt:30:1
 returns : tie.Need-returns
-returns c = ?
+unfolding toldOf
+returns c = rw (c .enum-told .given .1)
 
--- src/timers.rt:30:1
 returns-2 : tie.Need-returns-2
-returns-2 c = ?
+unfolding toldOf
+returns-2 c = rw (c .before .enum-told2 .given .1) (c .halted .ensures)
 
--- src/timers.rt:30:1
 returns-3 : tie.Need-returns-3
-returns-3 c = ?
+unfolding toldOf
+returns-3 c = rw (c .before .o .given .1)
 
 pub told-of-spec : {M : Type 1} → statement M
 told-of-spec =

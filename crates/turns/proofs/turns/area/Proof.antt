@@ -1,40 +1,32 @@
+-- The setters are those of the definition, in its order. Assumes nothing.
+use Rattle.turns.specs.Turns.{area}
+use borrow.Author.Tests.{eq-eqb, ne-eqb}
 use borrow.Author.Needs.{needs}
 use Rattle.turns.proofs.turns.area.Statement.{statement}
 use Rattle.turns.proofs.turns.area.Tie as tie
-use Rattle.turns.proofs.turns.area.Reads as reads
-use Rattle.turns.proofs.turns.area.Lts as lts
-use Rattle.turns.proofs.access.emptied.Reads as emptied-reads
-use Rattle.turns.proofs.access.forgotten.Reads as forgotten-reads
-use Rattle.turns.proofs.access.moved.Reads as moved-reads
-use Rattle.turns.proofs.turns.rejected.Reads as rejected-reads
 
--- src/turns.rt:201:23
 moved-requires : tie.Need-moved-requires
 moved-requires c κs = search needs
 
--- src/turns.rt:201:9
 forgotten-requires : tie.Need-forgotten-requires
 forgotten-requires c κs = search needs
 
--- src/turns.rt:202:31
 emptied-requires : tie.Need-emptied-requires
 emptied-requires c κs = search needs
 
--- src/turns.rt:202:22
 rejected-requires : tie.Need-rejected-requires
 rejected-requires c κs = search needs
 
--- src/turns.rt:202:52
 rejected-requires-2 : tie.Need-rejected-requires-2
 rejected-requires-2 c κs = search needs
 
--- src/turns.rt:198:1
 returns : tie.Need-returns
-returns c = ?
+unfolding area
+returns c = rw (eq-eqb _ _ (c .before .before .if1 .taken), c .rejected .ensures, c .before .emptied .ensures, c .before .before .before .forgotten .ensures, c .before .before .before .before .moved .ensures)
 
--- src/turns.rt:198:1
 returns-2 : tie.Need-returns-2
-returns-2 c = ?
+unfolding area
+returns-2 c = rw (ne-eqb _ _ (c .before .if1 .left), c .rejected2 .ensures, c .before .before .forgotten .ensures, c .before .before .before .moved .ensures)
 
 pub area-spec : {M : Type 1} → statement M
 area-spec =

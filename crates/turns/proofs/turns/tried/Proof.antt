@@ -1,20 +1,20 @@
+-- The test is the one of the definition. Assumes nothing.
+use Rattle.turns.specs.Turns.{tried}
+use borrow.Author.Tests.{lt-ltb, le-ltb}
 use borrow.Author.Needs.{needs}
 use Rattle.turns.proofs.turns.tried.Statement.{statement}
 use Rattle.turns.proofs.turns.tried.Tie as tie
-use Rattle.turns.proofs.turns.tried.Reads as reads
-use Rattle.turns.proofs.turns.tried.Lts as lts
 
--- src/turns.rt:60:16
 add-result : tie.Need-add-result
 add-result c = search needs
 
--- src/turns.rt:57:1
 returns : tie.Need-returns
-returns c = ?
+unfolding tried
+returns c = simp (lt-ltb _ _ (c .if1 .taken))
 
--- src/turns.rt:57:1
 returns-2 : tie.Need-returns-2
-returns-2 c = ?
+unfolding tried
+returns-2 c = simp (le-ltb _ _ (c .if1 .left))
 
 pub tried-spec : {M : Type 1} → statement M
 tried-spec = tie.close (tie.spec add-result returns returns-2)
