@@ -1,32 +1,29 @@
+-- Order by order, as the definition. Assumes nothing.
+use Rattle.turns.specs.Timers.{flagAfter}
 use borrow.Author.Needs.{needs}
 use Rattle.rules.proofs.decision.flag_after.Statement.{statement}
 use Rattle.rules.proofs.decision.flag_after.Tie as tie
-use Rattle.rules.proofs.decision.flag_after.Reads as reads
-use Rattle.rules.proofs.decision.flag_after.Lts as lts
 
--- src/decision.rt:154:25
 enum-told : tie.Need-enum-told
 enum-told c = search needs
 
--- src/decision.rt:155:24
 enum-told-2 : tie.Need-enum-told-2
 enum-told-2 c = search needs
 
--- src/decision.rt:156:26
 enum-told-3 : tie.Need-enum-told-3
 enum-told-3 c = search needs
 
--- src/decision.rt:150:1
 returns : tie.Need-returns
-returns c = ?
+unfolding flagAfter
+returns c = cc
 
--- src/decision.rt:150:1
 returns-2 : tie.Need-returns-2
-returns-2 c = ?
+unfolding flagAfter
+returns-2 c = cc
 
--- src/decision.rt:150:1
 returns-3 : tie.Need-returns-3
-returns-3 c = ?
+unfolding flagAfter
+returns-3 c = cc
 
 pub flag-after-spec : {M : Type 1} → statement M
 flag-after-spec =

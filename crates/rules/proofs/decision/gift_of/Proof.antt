@@ -1,41 +1,35 @@
+-- What was read picks the case of the definition. Assumes nothing.
+use Rattle.rules.specs.Plan.{giftOf}
 use borrow.Author.Needs.{needs}
 use Rattle.rules.proofs.decision.gift_of.Statement.{statement}
 use Rattle.rules.proofs.decision.gift_of.Tie as tie
-use Rattle.rules.proofs.decision.gift_of.Reads as reads
-use Rattle.rules.proofs.decision.gift_of.Lts as lts
-use Rattle.rules.proofs.decision.no_gift.Reads as no-gift-reads
 
--- src/decision.rt:193:25
 enum-known-m : tie.Need-enum-known-m
 enum-known-m c = search needs
 
--- src/decision.rt:194:31
 enum-told : tie.Need-enum-told
 enum-told c = search needs
 
--- src/decision.rt:194:31
 no-gift-requires : tie.Need-no-gift-requires
 no-gift-requires c κs = search needs
 
--- src/decision.rt:195:31
 enum-told-2 : tie.Need-enum-told-2
 enum-told-2 c = search needs
 
--- src/decision.rt:195:31
 no-gift-requires-2 : tie.Need-no-gift-requires-2
 no-gift-requires-2 c κs = search needs
 
--- src/decision.rt:189:1
 returns : tie.Need-returns
-returns c = ?
+unfolding giftOf
+returns c = cc
 
--- src/decision.rt:189:1
 returns-2 : tie.Need-returns-2
-returns-2 c = ?
+unfolding giftOf
+returns-2 c = cc
 
--- src/decision.rt:189:1
 returns-3 : tie.Need-returns-3
-returns-3 c = ?
+unfolding giftOf
+returns-3 c = cc
 
 pub gift-of-spec : {M : Type 1} → statement M
 gift-of-spec =

@@ -1,16 +1,12 @@
-use borrow.Author.Needs.{needs}
+-- The test picks the order. Assumes nothing.
 use Rattle.rules.proofs.effects.run_if.Statement.{statement}
 use Rattle.rules.proofs.effects.run_if.Tie as tie
-use Rattle.rules.proofs.effects.run_if.Reads as reads
-use Rattle.rules.proofs.effects.run_if.Lts as lts
 
--- src/effects.rt:194:1
 returns : tie.Need-returns
-returns c = ?
+returns c = cc
 
--- src/effects.rt:194:1
 returns-2 : tie.Need-returns-2
-returns-2 c = search needs
+returns-2 c = cc
 
 pub run-if-spec : {M : Type 1} → statement M
 run-if-spec = tie.close (tie.spec returns returns-2)

@@ -1,15 +1,16 @@
+-- The test for access 0 says which of the two comes first. Assumes nothing.
+use Rattle.rules.specs.Hot.{hotOf}
+use borrow.Author.Tests.{eq-eqb, ne-eqb}
 use Rattle.rules.proofs.hot.hot_of.Statement.{statement}
 use Rattle.rules.proofs.hot.hot_of.Tie as tie
-use Rattle.rules.proofs.hot.hot_of.Reads as reads
-use Rattle.rules.proofs.hot.hot_of.Lts as lts
 
--- src/hot.rt:24:9
 returns : tie.Need-returns
-returns c = ?
+unfolding hotOf
+returns c = simp (eq-eqb _ _ (c .if1 .taken))
 
--- src/hot.rt:20:1
 returns-2 : tie.Need-returns-2
-returns-2 c = ?
+unfolding hotOf
+returns-2 c = simp (ne-eqb _ _ (c .if1 .left))
 
 pub hot-of-spec : {M : Type 1} → statement M
 hot-of-spec = tie.close (tie.spec returns returns-2)
