@@ -24,15 +24,15 @@ enum-known-m-2 c = search needs
 
 returns : tie.Need-returns
 unfolding readAnswer
-returns c = cc
+returns c = rw (c .before .before .enum-told .given .1, c .check .ensures, c .before .not .ensures)
 
 returns-2 : tie.Need-returns-2
 unfolding readAnswer
-returns-2 c = cc
+returns-2 c = rw (c .before .before .m .given .1) (c .reject-answer .ensures)
 
 returns-3 : tie.Need-returns-3
 unfolding readAnswer
-returns-3 c = cc
+returns-3 c = rw (c .before .m2 .given .1)
 
 pub read-answer-spec : {M : Type 1} → statement M
 read-answer-spec =

@@ -42,31 +42,31 @@ enum-told-2 c = search needs
 
 returns : tie.Need-returns
 unfolding answerOf
-returns c = cc
+returns c = rw (c .before .before .e .given .1) (c .card-answer .ensures)
 
 returns-2 : tie.Need-returns-2
 unfolding answerOf
-returns-2 c = cc
+returns-2 c = rw (c .before .before .e2 .given .1) (c .start-answer .ensures)
 
 returns-3 : tie.Need-returns-3
 unfolding answerOf
-returns-3 c = cc
+returns-3 c = rw (c .before .before .e3 .given .1) (c .message-answer .ensures)
 
 returns-4 : tie.Need-returns-4
 unfolding answerOf
-returns-4 c = cc
+returns-4 c = rw (c .before .before .e4 .given .1) (c .timer-answer .ensures)
 
 returns-5 : tie.Need-returns-5
 unfolding answerOf
-returns-5 c = cc
+returns-5 c = rw (c .enum-told .given .1)
 
 returns-6 : tie.Need-returns-6
 unfolding answerOf
-returns-6 c = cc
+returns-6 c = rw (c .before .before .e5 .given .1) (c .key-answer .ensures)
 
 returns-7 : tie.Need-returns-7
 unfolding answerOf
-returns-7 c = cc
+returns-7 c = rw (c .enum-told2 .given .1)
 
 pub answer-of-spec : {M : Type 1} → statement M
 answer-of-spec =

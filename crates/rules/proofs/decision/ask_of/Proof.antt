@@ -51,31 +51,31 @@ ask-at-requires-7 c κs = search needs
 
 returns : tie.Need-returns
 unfolding askOf
-returns c = cc
+returns c = rw (c .before .enum-told .given .1) (c .ask-at .ensures)
 
 returns-2 : tie.Need-returns-2
 unfolding askOf
-returns-2 c = cc
+returns-2 c = rw (c .before .before .e .given .1) (c .ask-at2 .ensures)
 
 returns-3 : tie.Need-returns-3
 unfolding askOf
-returns-3 c = cc
+returns-3 c = rw (c .before .before .before .e2 .given .1, c .ask-at3 .ensures, c .before .access-of .ensures)
 
 returns-4 : tie.Need-returns-4
 unfolding askOf
-returns-4 c = cc
+returns-4 c = rw (c .before .before .e3 .given .1) (c .ask-at4 .ensures)
 
 returns-5 : tie.Need-returns-5
 unfolding askOf
-returns-5 c = cc
+returns-5 c = rw (c .before .enum-told2 .given .1) (c .ask-at5 .ensures)
 
 returns-6 : tie.Need-returns-6
 unfolding askOf
-returns-6 c = cc
+returns-6 c = rw (c .before .before .e4 .given .1) (c .ask-at6 .ensures)
 
 returns-7 : tie.Need-returns-7
 unfolding askOf
-returns-7 c = cc
+returns-7 c = rw (c .before .enum-told3 .given .1) (c .ask-at7 .ensures)
 
 pub ask-of-spec : {M : Type 1} → statement M
 ask-of-spec =

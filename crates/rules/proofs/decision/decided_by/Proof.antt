@@ -15,14 +15,14 @@ taken-plan-requires c κs = search needs
 
 returns : tie.Need-returns
 unfolding decidedBy
-returns c = cc
+returns c = rw (← c .before .before .before .taken .ensures, c .before .before .if1 .taken, c .taken-plan .ensures, c .before .effect-of .ensures)
 
 refused-plan-requires : tie.Need-refused-plan-requires
 refused-plan-requires c κs = search needs
 
 returns-2 : tie.Need-returns-2
 unfolding decidedBy
-returns-2 c = cc
+returns-2 c = rw (← c .before .before .taken .ensures, c .before .if1 .left) (c .refused-plan .ensures)
 
 pub decided-by-spec : {M : Type 1} → statement M
 decided-by-spec =

@@ -51,31 +51,31 @@ none-requires c κs = search needs
 
 returns : tie.Need-returns
 unfolding effectOf
-returns c = cc
+returns c = rw (c .before .before .before .e .given .1, c .card-effect .ensures, c .before .size .ensures)
 
 returns-2 : tie.Need-returns-2
 unfolding effectOf
-returns-2 c = cc
+returns-2 c = rw (c .before .before .e2 .given .1) (c .start-effect .ensures)
 
 returns-3 : tie.Need-returns-3
 unfolding effectOf
-returns-3 c = cc
+returns-3 c = rw (c .before .before .e3 .given .1) (c .message-effect .ensures)
 
 returns-4 : tie.Need-returns-4
 unfolding effectOf
-returns-4 c = cc
+returns-4 c = rw (c .before .before .e4 .given .1) (c .timer-effect .ensures)
 
 returns-5 : tie.Need-returns-5
 unfolding effectOf
-returns-5 c = cc
+returns-5 c = rw (c .before .enum-told .given .1) (c .power-effect .ensures)
 
 returns-6 : tie.Need-returns-6
 unfolding effectOf
-returns-6 c = cc
+returns-6 c = rw (c .before .before .e5 .given .1) (c .key-effect .ensures)
 
 returns-7 : tie.Need-returns-7
 unfolding effectOf
-returns-7 c = cc
+returns-7 c = rw (c .before .enum-told2 .given .1) (c .none .ensures)
 
 pub effect-of-spec : {M : Type 1} → statement M
 effect-of-spec =

@@ -27,15 +27,15 @@ none-requires c κs = search needs
 
 returns : tie.Need-returns
 unfolding messageEffect
-returns c = cc
+returns c = rw (c .before .before .m .given .1) (c .accept-effect .ensures)
 
 returns-2 : tie.Need-returns-2
 unfolding messageEffect
-returns-2 c = cc
+returns-2 c = rw (c .before .before .before .m2 .given .1, c .reject-effect .ensures, c .before .row-now .ensures)
 
 returns-3 : tie.Need-returns-3
 unfolding messageEffect
-returns-3 c = cc
+returns-3 c = rw (c .before .enum-told .given .1) (c .none .ensures)
 
 pub message-effect-spec : {M : Type 1} → statement M
 message-effect-spec =

@@ -12,7 +12,7 @@ decided-by-requires c κs = search needs
 
 returns : tie.Need-returns
 unfolding planOf
-returns c = cc
+returns c = rw (c .decided-by .ensures, c .before .answer-of .ensures)
 
 pub plan-of-spec : {M : Type 1} → statement M
 plan-of-spec = tie.close (tie.spec answer-of-requires decided-by-requires returns)

@@ -24,7 +24,7 @@ row-work-requires c κs = search needs
 
 returns : tie.Need-returns
 unfolding rejectEffect
-returns c = cc
+returns c = rw (c .row-work .ensures, c .before .reject-t3247 .ensures, c .before .before .other-turn .ensures, c .before .before .before .other-of .ensures, c .before .before .before .before .row-turn .ensures, c .before .before .before .before .before .access-of .ensures)
 
 pub reject-effect-spec : {M : Type 1} → statement M
 reject-effect-spec =
