@@ -30,7 +30,7 @@ check-requires c κs = search needs
 
 returns : tie.Need-returns
 unfolding startAnswer
-returns c = rw (c .check .ensures, c .before .start-range .ensures, c .before .before .checks .ensures, c .before .before .before .may-start .ensures, c .before .before .before .before .not .ensures, c .before .before .before .before .before .place-answer .ensures, c .before .before .before .before .before .before .before .other-of .ensures, c .before .before .before .before .before .before .before .before .access-of .ensures)
+returns c = rw (c .check .ensures, c .before .start-range .ensures, c .before .before .checks .ensures, c .before .before .before .may-start .ensures, c .before .before .before .before .not .ensures, c .before .before .before .before .before .before .place-answer .ensures, c .before .before .before .before .before .before .before .other-of .ensures, c .before .before .before .before .before .before .before .before .access-of .ensures)
 
 pub start-answer-spec : {M : Type 1} → statement M
 start-answer-spec =
