@@ -3,7 +3,7 @@ use Prim.Native.Nat.{ℕ}
 use mathlib.Core.Bool.{Bool, true, false, cond}
 use mathlib.Core.List.{List}
 use lib.ListN.{length}
-use lib.Dec.{ltb, eqb}
+use lib.Dec.{eqb}
 use Rattle.octets.specs.declared.Fault.the-variants.{Cut}
 use Rattle.record.specs.Answers.{isTaken}
 use Rattle.record.specs.declared.Access.{Access}
@@ -74,7 +74,7 @@ messageEffect h w sure draw (reading.Bad f at) s = plain h w (still (accessOf h 
 
 -- what a taken event does
 unfoldable pub effectOf : Hot → Event → Seen → Reading → List ℕ → Effect
-effectOf h (Card home) s m octets = cardEffect h home (cond (ltb (length octets) 256) (length octets) 0)
+effectOf h (Card home) s m octets = cardEffect h home (length octets)
 effectOf h (Start w manual net code) s m octets = startEffect h w net code
 effectOf h (Message w sure draw) s m octets = messageEffect h w sure draw m s
 effectOf h (Timer number w) s m octets = timerEffect h number w

@@ -70,15 +70,26 @@ fn place_answer(other: Access, w: u8, manual: u8, net: u32, s: Seen, listed: boo
 {
     let area = check(not(and(w == 0, listed)), Answer::Area, Answer::Taken);
     let apart = not(is_same(other, net));
-    checks(apart, Answer::Same, is_free(manual, s), Answer::Listed, area)
+    let free = is_free(manual, s);
+    checks(apart, Answer::Same, free, Answer::Listed, area)
 }
 
-pub(crate) fn start_answer(h: Hot, w: u8, manual: u8, net: u32, code: u32, s: Seen, listed: bool) -> Answer
+pub(crate) fn start_answer(
+    h: Hot,
+    w: u8,
+    manual: u8,
+    net: u32,
+    code: u32,
+    s: Seen,
+    listed: bool,
+) -> Answer
     ensures { λ r. ⌜ r ≡ rules.startAnswer h w manual net code s listed ⌝ }
 {
     let a = access_of(h, w);
     let place = place_answer(other_of(h, w), w, manual, net, s, listed);
-    let state = checks(not(a.state == 0), Answer::NoCard, may_start(a.state), Answer::State, place);
+    let some = not(a.state == 0);
+    let may = may_start(a.state);
+    let state = checks(some, Answer::NoCard, may, Answer::State, place);
     check(start_range(w, manual, net, code), Answer::Range, state)
 }
 
@@ -86,7 +97,13 @@ pub(crate) fn row_now(h: Hot, w: u8, sure: u8, cause: u8) -> Row
     ensures { λ r. ⌜ r ≡ rules.rowNow h w sure cause ⌝ }
 {
     let a = access_of(h, w);
-    row_of(w, sure == 0, a.net == h.dev.home, a.cards < h.dev.cardlimit, cause)
+    row_of(
+        w,
+        sure == 0,
+        a.net == h.dev.home,
+        a.cards < h.dev.cardlimit,
+        cause,
+    )
 }
 
 fn is_card(cause: u8) -> bool
@@ -136,7 +153,9 @@ pub(crate) fn message_answer(h: Hot, w: u8, sure: u8, draw: u16, m: Reading, s: 
 {
     let a = access_of(h, w);
     let read = read_answer(h, w, sure, m, s);
-    checks(message_range(w, sure, draw), Answer::Range, a.state == 4, Answer::State, read)
+    let range = message_range(w, sure, draw);
+    let four = a.state == 4;
+    checks(range, Answer::Range, four, Answer::State, read)
 }
 
 fn timer_range(number: u8, w: u8) -> bool
@@ -158,14 +177,26 @@ pub(crate) fn timer_answer(h: Hot, number: u8, w: u8) -> Answer
     ensures { λ r. ⌜ r ≡ rules.timerAnswer h number w ⌝ }
 {
     let running = not(runs(h, number, w) == 0);
-    checks(timer_range(number, w), Answer::Range, running, Answer::Idle, Answer::Taken)
+    checks(
+        timer_range(number, w),
+        Answer::Range,
+        running,
+        Answer::Idle,
+        Answer::Taken,
+    )
 }
 
 pub(crate) fn key_answer(h: Hot, w: u8, set: u8) -> Answer
     ensures { λ r. ⌜ r ≡ rules.keyAnswer h w set ⌝ }
 {
     let a = access_of(h, w);
-    checks(and(w <= 1, set <= 6), Answer::Range, a.state == 4, Answer::State, Answer::Taken)
+    checks(
+        and(w <= 1, set <= 6),
+        Answer::Range,
+        a.state == 4,
+        Answer::State,
+        Answer::Taken,
+    )
 }
 
 // The octet that opens a SUCI, 0 where there is none.

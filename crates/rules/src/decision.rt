@@ -36,9 +36,10 @@ use turns::Turn;
 use turns::clocked;
 use turns::still;
 ghost use mathlib.Core.Path.{_≡_};
-ghost use mathlib.Core.Bool.{cond, false};
-ghost use lib.Dec.{ltb};
+ghost use mathlib.Core.Bool.{true, false};
+ghost use Prim.Native.Nat.{ℕ, _<_};
 ghost use lib.ListN.{length};
+ghost use Rattle.record.specs.Answers.{isTaken};
 ghost use Rattle.turns.specs.Timers.{flagAfter};
 ghost use Rattle.turns.specs.Access as sets;
 ghost use Rattle.turns.specs.Turns as events;
@@ -51,9 +52,21 @@ pub fn heard(e: Event, octets: &[u8]) -> Reading
 {
     match e {
         Event::Card(_) => Reading::Bad(Fault::Cut, 0),
-        Event::Start { access: _, manual: _, net: _, code: _ } => Reading::Bad(Fault::Cut, 0),
-        Event::Message { access: _, sure: _, draw: _ } => messages::read(octets),
-        Event::Timer { number: _, access: _ } => Reading::Bad(Fault::Cut, 0),
+        Event::Start {
+            access: _,
+            manual: _,
+            net: _,
+            code: _,
+        } => Reading::Bad(Fault::Cut, 0),
+        Event::Message {
+            access: _,
+            sure: _,
+            draw: _,
+        } => messages::read(octets),
+        Event::Timer {
+            number: _,
+            access: _,
+        } => Reading::Bad(Fault::Cut, 0),
         Event::Power => Reading::Bad(Fault::Cut, 0),
         Event::Key { access: _, set: _ } => Reading::Bad(Fault::Cut, 0),
         Event::Unknown => Reading::Bad(Fault::Cut, 0),
@@ -77,8 +90,17 @@ pub fn ask_of(h: Hot, e: Event) -> Ask
 {
     match e {
         Event::Card(_) => ask_at(0, 0, 0, false, 0),
-        Event::Start { access, manual: _, net, code } => ask_at(access, net, code, access == 0, 0),
-        Event::Message { access, sure, draw: _ } => {
+        Event::Start {
+            access,
+            manual: _,
+            net,
+            code,
+        } => ask_at(access, net, code, access == 0, 0),
+        Event::Message {
+            access,
+            sure,
+            draw: _,
+        } => {
             let a = access_of(h, access);
             ask_at(access, a.net, a.code, false, sure)
         }
@@ -94,7 +116,12 @@ fn answer_of(h: Hot, e: Event, s: Seen, listed: bool, m: Reading, octets: &[u8])
 {
     match e {
         Event::Card(home) => card_answer(home, octets),
-        Event::Start { access, manual, net, code } => start_answer(h, access, manual, net, code, s, listed),
+        Event::Start {
+            access,
+            manual,
+            net,
+            code,
+        } => start_answer(h, access, manual, net, code, s, listed),
         Event::Message { access, sure, draw } => message_answer(h, access, sure, draw, m, s),
         Event::Timer { number, access } => timer_answer(h, number, access),
         Event::Power => Answer::Taken,
@@ -123,22 +150,19 @@ fn message_effect(h: Hot, w: u8, sure: u8, draw: u16, m: Reading, s: Seen) -> Ef
     }
 }
 
-// How many octets there are, where an octet can say it.
-fn size(octets: &[u8]) -> u8
-    ensures { λ r. ⌜ r ≡ cond (ltb (length (now (octets .entry))) 256) (length (now (octets .entry))) 0 ⌝ }
-{
-    if octets.len() < 256 {
-        return octets.len() as u8;
-    }
-    0
-}
-
+// A card that was taken has a SUCI of at most 64 octets.
 fn effect_of(h: Hot, e: Event, s: Seen, m: Reading, octets: &[u8]) -> Effect
+    requires { ⌜ ((home : ℕ) → e ≡ Event.Card home → length (now octets) < 256) ⌝ }
     ensures { λ r. ⌜ r ≡ rules.effectOf h e s m (now (octets .entry)) ⌝ }
 {
     match e {
-        Event::Card(home) => card_effect(h, home, size(octets)),
-        Event::Start { access, manual: _, net, code } => start_effect(h, access, net, code),
+        Event::Card(home) => card_effect(h, home, octets.len() as u8),
+        Event::Start {
+            access,
+            manual: _,
+            net,
+            code,
+        } => start_effect(h, access, net, code),
         Event::Message { access, sure, draw } => message_effect(h, access, sure, draw, m, s),
         Event::Timer { number, access } => timer_effect(h, number, access),
         Event::Power => power_effect(h),
@@ -231,6 +255,7 @@ fn refused_plan(h: Hot, q: Ask, s: Seen, m: Reading, n: Answer) -> Plan
 }
 
 fn decided_by(n: Answer, h: Hot, e: Event, q: Ask, s: Seen, m: Reading, octets: &[u8]) -> Plan
+    requires { ⌜ (isTaken n ≡ true → (home : ℕ) → e ≡ Event.Card home → length (now octets) < 256) ⌝ }
     ensures { λ r. ⌜ r ≡ rules.decidedBy n h e q s m (now (octets .entry)) ⌝ }
 {
     if taken(n) {

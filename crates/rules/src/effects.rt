@@ -194,7 +194,11 @@ pub(crate) fn power_effect(h: Hot) -> Effect
 fn run_if(starts: bool, draw: u16) -> Order
     ensures { λ r. ⌜ r ≡ cond starts (Run draw) Leave ⌝ }
 {
-    if starts { Order::Run(draw as u32) } else { Order::Leave }
+    if starts {
+        Order::Run(draw as u32)
+    } else {
+        Order::Leave
+    }
 }
 
 fn reject_t3247(t3247: u8, sure: u8, cause: u8, draw: u16) -> Order
@@ -227,7 +231,15 @@ fn row_work(row: Row, w: u8, cause: u8) -> Work
     work_of(row_deed(row), roaming, regional, 0)
 }
 
-pub(crate) fn reject_effect(h: Hot, w: u8, sure: u8, draw: u16, found: bool, cause: u8, row: Row) -> Effect
+pub(crate) fn reject_effect(
+    h: Hot,
+    w: u8,
+    sure: u8,
+    draw: u16,
+    found: bool,
+    cause: u8,
+    row: Row,
+) -> Effect
     ensures { λ r. ⌜ r ≡ rules.rejectEffect h w sure draw found cause row ⌝ }
 {
     let dev = h.dev;

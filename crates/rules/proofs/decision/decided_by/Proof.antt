@@ -1,5 +1,6 @@
 -- The test of the answer picks the plan. Assumes nothing.
 use Rattle.rules.specs.Plan.{decidedBy}
+use mathlib.Core.Path.{sym, _∙_}
 use borrow.Author.Needs.{needs}
 use Rattle.rules.proofs.decision.decided_by.Statement.{statement}
 use Rattle.rules.proofs.decision.decided_by.Tie as tie
@@ -8,7 +9,7 @@ taken-requires : tie.Need-taken-requires
 taken-requires c κs = search needs
 
 effect-of-requires : tie.Need-effect-of-requires
-effect-of-requires c κs = search needs
+effect-of-requires c κs = c .before .before .before .pre (sym (c .before .taken .ensures) ∙ c .if1 .taken)
 
 taken-plan-requires : tie.Need-taken-plan-requires
 taken-plan-requires c κs = search needs

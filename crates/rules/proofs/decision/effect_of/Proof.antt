@@ -1,5 +1,6 @@
--- Event by event, as the definition. Assumes nothing.
+-- Event by event, as the definition; the length of a card that is taken fits an octet. Assumes nothing.
 use Rattle.rules.specs.Plan.{effectOf}
+use native.Mathlib.Omega.{arith}
 use borrow.Author.Needs.{needs}
 use Rattle.rules.proofs.decision.effect_of.Statement.{statement}
 use Rattle.rules.proofs.decision.effect_of.Tie as tie
@@ -7,8 +8,8 @@ use Rattle.rules.proofs.decision.effect_of.Tie as tie
 enum-known-e : tie.Need-enum-known-e
 enum-known-e c = search needs
 
-size-requires : tie.Need-size-requires
-size-requires c κs = search needs
+cast-card-effect : tie.Need-cast-card-effect
+cast-card-effect c = omega (arith, c .before .before .before .before .pre _ (c .before .e .given .1))
 
 card-effect-requires : tie.Need-card-effect-requires
 card-effect-requires c κs = search needs
@@ -51,7 +52,7 @@ none-requires c κs = search needs
 
 returns : tie.Need-returns
 unfolding effectOf
-returns c = rw (c .before .before .before .e .given .1, c .card-effect .ensures, c .before .size .ensures)
+returns c = rw (c .before .before .e .given .1) (c .card-effect .ensures)
 
 returns-2 : tie.Need-returns-2
 unfolding effectOf
@@ -82,7 +83,7 @@ effect-of-spec =
     tie.close
     (tie.spec
     enum-known-e
-    size-requires
+    cast-card-effect
     card-effect-requires
     enum-known-e-2
     start-effect-requires
