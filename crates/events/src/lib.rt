@@ -1,12 +1,16 @@
 // An event on the whole record: the core over lent columns and lists, what it leaves to keep, and the step by value.
-mod core;
-mod keep;
-//mod step;
+mod held;
+mod lent;
+mod value;
 
+pub use held::keep;
+pub use lent::core;
 use record::Hot;
 use record::Record;
 use rules::Plan;
 use rules::Reply;
+pub use value::advance;
+pub use value::step;
 
 // The answer with what is told, and the record after the event.
 pub struct Outcome {
