@@ -1,0 +1,5 @@
+-- A record stays valid.
+pub mod Bools
+pub mod Arrays
+pub mod Good
+pub mod Valid
