@@ -3,3 +3,5 @@ pub mod Bools
 pub mod Arrays
 pub mod Good
 pub mod Valid
+pub mod Setters
+pub mod Turns
