@@ -5,3 +5,4 @@ pub mod Good
 pub mod Valid
 pub mod Setters
 pub mod Turns
+pub mod Entries
