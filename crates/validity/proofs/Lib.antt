@@ -6,3 +6,5 @@ pub mod Valid
 pub mod Setters
 pub mod Turns
 pub mod Entries
+pub mod Filter
+pub mod Areas
