@@ -8,3 +8,5 @@ pub mod Turns
 pub mod Entries
 pub mod Filter
 pub mod Areas
+pub mod Sizes
+pub mod Refusal
