@@ -10,3 +10,4 @@ pub mod Filter
 pub mod Areas
 pub mod Sizes
 pub mod Refusal
+pub mod Messages
