@@ -26,6 +26,11 @@ pub either-second : (a b : Bool) → either a b ≡ true → a ≡ false → b �
 either-second true b e q = absurd (true≢false q)
 either-second false b e q = e
 
+-- the second fails, so the first holds
+pub either-left : (a b : Bool) → either a b ≡ true → b ≡ false → a ≡ true
+either-left true b e q = refl
+either-left false b e q = absurd (true≢false (sym e ∙ q))
+
 pub either-first : (a b : Bool) → a ≡ true → either a b ≡ true
 either-first true b q = refl
 either-first false b q = absurd (false≢true q)

@@ -11,3 +11,5 @@ pub mod Areas
 pub mod Sizes
 pub mod Refusal
 pub mod Messages
+pub mod Next
+pub mod Own

@@ -39,17 +39,22 @@ pub taken-plan : (r : Record) (e : Event) (octets : List ℕ) → isTaken (answe
 unfolding advanceOf partsAfter plannedOf planOf decidedBy answeredBy
 taken-plan r e octets q = rw q
 
-idle-deed : (deed w me : ℕ) → deed ≡ 0 → mineOf deed w me ≡ 0
+-- a deed of kind 0 leaves the entries as they are
+pub table-idle : (p : Plan) (me count : ℕ) (h : Hot) (t : Entries) → mineOf (p .work .deed) (p .ask .access) me ≡ 0 → tableAfter p me count h t ≡ t
+unfolding tableAfter entriesAfter deedOf
+table-idle p me count h t e = rw e
+
+idle-mine : (w me : ℕ) → mineOf 0 w me ≡ 0
 unfolding mineOf
-idle-deed deed w me e = rw e (elim (eqb w me) as (λ b. cond {A = ℕ} b 0 0 ≡ 0) [ true ↦ refl | false ↦ refl ])
+idle-mine w me = elim (eqb w me) as (λ b. cond {A = ℕ} b 0 0 ≡ 0) [ true ↦ refl | false ↦ refl ]
 
 module _ (r : Record) (q : Ask) (s : Seen) (m : Reading) (n : Answer) where
   abbrev p : Plan
   p = refusedPlan (r .hot) q s m n
 
   table-stays : (me count : ℕ) (t : Entries) → tableAfter p me count (r .hot) t ≡ t
-  unfolding tableAfter entriesAfter deedOf refusedPlan
-  table-stays me count t = rw (idle-deed 0 (q .access) me refl)
+  unfolding refusedPlan
+  table-stays me count t = table-idle p me count (r .hot) t (idle-mine (q .access) me)
 
   pub refused-carry : (octets : List ℕ) → carry r octets p ≡ record { reply = refusedReply n (q .access); next = r }
   unfolding joinedOf together carriedOut doneOf listed refusedPlan keptAfter gutiAfter equivalentsAfter suciAfter listAfter countAfter

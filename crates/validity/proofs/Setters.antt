@@ -40,7 +40,7 @@ network-short n e =
     (both (isDigit (half 16 n)) (isDigit (half 1 n)))))))
     e
 
-flag-after : (o : Order) (n : ℕ) → isFlag n ≡ true → isFlag (flagAfter o n) ≡ true
+pub flag-after : (o : Order) (n : ℕ) → isFlag n ≡ true → isFlag (flagAfter o n) ≡ true
 unfolding flagAfter
 flag-after Leave n e = e
 flag-after Stop n e = refl
