@@ -88,3 +88,39 @@ module _ (r : Record) (g : Good r) where
         (half-turned (r .hot .dev) (r .hot .a1 .equivalents) (r .hot .a1 .entries) (after t) (r .equivalents1) (r .e1) u (g .half1 .equals) (g .half1 .held)))
         first-still
     plain-good m (suc (suc w)) h t restart u = absurd (no-third w h)
+
+    -- an accept: its equivalents are the message's, and its mark clears
+    pub accept-good : (w : ℕ) → isFlag w ≡ true → (a : Accept) → upTo 15 (a .count) ≡ true → upTo 11160 (a .wait) ≡ true → Octets octets → eqb (r .hot .dev .card) 1 ≡ true
+        → Good (carry r octets (takenPlan (r .hot) (askAt w net code area sure) s (reading.Accept a) (acceptEffect (r .hot) w a)) .next)
+    unfolding accessOf otherOf takenPlan acceptEffect giftOf tableAfter entriesAfter deedOf mineOf equivalentsAfter
+    accept-good zero h a p q o c =
+        own-first r g z octets net code area sure s (reading.Accept a) (accepted (a .given) (a .count) (cond (a .timed) (a .wait) 720) (r .hot .a0)) (still (r .hot .a1)) Leave 3 0 0 1 false
+        refl refl (λ e. absurd (false≢true e)) (λ e. absurd (false≢true e))
+        (half-turned (r .hot .dev) (a .count) (r .hot .a0 .entries) (after (accepted (a .given) (a .count) (cond (a .timed) (a .wait) 720) (r .hot .a0)))
+        (copied (a .count) (networksOf (drop (a .triplets) octets)) (r .equivalents0)) (Rattle.entries.specs.Entries.accepted (deed 0) (r .e0))
+        (accepted-turned (r .hot .dev .card) (r .hot .dev .cardlimit) (r .hot .a0) (g .half0 .fit) c (a .given) (a .count) (cond (a .timed) (a .wait) 720) p wait)
+        (copied-short (a .count) (a .triplets) octets (r .equivalents0) o)
+        (accepted-held (r .hot .dev .banlimit) (r .hot .dev .n1limit) (r .hot .a0 .entries) (r .e0) (z .e0) (g .half0 .held) (deed 0)))
+        second-still
+      where
+        deed : ℕ → Deed
+        deed me = deedOf (takenPlan (r .hot) (askAt 0 net code area sure) s (reading.Accept a) (acceptEffect (r .hot) 0 a)) me
+
+        wait : upTo 11160 (cond (a .timed) (a .wait) 720) ≡ true
+        wait = elim (a .timed) as (λ b. upTo 11160 (cond b (a .wait) 720) ≡ true) [ true ↦ q | false ↦ refl ]
+    accept-good (suc zero) h a p q o c =
+        own-second r g z octets net code area sure s (reading.Accept a) (accepted (a .given) (a .count) (cond (a .timed) (a .wait) 720) (r .hot .a1)) (still (r .hot .a0)) Leave 3 0 0 1 false
+        refl refl (λ e. absurd (false≢true e)) (λ e. absurd (false≢true e))
+        (half-turned (r .hot .dev) (a .count) (r .hot .a1 .entries) (after (accepted (a .given) (a .count) (cond (a .timed) (a .wait) 720) (r .hot .a1)))
+        (copied (a .count) (networksOf (drop (a .triplets) octets)) (r .equivalents1)) (Rattle.entries.specs.Entries.accepted (deed 1) (r .e1))
+        (accepted-turned (r .hot .dev .card) (r .hot .dev .cardlimit) (r .hot .a1) (g .half1 .fit) c (a .given) (a .count) (cond (a .timed) (a .wait) 720) p wait)
+        (copied-short (a .count) (a .triplets) octets (r .equivalents1) o)
+        (accepted-held (r .hot .dev .banlimit) (r .hot .dev .n1limit) (r .hot .a1 .entries) (r .e1) (z .e1) (g .half1 .held) (deed 1)))
+        first-still
+      where
+        deed : ℕ → Deed
+        deed me = deedOf (takenPlan (r .hot) (askAt 1 net code area sure) s (reading.Accept a) (acceptEffect (r .hot) 1 a)) me
+
+        wait : upTo 11160 (cond (a .timed) (a .wait) 720) ≡ true
+        wait = elim (a .timed) as (λ b. upTo 11160 (cond b (a .wait) 720) ≡ true) [ true ↦ q | false ↦ refl ]
+    accept-good (suc (suc w)) h a p q o c = absurd (no-third w h)
