@@ -13,3 +13,4 @@ pub mod Refusal
 pub mod Messages
 pub mod Next
 pub mod Own
+pub mod Common

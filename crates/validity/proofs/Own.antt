@@ -11,7 +11,7 @@ use Rattle.laws.specs.Upto.{copied}
 use Rattle.entries.specs.declared.Entries.{Entries}
 use Rattle.entries.specs.declared.Seen.{Seen}
 use Rattle.entries.specs.declared.Deed.{Deed}
-use Rattle.entries.specs.Entries.{seenIn, entriesAfter}
+use Rattle.entries.specs.Entries.{seenIn, banned, barredBy, entriesAfter}
 use Rattle.messages.specs.declared.Accept.{Accept}
 use Rattle.messages.specs.declared.Reading.{Reading}
 use Rattle.messages.specs.declared.Reading.the-variants as reading
@@ -124,3 +124,72 @@ module _ (r : Record) (g : Good r) where
         wait : upTo 11160 (cond (a .timed) (a .wait) 720) ≡ true
         wait = elim (a .timed) as (λ b. upTo 11160 (cond b (a .wait) 720) ≡ true) [ true ↦ q | false ↦ refl ]
     accept-good (suc (suc w)) h a p q o c = absurd (no-third w h)
+
+-- the entries by the row: a ban, a bar, or nothing
+row-held : (banlimit n1limit n : ℕ) (t : Entries) → Columns t → Held banlimit n1limit n t → (row : Row) (k : Deed) → k .kind ≡ rowDeed row
+    → (needsEntry row ≡ true → Sought n (k .net) (k .at) (k .found) (t .nets)) → isNetwork (k .net) ≡ true
+    → Held banlimit n1limit (cond (needsEntry row) (grown (k .found) n) n) (entriesAfter k n banlimit n1limit t)
+unfolding entriesAfter rowDeed needsEntry banned barredBy
+row-held banlimit n1limit n t w g CardBelow k e f net = rw e g
+row-held banlimit n1limit n t w g CardLimit k e f net = rw e g
+row-held banlimit n1limit n t w g CardProtected k e f net = rw e g
+row-held banlimit n1limit n t w g Away k e f net = rw e (banned-held banlimit n1limit n t w g k (f refl) net)
+row-held banlimit n1limit n t w g Home k e f net = rw e g
+row-held banlimit n1limit n t w g Area k e f net = rw e g
+row-held banlimit n1limit n t w g N1 k e f net = rw e (barred-held banlimit n1limit n t w g k (f refl) net)
+row-held banlimit n1limit n t w g Protocol k e f net = rw e g
+row-held banlimit n1limit n t w g Other k e f net = rw e g
+
+row-early : (row : Row) → leb 4 (rowDeed row) ≡ false
+unfolding rowDeed
+row-early CardBelow = refl
+row-early CardLimit = refl
+row-early CardProtected = refl
+row-early Away = refl
+row-early Home = refl
+row-early Area = refl
+row-early N1 = refl
+row-early Protocol = refl
+row-early Other = refl
+
+module _ (r : Record) (g : Good r) (z : Sized r) (octets : List ℕ) (sure draw cause : ℕ) (row : Row) (c : eqb (r .hot .dev .card) 1 ≡ true) where
+  -- a reject asks about the pending network and area
+  abbrev pub pendingAsk : ℕ → Ask
+  pendingAsk w = askAt w (accessOf (r .hot) w .net) (accessOf (r .hot) w .code) false sure
+
+  abbrev pub pendingSeen : ℕ → Seen
+  pendingSeen w = seenOf (pendingAsk w) (r .hot) (r .e0) (r .e1)
+
+  abbrev rejectPlan : ℕ → Plan
+  rejectPlan w = takenPlan (r .hot) (pendingAsk w) (pendingSeen w) (reading.Reject cause) (rejectEffect (r .hot) w sure draw (pendingSeen w .found) cause row)
+
+  -- a reject, by its row, where an entry that it needs has room
+  pub reject-good : (w : ℕ) → isFlag w ≡ true → (needsEntry row ≡ true → ltb (pendingSeen w .at) 16 ≡ true) → Good (carry r octets (rejectPlan w) .next)
+  unfolding accessOf otherOf takenPlan rejectEffect rowWork tableAfter deedOf seenOf
+  reject-good zero h f =
+      own-first r g z octets (r .hot .a0 .net) (r .hot .a0 .code) false sure (pendingSeen 0) (reading.Reject cause)
+      (rowTurn row 0 (r .hot .dev .cardlimit) cause (pendingSeen 0 .found) (r .hot .a0)) (otherTurn row (r .hot .dev .cardlimit) (r .hot .a1)) (rejectT3247 (r .hot .dev .t3247) sure cause draw)
+      (rowDeed row) (cond (toRoaming 0 cause row) 1 0) (cond (toRegional cause row) 1 0) 0 false (row-early row) refl
+      (λ _. (network-short (r .hot .a0 .net) (g .half0 .fit .pending .0), g .half0 .fit .pending .1)) (λ _. (network-short (r .hot .a0 .net) (g .half0 .fit .pending .0), g .half0 .fit .pending .1))
+      (rw (equivalents-stay (rejectPlan 0) 0 octets (r .equivalents0) refl refl)
+      (half-turned (r .hot .dev) (r .hot .a0 .equivalents) (cond (needsEntry row) (grown (pendingSeen 0 .found) (r .hot .a0 .entries)) (r .hot .a0 .entries))
+      (after (rowTurn row 0 (r .hot .dev .cardlimit) cause (pendingSeen 0 .found) (r .hot .a0))) (r .equivalents0) (tableAfter (rejectPlan 0) 0 (r .hot .a0 .entries) (r .hot) (r .e0))
+      (row-turned (r .hot .dev .card) (r .hot .dev .cardlimit) (r .hot .a0) (g .half0 .fit) c row 0 cause (pendingSeen 0 .found))
+      (g .half0 .equals)
+      (row-held (r .hot .dev .banlimit) (r .hot .dev .n1limit) (r .hot .a0 .entries) (r .e0) (z .e0) (g .half0 .held) row (deedOf (rejectPlan 0) 0) (mine-is (rowDeed row) 0 0 refl)
+      (λ e. sought (r .hot .a0 .entries) (r .hot .a0 .net) (r .e0 .nets) (r .e0 .forbidden) (r .e0 .barred) (g .half0 .fit .entries) (f e)) (g .half0 .fit .pending .0))))
+      (other-turned (r .hot .dev .card) (r .hot .dev .cardlimit) (r .hot .a1) (g .half1 .fit) (g .half1 .timely) (g .half1 .carded) row)
+  reject-good (suc zero) h f =
+      own-second r g z octets (r .hot .a1 .net) (r .hot .a1 .code) false sure (pendingSeen 1) (reading.Reject cause)
+      (rowTurn row 1 (r .hot .dev .cardlimit) cause (pendingSeen 1 .found) (r .hot .a1)) (otherTurn row (r .hot .dev .cardlimit) (r .hot .a0)) (rejectT3247 (r .hot .dev .t3247) sure cause draw)
+      (rowDeed row) (cond (toRoaming 1 cause row) 1 0) (cond (toRegional cause row) 1 0) 0 false (row-early row) refl
+      (λ _. (network-short (r .hot .a1 .net) (g .half1 .fit .pending .0), g .half1 .fit .pending .1)) (λ _. (network-short (r .hot .a1 .net) (g .half1 .fit .pending .0), g .half1 .fit .pending .1))
+      (rw (equivalents-stay (rejectPlan 1) 1 octets (r .equivalents1) refl refl)
+      (half-turned (r .hot .dev) (r .hot .a1 .equivalents) (cond (needsEntry row) (grown (pendingSeen 1 .found) (r .hot .a1 .entries)) (r .hot .a1 .entries))
+      (after (rowTurn row 1 (r .hot .dev .cardlimit) cause (pendingSeen 1 .found) (r .hot .a1))) (r .equivalents1) (tableAfter (rejectPlan 1) 1 (r .hot .a1 .entries) (r .hot) (r .e1))
+      (row-turned (r .hot .dev .card) (r .hot .dev .cardlimit) (r .hot .a1) (g .half1 .fit) c row 1 cause (pendingSeen 1 .found))
+      (g .half1 .equals)
+      (row-held (r .hot .dev .banlimit) (r .hot .dev .n1limit) (r .hot .a1 .entries) (r .e1) (z .e1) (g .half1 .held) row (deedOf (rejectPlan 1) 1) (mine-is (rowDeed row) 1 1 refl)
+      (λ e. sought (r .hot .a1 .entries) (r .hot .a1 .net) (r .e1 .nets) (r .e1 .forbidden) (r .e1 .barred) (g .half1 .fit .entries) (f e)) (g .half1 .fit .pending .0))))
+      (other-turned (r .hot .dev .card) (r .hot .dev .cardlimit) (r .hot .a0) (g .half0 .fit) (g .half0 .timely) (g .half0 .carded) row)
+  reject-good (suc (suc w)) h f = absurd (no-third w h)
