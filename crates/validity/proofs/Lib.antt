@@ -14,3 +14,4 @@ pub mod Messages
 pub mod Next
 pub mod Own
 pub mod Common
+pub mod Taken
