@@ -15,3 +15,4 @@ pub mod Next
 pub mod Own
 pub mod Common
 pub mod Taken
+pub mod Kept

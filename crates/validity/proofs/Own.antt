@@ -152,42 +152,42 @@ row-early N1 = refl
 row-early Protocol = refl
 row-early Other = refl
 
+-- a reject asks about the pending network and area
+abbrev pub pendingAsk : Record → ℕ → ℕ → Ask
+pendingAsk r sure w = askAt w (accessOf (r .hot) w .net) (accessOf (r .hot) w .code) false sure
+
+abbrev pub pendingSeen : Record → ℕ → ℕ → Seen
+pendingSeen r sure w = seenOf (pendingAsk r sure w) (r .hot) (r .e0) (r .e1)
+
 module _ (r : Record) (g : Good r) (z : Sized r) (octets : List ℕ) (sure draw cause : ℕ) (row : Row) (c : eqb (r .hot .dev .card) 1 ≡ true) where
-  -- a reject asks about the pending network and area
-  abbrev pub pendingAsk : ℕ → Ask
-  pendingAsk w = askAt w (accessOf (r .hot) w .net) (accessOf (r .hot) w .code) false sure
-
-  abbrev pub pendingSeen : ℕ → Seen
-  pendingSeen w = seenOf (pendingAsk w) (r .hot) (r .e0) (r .e1)
-
   abbrev rejectPlan : ℕ → Plan
-  rejectPlan w = takenPlan (r .hot) (pendingAsk w) (pendingSeen w) (reading.Reject cause) (rejectEffect (r .hot) w sure draw (pendingSeen w .found) cause row)
+  rejectPlan w = takenPlan (r .hot) (pendingAsk r sure w) (pendingSeen r sure w) (reading.Reject cause) (rejectEffect (r .hot) w sure draw (pendingSeen r sure w .found) cause row)
 
   -- a reject, by its row, where an entry that it needs has room
-  pub reject-good : (w : ℕ) → isFlag w ≡ true → (needsEntry row ≡ true → ltb (pendingSeen w .at) 16 ≡ true) → Good (carry r octets (rejectPlan w) .next)
+  pub reject-good : (w : ℕ) → isFlag w ≡ true → (needsEntry row ≡ true → ltb (pendingSeen r sure w .at) 16 ≡ true) → Good (carry r octets (rejectPlan w) .next)
   unfolding accessOf otherOf takenPlan rejectEffect rowWork tableAfter deedOf seenOf
   reject-good zero h f =
-      own-first r g z octets (r .hot .a0 .net) (r .hot .a0 .code) false sure (pendingSeen 0) (reading.Reject cause)
-      (rowTurn row 0 (r .hot .dev .cardlimit) cause (pendingSeen 0 .found) (r .hot .a0)) (otherTurn row (r .hot .dev .cardlimit) (r .hot .a1)) (rejectT3247 (r .hot .dev .t3247) sure cause draw)
+      own-first r g z octets (r .hot .a0 .net) (r .hot .a0 .code) false sure (pendingSeen r sure 0) (reading.Reject cause)
+      (rowTurn row 0 (r .hot .dev .cardlimit) cause (pendingSeen r sure 0 .found) (r .hot .a0)) (otherTurn row (r .hot .dev .cardlimit) (r .hot .a1)) (rejectT3247 (r .hot .dev .t3247) sure cause draw)
       (rowDeed row) (cond (toRoaming 0 cause row) 1 0) (cond (toRegional cause row) 1 0) 0 false (row-early row) refl
       (λ _. (network-short (r .hot .a0 .net) (g .half0 .fit .pending .0), g .half0 .fit .pending .1)) (λ _. (network-short (r .hot .a0 .net) (g .half0 .fit .pending .0), g .half0 .fit .pending .1))
       (rw (equivalents-stay (rejectPlan 0) 0 octets (r .equivalents0) refl refl)
-      (half-turned (r .hot .dev) (r .hot .a0 .equivalents) (cond (needsEntry row) (grown (pendingSeen 0 .found) (r .hot .a0 .entries)) (r .hot .a0 .entries))
-      (after (rowTurn row 0 (r .hot .dev .cardlimit) cause (pendingSeen 0 .found) (r .hot .a0))) (r .equivalents0) (tableAfter (rejectPlan 0) 0 (r .hot .a0 .entries) (r .hot) (r .e0))
-      (row-turned (r .hot .dev .card) (r .hot .dev .cardlimit) (r .hot .a0) (g .half0 .fit) c row 0 cause (pendingSeen 0 .found))
+      (half-turned (r .hot .dev) (r .hot .a0 .equivalents) (cond (needsEntry row) (grown (pendingSeen r sure 0 .found) (r .hot .a0 .entries)) (r .hot .a0 .entries))
+      (after (rowTurn row 0 (r .hot .dev .cardlimit) cause (pendingSeen r sure 0 .found) (r .hot .a0))) (r .equivalents0) (tableAfter (rejectPlan 0) 0 (r .hot .a0 .entries) (r .hot) (r .e0))
+      (row-turned (r .hot .dev .card) (r .hot .dev .cardlimit) (r .hot .a0) (g .half0 .fit) c row 0 cause (pendingSeen r sure 0 .found))
       (g .half0 .equals)
       (row-held (r .hot .dev .banlimit) (r .hot .dev .n1limit) (r .hot .a0 .entries) (r .e0) (z .e0) (g .half0 .held) row (deedOf (rejectPlan 0) 0) (mine-is (rowDeed row) 0 0 refl)
       (λ e. sought (r .hot .a0 .entries) (r .hot .a0 .net) (r .e0 .nets) (r .e0 .forbidden) (r .e0 .barred) (g .half0 .fit .entries) (f e)) (g .half0 .fit .pending .0))))
       (other-turned (r .hot .dev .card) (r .hot .dev .cardlimit) (r .hot .a1) (g .half1 .fit) (g .half1 .timely) (g .half1 .carded) row)
   reject-good (suc zero) h f =
-      own-second r g z octets (r .hot .a1 .net) (r .hot .a1 .code) false sure (pendingSeen 1) (reading.Reject cause)
-      (rowTurn row 1 (r .hot .dev .cardlimit) cause (pendingSeen 1 .found) (r .hot .a1)) (otherTurn row (r .hot .dev .cardlimit) (r .hot .a0)) (rejectT3247 (r .hot .dev .t3247) sure cause draw)
+      own-second r g z octets (r .hot .a1 .net) (r .hot .a1 .code) false sure (pendingSeen r sure 1) (reading.Reject cause)
+      (rowTurn row 1 (r .hot .dev .cardlimit) cause (pendingSeen r sure 1 .found) (r .hot .a1)) (otherTurn row (r .hot .dev .cardlimit) (r .hot .a0)) (rejectT3247 (r .hot .dev .t3247) sure cause draw)
       (rowDeed row) (cond (toRoaming 1 cause row) 1 0) (cond (toRegional cause row) 1 0) 0 false (row-early row) refl
       (λ _. (network-short (r .hot .a1 .net) (g .half1 .fit .pending .0), g .half1 .fit .pending .1)) (λ _. (network-short (r .hot .a1 .net) (g .half1 .fit .pending .0), g .half1 .fit .pending .1))
       (rw (equivalents-stay (rejectPlan 1) 1 octets (r .equivalents1) refl refl)
-      (half-turned (r .hot .dev) (r .hot .a1 .equivalents) (cond (needsEntry row) (grown (pendingSeen 1 .found) (r .hot .a1 .entries)) (r .hot .a1 .entries))
-      (after (rowTurn row 1 (r .hot .dev .cardlimit) cause (pendingSeen 1 .found) (r .hot .a1))) (r .equivalents1) (tableAfter (rejectPlan 1) 1 (r .hot .a1 .entries) (r .hot) (r .e1))
-      (row-turned (r .hot .dev .card) (r .hot .dev .cardlimit) (r .hot .a1) (g .half1 .fit) c row 1 cause (pendingSeen 1 .found))
+      (half-turned (r .hot .dev) (r .hot .a1 .equivalents) (cond (needsEntry row) (grown (pendingSeen r sure 1 .found) (r .hot .a1 .entries)) (r .hot .a1 .entries))
+      (after (rowTurn row 1 (r .hot .dev .cardlimit) cause (pendingSeen r sure 1 .found) (r .hot .a1))) (r .equivalents1) (tableAfter (rejectPlan 1) 1 (r .hot .a1 .entries) (r .hot) (r .e1))
+      (row-turned (r .hot .dev .card) (r .hot .dev .cardlimit) (r .hot .a1) (g .half1 .fit) c row 1 cause (pendingSeen r sure 1 .found))
       (g .half1 .equals)
       (row-held (r .hot .dev .banlimit) (r .hot .dev .n1limit) (r .hot .a1 .entries) (r .e1) (z .e1) (g .half1 .held) row (deedOf (rejectPlan 1) 1) (mine-is (rowDeed row) 1 1 refl)
       (λ e. sought (r .hot .a1 .entries) (r .hot .a1 .net) (r .e1 .nets) (r .e1 .forbidden) (r .e1 .barred) (g .half1 .fit .entries) (f e)) (g .half1 .fit .pending .0))))
