@@ -6,7 +6,7 @@ use mathlib.Core.Bool.{Bool, true, false, cond}
 use mathlib.Core.List.{List, [], _∷_, _++_}
 use mathlib.Core.Logic.{_≢_}
 use native.Mathlib.Omega.{arith}
-use lib.Dec.{leb, ltb, eqb}
+use lib.Dec.{ltb, eqb}
 use lib.ListN.{length, getD, set, take, drop, replicate, length-drop, List·getD-append}
 use lib.Seq.{getD-append-seam}
 use borrow.Author.Tests.{leb-true, le-leb, ltb-true, ltb-false, lt-ltb, eqb-true, eqb-false}
@@ -15,7 +15,7 @@ use Rattle.areas.specs.declared.Task.{Task}
 use Rattle.areas.specs.Areas.{kept, areaOf, isProtected, sameArea, sizeOf, placeIn, listedIn, marked, remarked, placed, placedCount, stayed, sweptList, listAfter, countAfter}
 use Rattle.record.specs.Tests.{upTo, isShort}
 use Rattle.record.specs.Valid.{isItem, halved}
-use Rattle.validity.proofs.Arrays.{All, Once, seek-le, seek-found, seek-before, set-same, set-other, set-reads}
+use Rattle.validity.proofs.Arrays.{seek-found, seek-before, set-same, set-other, set-reads}
 use Rattle.validity.proofs.Good.{Listing}
 use Rattle.validity.proofs.Filter.{kept-le, kept-all, kept-once}
 

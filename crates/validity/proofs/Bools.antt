@@ -1,9 +1,9 @@
 -- Tests that hold: both, either one, a bound, and an answer that passed a check. Each is by cases on the test. Assumes nothing.
-use Prim.Native.Nat.{ℕ, _≤_, _<_}
+use Prim.Native.Nat.{ℕ, _≤_}
 use mathlib.Core.Path.{_≡_, refl, sym, _∙_}
-use mathlib.Core.Bool.{Bool, true, false, cond, true≢false, false≢true}
-use lib.Dec.{leb, ltb, eqb}
-use borrow.Author.Tests.{leb-true, le-leb, eqb-true, eqb-false, eq-eqb}
+use mathlib.Core.Bool.{Bool, true, false, true≢false, false≢true}
+use lib.Dec.{leb}
+use borrow.Author.Tests.{leb-true, le-leb}
 use Rattle.record.specs.Tests.{both, either, flip, within}
 use Rattle.record.specs.declared.Answer.{Answer}
 use Rattle.record.specs.Answers.{isTaken}

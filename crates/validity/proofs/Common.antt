@@ -1,27 +1,23 @@
 -- The events of both accesses keep the record good: T3247 out, a power cycle, a card change. Assumes nothing.
-use Prim.Native.Nat.{ℕ, zero, suc, _≤_, _<_}
-use mathlib.Core.Path.{_≡_, refl, sym, _∙_, ap}
-use mathlib.Core.Bool.{Bool, true, false, cond, false≢true}
+use Prim.Native.Nat.{ℕ, zero, suc, _<_}
+use mathlib.Core.Path.{_≡_, refl}
+use mathlib.Core.Bool.{Bool, true, false≢true}
 use mathlib.Core.List.{List, [], _∷_}
 use native.Mathlib.Omega.{arith}
-use lib.Dec.{leb, ltb, eqb}
+use lib.Dec.{eqb}
 use lib.ListN.{length, getD}
-use borrow.Author.Tests.{leb-true}
-use Rattle.laws.specs.Upto.{upto, first, copied}
-use Rattle.entries.specs.declared.Entries.{Entries}
+use Rattle.laws.specs.Upto.{upto, copied}
 use Rattle.entries.specs.declared.Seen.{Seen}
 use Rattle.entries.specs.Entries.{swept, cycled, none, entriesAfter}
-use Rattle.areas.specs.Areas.{listAfter, countAfter}
 use Rattle.messages.specs.declared.Reading.{Reading}
 use Rattle.record.specs.declared.Record.{Record}
-use Rattle.record.specs.Tests.{within, isFlag, isShort}
+use Rattle.record.specs.Tests.{within, isShort}
 use Rattle.record.specs.Network.{isNetwork}
 use Rattle.record.specs.New.{zeros}
 use Rattle.record.specs.Valid.{suciOf}
-use Rattle.turns.specs.declared.Order.the-variants.{Leave, Stop, Run}
+use Rattle.turns.specs.declared.Order.the-variants.{Stop}
 use Rattle.turns.specs.Timers.{flagAfter}
 use Rattle.turns.specs.Turns as turns
-use Rattle.rules.specs.declared.Plan.{Plan}
 use Rattle.rules.specs.Hot.{hotOf}
 use Rattle.rules.specs.Effects.{ticked, carded, cardEffect, t3247Effect, powerEffect}
 use Rattle.rules.specs.Plan.{askAt, hotAfter, takenPlan}
@@ -29,10 +25,10 @@ use Rattle.events.specs.Parts.{mineOf, deedOf, tableAfter, taskOf, equivalentsA
 use Rattle.validity.specs.Sized.{Sized}
 use Rattle.validity.proofs.Bools.{within-low}
 use Rattle.validity.proofs.Arrays.{All}
-use Rattle.validity.proofs.Good.{Fair, Held, Listing, Half, Good}
-use Rattle.validity.proofs.Turns.{after, Turned, still-turned, cycled-turned, renewed-turned}
+use Rattle.validity.proofs.Good.{Good}
+use Rattle.validity.proofs.Turns.{after, still-turned, cycled-turned, renewed-turned}
 use Rattle.validity.proofs.Entries.{swept-held, cycled-held, none-held}
-use Rattle.validity.proofs.Areas.{list-kept, none-listing}
+use Rattle.validity.proofs.Areas.{list-kept}
 use Rattle.validity.proofs.Refusal.{carry}
 use Rattle.validity.proofs.Next.{good-next, half-turned, ticked-fair}
 

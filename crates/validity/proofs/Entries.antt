@@ -2,18 +2,17 @@
 -- so no network stands twice; counters stop at their limits; marks stay marks. Assumes nothing.
 use Prim.Native.Nat.{ℕ, _+_, _≤_, _<_}
 use mathlib.Core.Path.{_≡_, refl, sym, _∙_, ap}
-use mathlib.Core.Bool.{Bool, true, false, cond, true≢false, false≢true}
+use mathlib.Core.Bool.{Bool, true, false, cond}
 use mathlib.Core.List.{List}
 use mathlib.Core.Logic.{_≢_}
 use native.Mathlib.Omega.{arith}
-use lib.Dec.{leb, ltb, eqb}
-use lib.ListN.{length, getD, set, replicate, getD-replicate, length-replicate, length-set}
-use borrow.Author.Tests.{leb-true, le-leb, ltb-true, ltb-false, lt-ltb, le-ltb, eqb-true, eqb-false}
+use lib.Dec.{ltb, eqb}
+use lib.ListN.{length, getD, set, getD-replicate}
+use borrow.Author.Tests.{leb-true, le-leb, ltb-true, ltb-false, lt-ltb, eqb-true, eqb-false}
 use Rattle.laws.specs.Upto.{upto, seekTo}
 use Rattle.entries.specs.declared.Entries.{Entries}
-use Rattle.entries.specs.declared.Seen.{Seen}
 use Rattle.entries.specs.declared.Deed.{Deed}
-use Rattle.entries.specs.Entries.{sameNet, sizeOf, placeIn, seenIn, liftMark, bumped, putAt, clearUnless, raised, banned, barredBy, accepted, swept, cycled, none, entriesAfter}
+use Rattle.entries.specs.Entries.{sameNet, sizeOf, placeIn, seenIn, liftMark, bumped, putAt, clearUnless, raised, banned, barredBy, accepted, swept, cycled}
 use Rattle.record.specs.Tests.{upTo, isFlag}
 use Rattle.record.specs.Network.{isNetwork}
 use Rattle.record.specs.Valid.{itself}

@@ -1,28 +1,26 @@
 -- A valid record is valid after each event: a refusal leaves it, and a taken event has passed the checks that its effect needs. Assumes nothing.
-use Prim.Native.Nat.{ℕ, _≤_, _<_}
-use mathlib.Core.Path.{_≡_, refl, sym, _∙_, ap}
-use mathlib.Core.Bool.{Bool, true, false, cond, true≢false, false≢true}
+use Prim.Native.Nat.{ℕ}
+use mathlib.Core.Path.{_≡_, refl}
+use mathlib.Core.Bool.{Bool, true, false, cond, false≢true}
 use mathlib.Core.List.{List}
 use native.Mathlib.Omega.{arith}
-use lib.Dec.{leb, ltb, eqb}
-use lib.ListN.{length}
-use borrow.Author.Tests.{eqb-true, ne-eqb, le-leb, leb-true, le-ltb}
+use lib.Dec.{ltb, eqb}
+use borrow.Author.Tests.{eqb-true, le-leb, leb-true}
 use Rattle.entries.specs.declared.Seen.{Seen}
 use Rattle.messages.specs.declared.Reading.{Reading}
 use Rattle.messages.specs.declared.Reading.the-variants as reading
 use Rattle.messages.specs.Message.{readingOf}
 use Rattle.record.specs.declared.Record.{Record}
 use Rattle.record.specs.Answers.{isTaken}
-use Rattle.record.specs.Tests.{either, upTo, isFlag}
+use Rattle.record.specs.Tests.{either, isFlag}
 use Rattle.record.specs.Valid.{validOf}
-use Rattle.turns.specs.Turns.{started, keySet, t3510Out, t3511Out, t3502Out, still}
+use Rattle.turns.specs.Turns.{started, keySet, t3510Out, t3511Out, t3502Out}
 use Rattle.rules.specs.declared.Event.{Event}
 use Rattle.rules.specs.declared.Event.the-variants.{Card, Start, Message, Timer, Power, Key, Unknown}
 use Rattle.rules.specs.Hot.{accessOf}
 use Rattle.rules.specs.Answers.{rowNow, readAnswer, runs}
-use Rattle.rules.specs.Effects.{plain, startEffect, keyEffect, t3247Effect, clockEffect, timerEffect}
+use Rattle.rules.specs.Effects.{plain, startEffect, keyEffect, clockEffect, timerEffect}
 use Rattle.rules.specs.Plan.{askAt, heardOf, askOf, answerOf, messageEffect, effectOf, takenPlan}
-use Rattle.events.specs.declared.Outcome.{Outcome}
 use Rattle.events.specs.Step.{advanceOf, stepOf}
 use Rattle.validity.specs.Sized.{Sized}
 use Rattle.validity.specs.Answered.{askIn, seenAt, listedAt, answeredBy}
@@ -30,7 +28,7 @@ use Rattle.validity.specs.Run.{Octets}
 use Rattle.validity.proofs.Bools.{either-second, either-left}
 use Rattle.validity.proofs.Good.{Good}
 use Rattle.validity.proofs.Valid.{valid-good, good-valid}
-use Rattle.validity.proofs.Turns.{after, Turned, started-turned, key-turned, t3510-turned, t3511-turned, t3502-turned}
+use Rattle.validity.proofs.Turns.{started-turned, key-turned, t3510-turned, t3511-turned, t3502-turned}
 use Rattle.validity.proofs.Messages.{Mild, reading-mild}
 use Rattle.validity.proofs.Taken.{start-passed, message-passed, reject-passed, timer-passed, key-passed, card-passed}
 use Rattle.validity.proofs.Refusal.{carry, effectIn, taken-plan, refused}

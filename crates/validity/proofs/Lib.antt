@@ -16,3 +16,4 @@ pub mod Own
 pub mod Common
 pub mod Taken
 pub mod Kept
+pub mod Runs

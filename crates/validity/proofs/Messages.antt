@@ -1,10 +1,10 @@
 -- What an accept brings is in range: at most 15 equivalents, each of three octets, and a T3502 length of at most 31 times 360 s. Assumes nothing.
-use Prim.Native.Nat.{ℕ, zero, suc, _+_, _*_, _/_, _%_, _≤_, _<_}
+use Prim.Native.Nat.{ℕ, zero, suc, _+_, _*_, _/_, _%_, _≤_}
 use mathlib.Core.Path.{_≡_, refl}
 use mathlib.Core.Bool.{Bool, true, false, cond}
 use mathlib.Core.List.{List, [], _∷_}
 use native.Mathlib.Omega.{arith}
-use lib.Dec.{leb, ltb, eqb}
+use lib.Dec.{ltb, eqb}
 use lib.ListN.{length, getD, drop}
 use borrow.Author.Tests.{le-leb, lt-ltb, ltb-true}
 use Rattle.laws.specs.Upto.{first, copied}
@@ -14,7 +14,6 @@ use Rattle.octets.specs.declared.Part.{Part}
 use Rattle.octets.specs.declared.Gathered.{Gathered}
 use Rattle.octets.specs.declared.Gathered.the-variants.{Broken, Whole}
 use Rattle.octets.specs.Element.{gatherOf}
-use Rattle.timers.specs.declared.Span.{Span}
 use Rattle.timers.specs.declared.Span.the-variants.{Off, Seconds}
 use Rattle.timers.specs.Timer.{unitOf, spanOf}
 use Rattle.messages.specs.declared.Reading.{Reading}

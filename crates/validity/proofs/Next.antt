@@ -1,18 +1,17 @@
 -- The record after a plan is good if its parts are. An event of one access leaves the other's entries and equivalents alone. Assumes nothing.
-use Prim.Native.Nat.{ℕ, _≤_, _<_}
-use mathlib.Core.Path.{_≡_, refl, sym, _∙_, ap}
+use Prim.Native.Nat.{ℕ}
+use mathlib.Core.Path.{_≡_, refl}
 use mathlib.Core.Bool.{Bool, true, false, cond}
 use mathlib.Core.List.{List}
-use lib.Dec.{leb, ltb, eqb}
+use lib.Dec.{leb, eqb}
 use Rattle.entries.specs.declared.Entries.{Entries}
 use Rattle.entries.specs.declared.Seen.{Seen}
 use Rattle.areas.specs.Areas.{listAfter, countAfter}
 use Rattle.messages.specs.declared.Reading.{Reading}
 use Rattle.record.specs.declared.Device.{Device}
 use Rattle.record.specs.declared.Access.{Access}
-use Rattle.record.specs.declared.Hot.{Hot}
 use Rattle.record.specs.declared.Record.{Record}
-use Rattle.record.specs.Tests.{both, either, isShort}
+use Rattle.record.specs.Tests.{both, isShort}
 use Rattle.record.specs.Valid.{suciOf}
 use Rattle.turns.specs.declared.Order.{Order}
 use Rattle.turns.specs.declared.Turn.{Turn}

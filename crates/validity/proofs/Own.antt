@@ -1,7 +1,7 @@
 -- A taken event of one access keeps the record good: one that touches no array, an accept, a reject by its row. Assumes nothing.
-use Prim.Native.Nat.{ℕ, zero, suc, _≤_, _<_}
-use mathlib.Core.Path.{_≡_, refl, sym, _∙_, ap}
-use mathlib.Core.Bool.{Bool, true, false, cond, true≢false, false≢true}
+use Prim.Native.Nat.{ℕ, zero, suc}
+use mathlib.Core.Path.{_≡_, refl}
+use mathlib.Core.Bool.{Bool, true, false, cond, false≢true}
 use mathlib.Core.List.{List}
 use native.Mathlib.Omega.{arith}
 use lib.Dec.{leb, ltb, eqb}
@@ -11,17 +11,14 @@ use Rattle.laws.specs.Upto.{copied}
 use Rattle.entries.specs.declared.Entries.{Entries}
 use Rattle.entries.specs.declared.Seen.{Seen}
 use Rattle.entries.specs.declared.Deed.{Deed}
-use Rattle.entries.specs.Entries.{seenIn, banned, barredBy, entriesAfter}
+use Rattle.entries.specs.Entries.{banned, barredBy, entriesAfter}
 use Rattle.messages.specs.declared.Accept.{Accept}
 use Rattle.messages.specs.declared.Reading.{Reading}
 use Rattle.messages.specs.declared.Reading.the-variants as reading
-use Rattle.record.specs.declared.Access.{Access}
-use Rattle.record.specs.declared.Hot.{Hot}
 use Rattle.record.specs.declared.Record.{Record}
-use Rattle.record.specs.Tests.{both, either, upTo, isFlag, isShort}
+use Rattle.record.specs.Tests.{upTo, isFlag}
 use Rattle.record.specs.Network.{isNetwork}
-use Rattle.turns.specs.declared.Order.{Order}
-use Rattle.turns.specs.declared.Order.the-variants.{Leave, Stop, Run}
+use Rattle.turns.specs.declared.Order.the-variants.{Leave}
 use Rattle.turns.specs.declared.Turn.{Turn}
 use Rattle.turns.specs.declared.Row.{Row}
 use Rattle.turns.specs.declared.Row.the-variants.{CardBelow, CardLimit, CardProtected, Away, Home, Area, N1, Protocol, Other}
@@ -32,17 +29,16 @@ use Rattle.rules.specs.declared.Plan.{Plan}
 use Rattle.rules.specs.Hot.{accessOf, otherOf}
 use Rattle.rules.specs.Effects.{plain, acceptEffect, rejectT3247, rowDeed, rowWork, rejectEffect}
 use Rattle.rules.specs.Plan.{askAt, giftOf, takenPlan}
-use Rattle.events.specs.Parts.{seenOf, mineOf, deedOf, tableAfter, isAccepted, isCarded, networksOf, equivalentsAfter}
+use Rattle.events.specs.Parts.{seenOf, mineOf, deedOf, tableAfter, networksOf, equivalentsAfter}
 use Rattle.validity.specs.Sized.{Columns, Sized}
 use Rattle.validity.specs.Run.{Octets}
-use Rattle.validity.proofs.Arrays.{All}
-use Rattle.validity.proofs.Good.{Fit, Timely, Carded, Held, Half, Good}
+use Rattle.validity.proofs.Good.{Fit, Timely, Carded, Held, Good}
 use Rattle.validity.proofs.Setters.{grown, network-short}
 use Rattle.validity.proofs.Turns.{after, Turned, still-turned, accepted-turned, row-turned, other-turned}
 use Rattle.validity.proofs.Entries.{Sought, sought, banned-held, barred-held, accepted-held}
 use Rattle.validity.proofs.Messages.{copied-short}
 use Rattle.validity.proofs.Refusal.{carry, table-idle}
-use Rattle.validity.proofs.Next.{half-turned, mine-is, equivalents-stay, ownEffect, own-first, own-second}
+use Rattle.validity.proofs.Next.{half-turned, mine-is, equivalents-stay, own-first, own-second}
 
 -- no access but 0 and 1
 pub no-third : (w : ℕ) → isFlag (suc (suc w)) ≡ true → ⊥

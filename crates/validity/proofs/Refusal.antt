@@ -1,9 +1,9 @@
 -- A refusal changes nothing: its plan has the numbers as they were and no work on the arrays. Assumes nothing.
 use Prim.Native.Nat.{ℕ}
-use mathlib.Core.Path.{_≡_, refl, sym, _∙_, ap}
-use mathlib.Core.Bool.{Bool, true, false, cond, true≢false, false≢true}
+use mathlib.Core.Path.{_≡_, refl, _∙_, ap}
+use mathlib.Core.Bool.{Bool, true, false, cond, false≢true}
 use mathlib.Core.List.{List}
-use lib.Dec.{leb, eqb}
+use lib.Dec.{eqb}
 use Rattle.entries.specs.declared.Entries.{Entries}
 use Rattle.entries.specs.declared.Seen.{Seen}
 use Rattle.entries.specs.Entries.{entriesAfter}
@@ -14,7 +14,6 @@ use Rattle.record.specs.declared.Record.{Record}
 use Rattle.record.specs.declared.Answer.{Answer}
 use Rattle.record.specs.declared.Answer.the-variants.{Taken, Range, Ignored, Malformed, Full, NoCard, State, Same, Listed, Area, Bare, Idle, Short}
 use Rattle.record.specs.Answers.{isTaken}
-use Rattle.record.specs.Tests.{either}
 use Rattle.record.specs.Valid.{validOf}
 use Rattle.rules.specs.declared.Ask.{Ask}
 use Rattle.rules.specs.declared.Effect.{Effect}
@@ -22,9 +21,9 @@ use Rattle.rules.specs.declared.Event.{Event}
 use Rattle.rules.specs.declared.Plan.{Plan}
 use Rattle.rules.specs.Plan.{heardOf, askOf, effectOf, takenReply, refusedReply, takenPlan, refusedPlan, decidedBy, planOf}
 use Rattle.events.specs.declared.Outcome.{Outcome}
-use Rattle.events.specs.Parts.{seenOf, listedOf, plannedOf, mineOf, deedOf, tableAfter, listed, doneOf, carriedOut, partsAfter, gutiAfter, equivalentsAfter, suciAfter, keptAfter}
+use Rattle.events.specs.Parts.{plannedOf, mineOf, deedOf, tableAfter, listed, doneOf, carriedOut, partsAfter, gutiAfter, equivalentsAfter, suciAfter, keptAfter}
 use Rattle.events.specs.Step.{together, joinedOf, advanceOf, stepOf}
-use Rattle.validity.specs.Answered.{askIn, seenAt, listedAt, answeredBy}
+use Rattle.validity.specs.Answered.{askIn, seenAt, answeredBy}
 
 -- carrying out a plan on a record
 abbrev pub carry : Record → List ℕ → Plan → Outcome

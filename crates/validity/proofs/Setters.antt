@@ -1,10 +1,10 @@
 -- Each setter of an access's numbers keeps them in their ranges, given that the new numbers are: the other groups are untouched. Assumes nothing.
-use Prim.Native.Nat.{ℕ, _+_, _≤_, _<_}
+use Prim.Native.Nat.{ℕ, _+_}
 use mathlib.Core.Path.{_≡_, refl}
 use mathlib.Core.Bool.{Bool, true, false, cond}
 use native.Mathlib.Omega.{arith}
-use lib.Dec.{leb, ltb, eqb}
-use borrow.Author.Tests.{leb-true, le-leb, ltb-true, ltb-false}
+use lib.Dec.{ltb, eqb}
+use borrow.Author.Tests.{le-leb, ltb-true}
 use Rattle.record.specs.declared.Access.{Access}
 use Rattle.record.specs.Tests.{both, either, within, upTo, isFlag, isShort}
 use Rattle.record.specs.Network.{isNetwork, half, isDigit}

@@ -1,21 +1,20 @@
 -- A new record's arrays have the lengths of their types, and each event keeps them: a store, a copy and a sweep change no length. Assumes nothing.
-use Prim.Native.Nat.{ℕ, _+_, _≤_}
-use mathlib.Core.Path.{_≡_, refl, sym, _∙_, ap}
+use Prim.Native.Nat.{ℕ, _+_}
+use mathlib.Core.Path.{_≡_, _∙_, ap}
 use mathlib.Core.Bool.{Bool, true, false, cond}
 use mathlib.Core.List.{List, [], _∷_, _++_}
 use native.Mathlib.Omega.{arith}
 use lib.Dec.{ltb, eqb}
-use lib.ListN.{length, getD, set, take, drop, replicate, length-set, length-replicate, length-append, length-drop}
-use Rattle.laws.specs.Upto.{upto, first, copied}
+use lib.ListN.{length, getD, set, drop, replicate, length-set, length-replicate, length-append, length-drop}
+use Rattle.laws.specs.Upto.{first, copied}
 use Rattle.entries.specs.declared.Entries.{Entries}
 use Rattle.entries.specs.declared.Deed.{Deed}
 use Rattle.entries.specs.Entries.{isBan, isBar, isAccept, isSweep, isPower, isFresh, sizeOf, liftMark, bumped, putAt, clearUnless, raised, banned, barredBy, accepted, swept, cycled, none, entriesAfter}
 use Rattle.areas.specs.declared.Task.{Task}
-use Rattle.areas.specs.Areas.{areaOf, isProtected, placeIn, listedIn, marked, remarked, placed, kept, stayed, sweptList, listAfter}
+use Rattle.areas.specs.Areas.{areaOf, isProtected, placeIn, listedIn, marked, remarked, placed, stayed, sweptList, listAfter}
 use Rattle.record.specs.Tests.{both}
 use Rattle.record.specs.New.{zeros, emptyRecord, newRecord, mayMake, madeOf}
 use Rattle.record.specs.Valid.{validOf}
-use Rattle.record.specs.declared.Hot.{Hot}
 use Rattle.record.specs.declared.Record.{Record}
 use Rattle.record.specs.declared.Made.{Made}
 use Rattle.record.specs.declared.Answer.the-variants.{Taken, Range}

@@ -1,22 +1,18 @@
 -- What a taken event has passed: the checks before the last answer, one by one. Assumes nothing.
-use Prim.Native.Nat.{ℕ, _≤_, _<_}
+use Prim.Native.Nat.{ℕ}
 use mathlib.Core.Path.{_≡_, refl}
-use mathlib.Core.Bool.{Bool, true, false, cond}
+use mathlib.Core.Bool.{Bool, true, false}
 use mathlib.Core.List.{List}
 use lib.Dec.{leb, ltb, eqb}
 use lib.ListN.{length, getD}
-use borrow.Author.Tests.{eqb-true, ne-eqb}
 use Rattle.entries.specs.declared.Seen.{Seen}
 use Rattle.messages.specs.declared.Reading.{Reading}
-use Rattle.messages.specs.declared.Reading.the-variants as reading
-use Rattle.record.specs.declared.Access.{Access}
 use Rattle.record.specs.declared.Hot.{Hot}
 use Rattle.record.specs.declared.Answer.{Answer}
 use Rattle.record.specs.declared.Answer.the-variants as answer
 use Rattle.record.specs.Answers.{isTaken}
 use Rattle.record.specs.Tests.{both, either, flip, within, isFlag, isShort}
 use Rattle.record.specs.Network.{isNetwork}
-use Rattle.turns.specs.declared.Row.{Row}
 use Rattle.turns.specs.Rows.{needsEntry}
 use Rattle.rules.specs.Hot.{accessOf, otherOf}
 use Rattle.rules.specs.Answers.{check, mayStart, isSame, isFree, startRange, startAnswer, rowNow, isIgnored, isFull, rejectAnswer, readAnswer, messageRange, messageAnswer, timerRange, runs, timerAnswer, keyAnswer, cardAnswer}

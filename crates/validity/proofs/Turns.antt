@@ -1,18 +1,17 @@
 -- Each turn of an access keeps its numbers in their ranges; T3510 runs in state 4 only, since each turn that leaves state 4 stops it;
 -- a turn to a state above 0 has a card; equivalents get no more, entries as many as the row says. Assumes nothing.
-use Prim.Native.Nat.{ℕ, _+_, _≤_, _<_}
+use Prim.Native.Nat.{ℕ, _+_, _≤_}
 use mathlib.Core.Path.{_≡_, refl}
 use mathlib.Core.Bool.{Bool, true, false, cond}
 use native.Mathlib.Omega.{arith}
-use lib.Dec.{leb, ltb, eqb}
+use lib.Dec.{ltb, eqb}
 use mathlib.Core.Logic.{_≢_}
-use borrow.Author.Tests.{leb-true, le-leb, ltb-true, ltb-false, eqb-true, eqb-false}
+use borrow.Author.Tests.{leb-true, le-leb, ltb-true, eqb-true, eqb-false}
 use Rattle.record.specs.declared.Access.{Access}
 use Rattle.record.specs.Tests.{either, upTo, isFlag, isShort}
 use Rattle.record.specs.Network.{isNetwork}
 use Rattle.record.specs.New.{newAccess}
 use Rattle.turns.specs.declared.Order.the-variants.{Leave, Stop, Run}
-use Rattle.turns.specs.declared.Orders.{Orders}
 use Rattle.turns.specs.declared.Turn.{Turn}
 use Rattle.turns.specs.declared.Row.{Row}
 use Rattle.turns.specs.declared.Row.the-variants.{CardBelow, CardLimit, CardProtected, Away, Home, Area, N1, Protocol, Other}

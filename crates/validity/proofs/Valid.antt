@@ -1,9 +1,9 @@
 -- A record is valid exactly if its parts are good: document 01's list regrouped, test by test. Assumes nothing.
 use Prim.Native.Nat.{ℕ}
 use mathlib.Core.Path.{_≡_, refl}
-use mathlib.Core.Bool.{Bool, true, false, cond}
+use mathlib.Core.Bool.{Bool, true, false}
 use mathlib.Core.List.{List, [], _∷_}
-use lib.Dec.{leb, ltb, eqb}
+use lib.Dec.{eqb}
 use Rattle.laws.specs.Upto.{allTo, distinctTo}
 use Rattle.entries.specs.declared.Entries.{Entries}
 use Rattle.record.specs.declared.Device.{Device}
@@ -12,9 +12,9 @@ use Rattle.record.specs.declared.Record.{Record}
 use Rattle.record.specs.Tests.{both, either, within, upTo, isFlag, isShort}
 use Rattle.record.specs.Network.{isNetwork}
 use Rattle.record.specs.Valid.{deviceRanges, modeRanges, identityRanges, heldRanges, accessRanges, isItem, rangesOf, countersOf, cardOf, suciOf, codesOf, clockOf, itself, halved, onceOf, validOf}
-use Rattle.validity.proofs.Bools.{both-left, both-right, both-true, either-given, either-second}
-use Rattle.validity.proofs.Arrays.{All, Once, all-of, of-all, once-of, of-once}
-use Rattle.validity.proofs.Good.{Fair, Fit, Timely, Carded, Held, Listing, Half, Good}
+use Rattle.validity.proofs.Bools.{both-left, both-right, both-true}
+use Rattle.validity.proofs.Arrays.{all-of, of-all, once-of, of-once}
+use Rattle.validity.proofs.Good.{Carded, Listing, Half, Good}
 
 -- tests joined one by one
 abbrev conj : Bool → List Bool → Bool
