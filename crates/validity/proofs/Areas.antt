@@ -37,8 +37,9 @@ half-remarked area sure x e = elim (eqb sure 0) as (λ b. cond b x (area * 2 + 1
 module _ (area : ℕ) (small : area < 281474976710656) where
   item-marked : (sure : ℕ) → isItem (marked area sure) ≡ true
   item-marked sure = elim (eqb sure 0) as (λ b. isItem (area * 2 + cond b 0 1) ≡ true) [
-    true ↦ lt-ltb (area * 2 + 0) 562949953421312 (omega arith)
-    | false ↦ lt-ltb (area * 2 + 1) 562949953421312 (omega arith) ]
+    | true ↦ lt-ltb (area * 2 + 0) 562949953421312 (omega arith)
+    | false ↦ lt-ltb (area * 2 + 1) 562949953421312 (omega arith)
+  ]
 
   item-remarked : (sure x : ℕ) → isItem x ≡ true → isItem (remarked area sure x) ≡ true
   item-remarked sure x e = elim (eqb sure 0) as (λ b. isItem (cond b x (area * 2 + 1)) ≡ true) [ true ↦ e | false ↦ lt-ltb (area * 2 + 1) 562949953421312 (omega arith) ]
@@ -159,8 +160,9 @@ list-kept t n xs len g f = go (eqb (t .kind) 1) refl
   where
     other : Listing (cond (eqb (t .kind) 2) (length (stayed n xs)) (cond (eqb (t .kind) 3) 0 n)) (cond (eqb (t .kind) 2) (sweptList n xs) (cond (eqb (t .kind) 3) (replicate 40 0) xs))
     other = elim (eqb (t .kind) 2) as (λ b. Listing (cond b (length (stayed n xs)) (cond (eqb (t .kind) 3) 0 n)) (cond b (sweptList n xs) (cond (eqb (t .kind) 3) (replicate 40 0) xs))) [
-      true ↦ swept-listing n xs len g
-      | false ↦ elim (eqb (t .kind) 3) as (λ b. Listing (cond b 0 n) (cond b (replicate 40 0) xs)) [ true ↦ none-listing (replicate 40 0) | false ↦ g ] ]
+      | true ↦ swept-listing n xs len g
+      | false ↦ elim (eqb (t .kind) 3) as (λ b. Listing (cond b 0 n) (cond b (replicate 40 0) xs)) [ true ↦ none-listing (replicate 40 0) | false ↦ g ]
+    ]
 
     go : (b : Bool) → eqb (t .kind) 1 ≡ b → Listing (countAfter t n xs) (listAfter t n xs)
     go true w = rw w (placed-listing n xs len g (areaOf (t .net) (t .code)) (t .sure) (area-small (t .net) (t .code) (f w .0) (f w .1)))

@@ -3,7 +3,7 @@ use Prim.Native.Nat.{ℕ, _≤_}
 use mathlib.Core.Path.{_≡_, refl, sym, _∙_}
 use mathlib.Core.Bool.{Bool, true, false, true≢false, false≢true}
 use lib.Dec.{leb}
-use borrow.Author.Tests.{leb-true, le-leb}
+use borrow.Author.Tests.{leb-true}
 use Rattle.record.specs.Tests.{both, either, flip, within}
 use Rattle.record.specs.declared.Answer.{Answer}
 use Rattle.record.specs.Answers.{isTaken}
@@ -35,22 +35,12 @@ pub either-first : (a b : Bool) → a ≡ true → either a b ≡ true
 either-first true b q = refl
 either-first false b q = absurd (false≢true q)
 
-pub either-given : (a b : Bool) → (a ≡ false → b ≡ true) → either a b ≡ true
-either-given true b f = refl
-either-given false b f = f refl
-
 pub flip-true : (a : Bool) → flip a ≡ true → a ≡ false
 flip-true true e = absurd (false≢true e)
 flip-true false e = refl
 
 pub within-low : (a b n : ℕ) → within a b n ≡ true → a ≤ n
 within-low a b n e = leb-true a n (both-left (leb a n) (leb n b) e)
-
-pub within-high : (a b n : ℕ) → within a b n ≡ true → n ≤ b
-within-high a b n e = leb-true n b (both-right (leb a n) (leb n b) e)
-
-pub within-true : (a b n : ℕ) → a ≤ n → n ≤ b → within a b n ≡ true
-within-true a b n p q = both-true (leb a n) (leb n b) (le-leb a n p) (le-leb n b q)
 
 -- what was taken passed the check, and the rest was taken
 pub check-passed : (b : Bool) (n rest : Answer) → isTaken n ≡ false → isTaken (check b n rest) ≡ true → b ≡ true

@@ -49,13 +49,13 @@ module _ (r : Record) (g : Good r) (z : Sized r) (octets : List ℕ) (net code :
   unfolding takenPlan t3247Effect hotAfter hotOf ticked tableAfter entriesAfter deedOf mineOf equivalentsAfter suciAfter suciOf
   t3247-good =
       let a = half-turned (r .hot .dev) (r .hot .a0 .equivalents) (r .hot .a0 .entries) (after (turns.still (r .hot .a0))) (r .equivalents0)
-          (swept (r .hot .a0 .entries) (r .hot .dev .banlimit) (r .hot .dev .n1limit) (r .e0))
-          (still-turned (r .hot .dev .card) (r .hot .dev .cardlimit) (r .hot .a0) (g .half0 .fit) (g .half0 .timely) (g .half0 .carded)) (g .half0 .equals)
-          (swept-held (r .hot .dev .banlimit) (r .hot .dev .n1limit) (r .hot .a0 .entries) (r .e0) (z .e0) (g .half0 .held) (g .half0 .fit .entries)) in
+      (swept (r .hot .a0 .entries) (r .hot .dev .banlimit) (r .hot .dev .n1limit) (r .e0))
+      (still-turned (r .hot .dev .card) (r .hot .dev .cardlimit) (r .hot .a0) (g .half0 .fit) (g .half0 .timely) (g .half0 .carded)) (g .half0 .equals)
+      (swept-held (r .hot .dev .banlimit) (r .hot .dev .n1limit) (r .hot .a0 .entries) (r .e0) (z .e0) (g .half0 .held) (g .half0 .fit .entries)) in
       let b = half-turned (r .hot .dev) (r .hot .a1 .equivalents) (r .hot .a1 .entries) (after (turns.still (r .hot .a1))) (r .equivalents1)
-          (swept (r .hot .a1 .entries) (r .hot .dev .banlimit) (r .hot .dev .n1limit) (r .e1))
-          (still-turned (r .hot .dev .card) (r .hot .dev .cardlimit) (r .hot .a1) (g .half1 .fit) (g .half1 .timely) (g .half1 .carded)) (g .half1 .equals)
-          (swept-held (r .hot .dev .banlimit) (r .hot .dev .n1limit) (r .hot .a1 .entries) (r .e1) (z .e1) (g .half1 .held) (g .half1 .fit .entries)) in
+      (swept (r .hot .a1 .entries) (r .hot .dev .banlimit) (r .hot .dev .n1limit) (r .e1))
+      (still-turned (r .hot .dev .card) (r .hot .dev .cardlimit) (r .hot .a1) (g .half1 .fit) (g .half1 .timely) (g .half1 .carded)) (g .half1 .equals)
+      (swept-held (r .hot .dev .banlimit) (r .hot .dev .n1limit) (r .hot .a1 .entries) (r .e1) (z .e1) (g .half1 .held) (g .half1 .fit .entries)) in
       good-next r octets (takenPlan (r .hot) (askAt 0 net code area sure) s m (t3247Effect (r .hot))) (ticked-fair (r .hot .dev) Stop (g .fair))
       (record { fit = a .fit; timely = a .timely; carded = a .carded; equals = a .equals; held = a .held })
       (record { fit = b .fit; timely = b .timely; carded = b .carded; equals = b .equals; held = b .held })
@@ -68,13 +68,13 @@ module _ (r : Record) (g : Good r) (z : Sized r) (octets : List ℕ) (net code :
   unfolding takenPlan powerEffect hotAfter hotOf ticked tableAfter entriesAfter deedOf mineOf equivalentsAfter suciAfter suciOf
   power-good =
       let a = half-turned (r .hot .dev) (r .hot .a0 .equivalents) (r .hot .a0 .entries) (after (turns.cycled (r .hot .dev .card) (r .hot .a0))) (r .equivalents0)
-          (cycled (r .hot .a0 .entries) (r .hot .dev .banlimit) (r .e0))
-          (cycled-turned (r .hot .dev .card) (r .hot .dev .cardlimit) (r .hot .a0) (g .half0 .fit) (g .fair .card)) (g .half0 .equals)
-          (cycled-held (r .hot .dev .banlimit) (r .hot .dev .n1limit) (r .hot .a0 .entries) (r .e0) (z .e0) (g .half0 .held) (g .half0 .fit .entries)) in
+      (cycled (r .hot .a0 .entries) (r .hot .dev .banlimit) (r .e0))
+      (cycled-turned (r .hot .dev .card) (r .hot .dev .cardlimit) (r .hot .a0) (g .half0 .fit) (g .fair .card)) (g .half0 .equals)
+      (cycled-held (r .hot .dev .banlimit) (r .hot .dev .n1limit) (r .hot .a0 .entries) (r .e0) (z .e0) (g .half0 .held) (g .half0 .fit .entries)) in
       let b = half-turned (r .hot .dev) (r .hot .a1 .equivalents) (r .hot .a1 .entries) (after (turns.cycled (r .hot .dev .card) (r .hot .a1))) (r .equivalents1)
-          (cycled (r .hot .a1 .entries) (r .hot .dev .banlimit) (r .e1))
-          (cycled-turned (r .hot .dev .card) (r .hot .dev .cardlimit) (r .hot .a1) (g .half1 .fit) (g .fair .card)) (g .half1 .equals)
-          (cycled-held (r .hot .dev .banlimit) (r .hot .dev .n1limit) (r .hot .a1 .entries) (r .e1) (z .e1) (g .half1 .held) (g .half1 .fit .entries)) in
+      (cycled (r .hot .a1 .entries) (r .hot .dev .banlimit) (r .e1))
+      (cycled-turned (r .hot .dev .card) (r .hot .dev .cardlimit) (r .hot .a1) (g .half1 .fit) (g .fair .card)) (g .half1 .equals)
+      (cycled-held (r .hot .dev .banlimit) (r .hot .dev .n1limit) (r .hot .a1 .entries) (r .e1) (z .e1) (g .half1 .held) (g .half1 .fit .entries)) in
       good-next r octets (takenPlan (r .hot) (askAt 0 net code area sure) s m (powerEffect (r .hot))) (ticked-fair (r .hot .dev) Stop (g .fair))
       (record { fit = a .fit; timely = a .timely; carded = a .carded; equals = a .equals; held = a .held })
       (record { fit = b .fit; timely = b .timely; carded = b .carded; equals = b .equals; held = b .held })

@@ -52,8 +52,9 @@ sought n net nets forbidden barred e r = rw (size-is n e) (record {
 bump-fits : (limit sure n : ℕ) → upTo limit n ≡ true → upTo limit (bumped limit sure n) ≡ true
 unfolding bumped
 bump-fits limit sure n e = elim (eqb sure 0) as (λ b. upTo limit (cond b (cond (ltb n limit) (n + 1) n) limit) ≡ true) [
-  true ↦ go (ltb n limit) refl
-  | false ↦ le-leb limit limit (omega arith) ]
+  | true ↦ go (ltb n limit) refl
+  | false ↦ le-leb limit limit (omega arith)
+]
   where
     go : (b : Bool) → ltb n limit ≡ b → upTo limit (cond (ltb n limit) (n + 1) n) ≡ true
     go true q = rw q (le-leb (n + 1) limit (omega (arith, ltb-true n limit q)))
@@ -62,8 +63,9 @@ bump-fits limit sure n e = elim (eqb sure 0) as (λ b. upTo limit (cond b (cond 
 lift-fits : (limit n mark : ℕ) → isFlag mark ≡ true → isFlag (liftMark limit n mark) ≡ true
 unfolding liftMark
 lift-fits limit n mark e = elim (eqb n 0) as (λ b. isFlag (cond b mark (cond (ltb n limit) 0 mark)) ≡ true) [
-  true ↦ e
-  | false ↦ elim (ltb n limit) as (λ b. isFlag (cond b 0 mark) ≡ true) [ true ↦ refl | false ↦ e ] ]
+  | true ↦ e
+  | false ↦ elim (ltb n limit) as (λ b. isFlag (cond b 0 mark) ≡ true) [ true ↦ refl | false ↦ e ]
+]
 
 module _ (n net at : ℕ) (found : Bool) (nets : List ℕ) (s : Sought n net at found nets) where
   -- below the new count and not at the place: below the old one
@@ -149,10 +151,12 @@ module _ (banlimit n1limit n : ℕ) (t : Entries) (w : Columns t) (g : Held banl
     bans = g .bans;
     n1s = g .n1s;
     forbidden = λ i h. elim (k .found) as (λ b. isFlag (getD (cond b (cond (ltb (k .at) 16) (set (t .forbidden) (k .at) 0) (t .forbidden)) (t .forbidden)) i 0) ≡ true) [
-      true ↦ elim (ltb (k .at) 16) as (λ b. isFlag (getD (cond b (set (t .forbidden) (k .at) 0) (t .forbidden)) i 0) ≡ true) [
-        true ↦ set-reads (t .forbidden) (k .at) 0 i (λ x. isFlag x ≡ true) (λ l. refl) (λ l. refl) (λ ne. g .forbidden i h)
-        | false ↦ g .forbidden i h ]
-      | false ↦ g .forbidden i h ];
+      | true ↦ elim (ltb (k .at) 16) as (λ b. isFlag (getD (cond b (set (t .forbidden) (k .at) 0) (t .forbidden)) i 0) ≡ true) [
+        | true ↦ set-reads (t .forbidden) (k .at) 0 i (λ x. isFlag x ≡ true) (λ l. refl) (λ l. refl) (λ ne. g .forbidden i h)
+        | false ↦ g .forbidden i h
+      ]
+      | false ↦ g .forbidden i h
+    ];
     barred = g .barred;
     once = g .once;
   }

@@ -30,9 +30,10 @@ of-every P (x ∷ l) f (suc k) h = of-every P l (f .1) k (omega arith)
 apart-of : (key : ℕ → ℕ) (n : ℕ) (xs : List ℕ) → n ≤ length xs → Once key n xs → Apart key (take n xs)
 apart-of key zero xs h f = tt
 apart-of key (suc n) [] h f = absurd (omega arith)
-apart-of key (suc n) (x ∷ xs) h f =
-    (every-of (λ y. key x ≡ key y → ⊥) n xs (omega arith) (λ k l. f 0 (suc k) (omega arith) (omega arith)),
-    apart-of key n xs (omega arith) (λ i j l m. f (suc i) (suc j) (omega arith) (omega arith)))
+apart-of key (suc n) (x ∷ xs) h f = (
+  every-of (λ y. key x ≡ key y → ⊥) n xs (omega arith) (λ k l. f 0 (suc k) (omega arith) (omega arith)),
+  apart-of key n xs (omega arith) (λ i j l m. f (suc i) (suc j) (omega arith) (omega arith)),
+)
 
 of-apart : (key : ℕ → ℕ) (l : List ℕ) → Apart key l → Once key (length l) l
 of-apart key [] f i j g h = absurd (omega arith)
@@ -50,24 +51,27 @@ module _ (p : ℕ → Bool) where
   unfolding kept
   kept-apart key [] f = tt
   kept-apart key (x ∷ l) f = elim (p x) as (λ b. Apart key (cond b (x ∷ kept p l) (kept p l))) [
-    true ↦ (kept-every (λ y. key x ≡ key y → ⊥) l (f .0), kept-apart key l (f .1))
-    | false ↦ kept-apart key l (f .1) ]
+    | true ↦ (kept-every (λ y. key x ≡ key y → ⊥) l (f .0), kept-apart key l (f .1))
+    | false ↦ kept-apart key l (f .1)
+  ]
 
   pub kept-le : (n : ℕ) (xs : List ℕ) → length (kept p (take n xs)) ≤ n
   unfolding kept
   kept-le zero xs = omega arith
   kept-le (suc n) [] = omega arith
   kept-le (suc n) (x ∷ xs) = elim (p x) as (λ b. length (cond b (x ∷ kept p (take n xs)) (kept p (take n xs))) ≤ suc n) [
-    true ↦ omega (arith, kept-le n xs)
-    | false ↦ omega (arith, kept-le n xs) ]
+    | true ↦ omega (arith, kept-le n xs)
+    | false ↦ omega (arith, kept-le n xs)
+  ]
 
   pub kept-inside : (n : ℕ) (xs : List ℕ) → length (kept p (take n xs)) ≤ length xs
   unfolding kept
   kept-inside zero xs = omega arith
   kept-inside (suc n) [] = omega arith
   kept-inside (suc n) (x ∷ xs) = elim (p x) as (λ b. length (cond b (x ∷ kept p (take n xs)) (kept p (take n xs))) ≤ suc (length xs)) [
-    true ↦ omega (arith, kept-inside n xs)
-    | false ↦ omega (arith, kept-inside n xs) ]
+    | true ↦ omega (arith, kept-inside n xs)
+    | false ↦ omega (arith, kept-inside n xs)
+  ]
 
   -- with anything behind them
   pub kept-all : (q : ℕ → Bool) (n : ℕ) (xs rest : List ℕ) → n ≤ length xs → All q n xs → All q (length (kept p (take n xs))) (kept p (take n xs) ++ rest)

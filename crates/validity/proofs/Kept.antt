@@ -69,8 +69,9 @@ module _ (r : Record) (g : Good r) (z : Sized r) (octets : List ℕ) where
 
       other : Good (carry r octets (takenPlan (r .hot) (askAt w 0 0 false 0) s m (cond (eqb number 2) (plain (r .hot) w (t3511Out (accessOf (r .hot) w)) true) (plain (r .hot) w (t3502Out (accessOf (r .hot) w)) true))) .next)
       other = elim (eqb number 2) as (λ b. Good (carry r octets (takenPlan (r .hot) (askAt w 0 0 false 0) s m (cond b (plain (r .hot) w (t3511Out (accessOf (r .hot) w)) true) (plain (r .hot) w (t3502Out (accessOf (r .hot) w)) true))) .next)) [
-        true ↦ plain-good r g z octets 0 0 false 0 s m w h (t3511Out (accessOf (r .hot) w)) true (t3511-turned card limit (accessOf (r .hot) w) (access-fit r g w) (access-timely r g w) (access-carded r g w))
-        | false ↦ plain-good r g z octets 0 0 false 0 s m w h (t3502Out (accessOf (r .hot) w)) true (t3502-turned card limit (accessOf (r .hot) w) (access-fit r g w) (access-timely r g w) (access-carded r g w)) ]
+        | true ↦ plain-good r g z octets 0 0 false 0 s m w h (t3511Out (accessOf (r .hot) w)) true (t3511-turned card limit (accessOf (r .hot) w) (access-fit r g w) (access-timely r g w) (access-carded r g w))
+        | false ↦ plain-good r g z octets 0 0 false 0 s m w h (t3502Out (accessOf (r .hot) w)) true (t3502-turned card limit (accessOf (r .hot) w) (access-fit r g w) (access-timely r g w) (access-carded r g w))
+      ]
 
       go : (b : Bool) → eqb number 1 ≡ b → Good (carry r octets (takenPlan (r .hot) (askAt w 0 0 false 0) s m (clockEffect (r .hot) number w)) .next)
       go true e =

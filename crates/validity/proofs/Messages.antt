@@ -34,22 +34,26 @@ Mild (reading.Bad f at) = Unit {0}
 unit-fits : (n top : ℕ) → n ≤ 31 → n * unitOf top ≤ 11160
 unfolding unitOf
 unit-fits n top h = elim (eqb top 0) as (λ b. n * cond b 2 (cond (eqb top 1) 60 (cond (eqb top 2) 360 60)) ≤ 11160) [
-  true ↦ omega arith
+  | true ↦ omega arith
   | false ↦ elim (eqb top 1) as (λ b. n * cond b 60 (cond (eqb top 2) 360 60) ≤ 11160) [
-    true ↦ omega arith
-    | false ↦ elim (eqb top 2) as (λ b. n * cond b 360 60 ≤ 11160) [ true ↦ omega arith | false ↦ omega arith ] ] ]
+    | true ↦ omega arith
+    | false ↦ elim (eqb top 2) as (λ b. n * cond b 360 60 ≤ 11160) [ true ↦ omega arith | false ↦ omega arith ]
+  ]
+]
 
 span-fits : (octet : ℕ) → secondsOf (spanOf octet) ≤ 11160
 unfolding spanOf
 span-fits octet = elim (eqb (octet / 32) 7) as (λ b. secondsOf (cond b Off (Seconds (octet % 32 * unitOf (octet / 32)))) ≤ 11160) [
-  true ↦ omega arith
-  | false ↦ unit-fits (octet % 32) (octet / 32) (omega arith) ]
+  | true ↦ omega arith
+  | false ↦ unit-fits (octet % 32) (octet / 32) (omega arith)
+]
 
 wait-fits : (s : List ℕ) (p : Part) → secondsOf (waitOf s p) ≤ 11160
 unfolding waitOf
 wait-fits s p = elim (p .held) as (λ b. secondsOf (cond b (cond (eqb (p .len) 0) Off (spanOf (getD s (p .start) 0))) Off) ≤ 11160) [
-  true ↦ elim (eqb (p .len) 0) as (λ b. secondsOf (cond b Off (spanOf (getD s (p .start) 0))) ≤ 11160) [ true ↦ omega arith | false ↦ span-fits (getD s (p .start) 0) ]
-  | false ↦ omega arith ]
+  | true ↦ elim (eqb (p .len) 0) as (λ b. secondsOf (cond b Off (spanOf (getD s (p .start) 0))) ≤ 11160) [ true ↦ omega arith | false ↦ span-fits (getD s (p .start) 0) ]
+  | false ↦ omega arith
+]
 
 count-fits : (p : Part) → countOf p ≤ 15
 unfolding countOf

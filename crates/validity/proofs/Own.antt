@@ -73,14 +73,18 @@ module _ (r : Record) (g : Good r) where
     unfolding accessOf otherOf takenPlan
     plain-good m zero h t restart u =
         own-first r g z octets net code area sure s m t (still (r .hot .a1)) Leave 0 0 0 0 restart refl refl (λ e. absurd (false≢true e)) (λ e. absurd (false≢true e))
-        (rw (table-idle (takenPlan (r .hot) (askAt 0 net code area sure) s m (plain (r .hot) 0 t restart)) 0 (r .hot .a0 .entries) (r .hot) (r .e0) (mine-is 0 0 0 refl),
-        equivalents-stay (takenPlan (r .hot) (askAt 0 net code area sure) s m (plain (r .hot) 0 t restart)) 0 octets (r .equivalents0) refl refl)
+        (rw (
+          table-idle (takenPlan (r .hot) (askAt 0 net code area sure) s m (plain (r .hot) 0 t restart)) 0 (r .hot .a0 .entries) (r .hot) (r .e0) (mine-is 0 0 0 refl),
+          equivalents-stay (takenPlan (r .hot) (askAt 0 net code area sure) s m (plain (r .hot) 0 t restart)) 0 octets (r .equivalents0) refl refl,
+        )
         (half-turned (r .hot .dev) (r .hot .a0 .equivalents) (r .hot .a0 .entries) (after t) (r .equivalents0) (r .e0) u (g .half0 .equals) (g .half0 .held)))
         second-still
     plain-good m (suc zero) h t restart u =
         own-second r g z octets net code area sure s m t (still (r .hot .a0)) Leave 0 0 0 0 restart refl refl (λ e. absurd (false≢true e)) (λ e. absurd (false≢true e))
-        (rw (table-idle (takenPlan (r .hot) (askAt 1 net code area sure) s m (plain (r .hot) 1 t restart)) 1 (r .hot .a1 .entries) (r .hot) (r .e1) (mine-is 0 1 1 refl),
-        equivalents-stay (takenPlan (r .hot) (askAt 1 net code area sure) s m (plain (r .hot) 1 t restart)) 1 octets (r .equivalents1) refl refl)
+        (rw (
+          table-idle (takenPlan (r .hot) (askAt 1 net code area sure) s m (plain (r .hot) 1 t restart)) 1 (r .hot .a1 .entries) (r .hot) (r .e1) (mine-is 0 1 1 refl),
+          equivalents-stay (takenPlan (r .hot) (askAt 1 net code area sure) s m (plain (r .hot) 1 t restart)) 1 octets (r .equivalents1) refl refl,
+        )
         (half-turned (r .hot .dev) (r .hot .a1 .equivalents) (r .hot .a1 .entries) (after t) (r .equivalents1) (r .e1) u (g .half1 .equals) (g .half1 .held)))
         first-still
     plain-good m (suc (suc w)) h t restart u = absurd (no-third w h)

@@ -84,10 +84,12 @@ module _ (limit : ℕ) (a : Access) (g : Fit limit a) where
     flags = g .flags;
     wait = q;
     pending = g .pending;
-    known = (elim given as (λ b. isFlag (cond b 1 (a .guti)) ≡ true) [ true ↦ refl | false ↦ g .known .0 ],
-        refl,
-        both-true (isShort (a .net)) (isShort (a .code)) (network-short (a .net) (g .pending .0)) (g .pending .1),
-        g .known .3);
+    known = (
+      elim given as (λ b. isFlag (cond b 1 (a .guti)) ≡ true) [ true ↦ refl | false ↦ g .known .0 ],
+      refl,
+      both-true (isShort (a .net)) (isShort (a .code)) (network-short (a .net) (g .pending .0)) (g .pending .1),
+      g .known .3,
+    );
     cards = g .cards;
     equivalents = p;
     entries = g .entries;

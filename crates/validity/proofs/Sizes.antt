@@ -227,5 +227,6 @@ pub made-sized : (cardlimit banlimit n1limit : ℕ) (capability security : List 
 unfolding madeOf
 made-sized cardlimit banlimit n1limit capability security =
     elim (mayMake cardlimit banlimit n1limit (length capability) (length security)) as (λ b. Sized (cond {A = Made} b (record { answer = Taken; made = newRecord cardlimit banlimit n1limit capability security }) (record { answer = Range; made = newRecord 1 1 1 (0 ∷ []) (0 ∷ 0 ∷ []) }) .made)) [
-      true ↦ new-sized cardlimit banlimit n1limit capability security
-      | false ↦ new-sized 1 1 1 (0 ∷ []) (0 ∷ 0 ∷ []) ]
+      | true ↦ new-sized cardlimit banlimit n1limit capability security
+      | false ↦ new-sized 1 1 1 (0 ∷ []) (0 ∷ 0 ∷ [])
+    ]

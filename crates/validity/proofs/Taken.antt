@@ -21,11 +21,12 @@ use Rattle.validity.proofs.Bools.{both-left, both-right, flip-true, che
 pub start-passed : (h : Hot) (w manual net code : ℕ) (s : Seen) (listed : Bool) → isTaken (startAnswer h w manual net code s listed) ≡ true
     → (isFlag w ≡ true) × (isNetwork net ≡ true) × (isShort code ≡ true) × (eqb (accessOf h w .state) 0 ≡ false)
 unfolding startAnswer startRange isTaken
-start-passed h w manual net code s listed q =
-    (both-left (isFlag w) (both (isFlag manual) (both (isNetwork net) (isShort code))) range,
-    both-left (isNetwork net) (isShort code) place,
-    both-right (isNetwork net) (isShort code) place,
-    flip-true (eqb (accessOf h w .state) 0) (check-passed (flip (eqb (accessOf h w .state) 0)) answer.NoCard third refl (check-rest (startRange w manual net code) answer.Range second refl q)))
+start-passed h w manual net code s listed q = (
+  both-left (isFlag w) (both (isFlag manual) (both (isNetwork net) (isShort code))) range,
+  both-left (isNetwork net) (isShort code) place,
+  both-right (isNetwork net) (isShort code) place,
+  flip-true (eqb (accessOf h w .state) 0) (check-passed (flip (eqb (accessOf h w .state) 0)) answer.NoCard third refl (check-rest (startRange w manual net code) answer.Range second refl q)),
+)
   where
     third : Answer
     third = check (mayStart (accessOf h w .state)) answer.State
@@ -45,10 +46,11 @@ start-passed h w manual net code s listed q =
 pub message-passed : (h : Hot) (w sure draw : ℕ) (m : Reading) (s : Seen) → isTaken (messageAnswer h w sure draw m s) ≡ true
     → (isFlag w ≡ true) × (eqb (accessOf h w .state) 4 ≡ true) × (isTaken (readAnswer h w sure m s) ≡ true)
 unfolding messageAnswer messageRange isTaken
-message-passed h w sure draw m s q =
-    (both-left (isFlag w) (both (isFlag sure) (within 1800 3600 draw)) (check-passed (messageRange w sure draw) answer.Range second refl q),
-    check-passed (eqb (accessOf h w .state) 4) answer.State (readAnswer h w sure m s) refl (check-rest (messageRange w sure draw) answer.Range second refl q),
-    check-rest (eqb (accessOf h w .state) 4) answer.State (readAnswer h w sure m s) refl (check-rest (messageRange w sure draw) answer.Range second refl q))
+message-passed h w sure draw m s q = (
+  both-left (isFlag w) (both (isFlag sure) (within 1800 3600 draw)) (check-passed (messageRange w sure draw) answer.Range second refl q),
+  check-passed (eqb (accessOf h w .state) 4) answer.State (readAnswer h w sure m s) refl (check-rest (messageRange w sure draw) answer.Range second refl q),
+  check-rest (eqb (accessOf h w .state) 4) answer.State (readAnswer h w sure m s) refl (check-rest (messageRange w sure draw) answer.Range second refl q),
+)
   where
     second : Answer
     second = check (eqb (accessOf h w .state) 4) answer.State (readAnswer h w sure m s)
@@ -70,10 +72,11 @@ reject-passed h w sure cause s q =
 pub timer-passed : (h : Hot) (number w : ℕ) → isTaken (timerAnswer h number w) ≡ true
     → (isFlag w ≡ true) × (either (ltb number 4) (eqb w 0) ≡ true) × (eqb (runs h number w) 0 ≡ false)
 unfolding timerAnswer timerRange isTaken
-timer-passed h number w q =
-    (both-left (isFlag w) (either (ltb number 4) (eqb w 0)) range,
-    both-right (isFlag w) (either (ltb number 4) (eqb w 0)) range,
-    flip-true (eqb (runs h number w) 0) (check-passed (flip (eqb (runs h number w) 0)) answer.Idle answer.Taken refl (check-rest (timerRange number w) answer.Range second refl q)))
+timer-passed h number w q = (
+  both-left (isFlag w) (either (ltb number 4) (eqb w 0)) range,
+  both-right (isFlag w) (either (ltb number 4) (eqb w 0)) range,
+  flip-true (eqb (runs h number w) 0) (check-passed (flip (eqb (runs h number w) 0)) answer.Idle answer.Taken refl (check-rest (timerRange number w) answer.Range second refl q)),
+)
   where
     second : Answer
     second = check (flip (eqb (runs h number w) 0)) answer.Idle answer.Taken
@@ -92,7 +95,8 @@ pub card-passed : (home : ℕ) (suci : List ℕ) → isTaken (cardAnswer home su
 unfolding cardAnswer isTaken
 card-passed home suci q =
     let range = check-passed (both (isNetwork home) (both (within 9 64 (length suci)) (eqb (getD suci 0 0) 1))) answer.Range answer.Taken refl q in
-    let two = both-right (isNetwork home) (both (within 9 64 (length suci)) (eqb (getD suci 0 0) 1)) range in
-    (both-left (isNetwork home) (both (within 9 64 (length suci)) (eqb (getD suci 0 0) 1)) range,
-    both-left (within 9 64 (length suci)) (eqb (getD suci 0 0) 1) two,
-    both-right (within 9 64 (length suci)) (eqb (getD suci 0 0) 1) two)
+    let two = both-right (isNetwork home) (both (within 9 64 (length suci)) (eqb (getD suci 0 0) 1)) range in (
+      both-left (isNetwork home) (both (within 9 64 (length suci)) (eqb (getD suci 0 0) 1)) range,
+      both-left (within 9 64 (length suci)) (eqb (getD suci 0 0) 1) two,
+      both-right (within 9 64 (length suci)) (eqb (getD suci 0 0) 1) two,
+    )

@@ -150,7 +150,7 @@ module _ (card limit : ℕ) (a : Access) (g : Fit limit a) where
     failed-turned : (n : ℕ) → upTo 5 n ≡ true → Turned card limit (a .equivalents) (a .entries) (after (failed n a))
     unfolding failed clocked flagAfter emptied forgotten moved
     failed-turned n p = elim (ltb n 5) as (λ b. Turned card limit (a .equivalents) (a .entries) (after (cond b below at))) [
-      true ↦ record {
+      | true ↦ record {
         fit = fit-clocked limit (moved 3 (a .status) n a) (fit-moved limit a g 3 (a .status) n refl (g .mode .1) p) (ordersOf Stop (Run 10) Leave);
         timely = refl;
         carded = either-first (eqb card 1) false h;
@@ -163,7 +163,8 @@ module _ (card limit : ℕ) (a : Access) (g : Fit limit a) where
         carded = either-first (eqb card 1) false h;
         equivalents = omega arith;
         entries = refl;
-      } ]
+      }
+    ]
       where
         below : Turn
         below = turnOf (moved 3 (a .status) n a) (ordersOf Stop (Run 10) Leave)
@@ -186,10 +187,11 @@ module _ (card limit : ℕ) (a : Access) (g : Fit limit a) where
     row-turned CardBelow w cause found = elim (eqb w 0) as (λ b. Turned card limit (a .equivalents) (a .entries) (after (cond b
         (rejected (emptied (counted (oneMore limit (a .cards)) (forgotten (moved 2 3 0 a)))))
         (rejected (counted (oneMore limit (a .cards)) (forgotten (moved 2 3 (a .attempts) a))))))) [
-      true ↦ rejected-turned (a .equivalents) (a .entries) (emptied (counted (oneMore limit (a .cards)) (forgotten (moved 2 3 0 a))))
-          (fit-emptied limit (counted (oneMore limit (a .cards)) (forgotten (moved 2 3 0 a))) (fit-counted limit (forgotten (moved 2 3 0 a)) (lost 2 0 refl refl) (oneMore limit (a .cards)) (more-fits limit (a .cards) (g .cards)))) (omega arith) refl
-      | false ↦ rejected-turned (a .equivalents) (a .entries) (counted (oneMore limit (a .cards)) (forgotten (moved 2 3 (a .attempts) a)))
-          (fit-counted limit (forgotten (moved 2 3 (a .attempts) a)) (lost 2 (a .attempts) refl (g .mode .2)) (oneMore limit (a .cards)) (more-fits limit (a .cards) (g .cards))) (omega arith) refl ]
+          | true ↦ rejected-turned (a .equivalents) (a .entries) (emptied (counted (oneMore limit (a .cards)) (forgotten (moved 2 3 0 a))))
+              (fit-emptied limit (counted (oneMore limit (a .cards)) (forgotten (moved 2 3 0 a))) (fit-counted limit (forgotten (moved 2 3 0 a)) (lost 2 0 refl refl) (oneMore limit (a .cards)) (more-fits limit (a .cards) (g .cards)))) (omega arith) refl
+          | false ↦ rejected-turned (a .equivalents) (a .entries) (counted (oneMore limit (a .cards)) (forgotten (moved 2 3 (a .attempts) a)))
+              (fit-counted limit (forgotten (moved 2 3 (a .attempts) a)) (lost 2 (a .attempts) refl (g .mode .2)) (oneMore limit (a .cards)) (more-fits limit (a .cards) (g .cards))) (omega arith) refl
+        ]
     row-turned CardLimit w cause found = rejected-turned (a .equivalents) (a .entries) (emptied (forgotten (moved 0 3 (a .attempts) a))) (lost-all 0 (a .attempts) refl (g .mode .2)) (omega arith) refl
     row-turned CardProtected w cause found =
         rejected-turned (a .equivalents) (a .entries) (counted limit (emptied (forgotten (moved 0 3 (a .attempts) a))))
@@ -200,8 +202,9 @@ module _ (card limit : ℕ) (a : Access) (g : Fit limit a) where
         (lost-all (cond (eqb w 0) 6 2) 0 (elim (eqb w 0) as (λ b. upTo 6 (cond b 6 2) ≡ true) [ true ↦ refl | false ↦ refl ]) refl) found) (omega arith) refl
     row-turned Home w cause found = rejected-turned (a .equivalents) (a .entries) (emptied (forgotten (moved 2 3 0 a))) (lost-all 2 0 refl refl) (omega arith) refl
     row-turned Area w cause found = elim (eqb cause 13) as (λ b. Turned card limit (a .equivalents) (a .entries) (after (cond b (rejected (emptied (forgotten (moved 2 3 0 a)))) (rejected (forgotten (moved 2 3 0 a)))))) [
-      true ↦ rejected-turned (a .equivalents) (a .entries) (emptied (forgotten (moved 2 3 0 a))) (lost-all 2 0 refl refl) (omega arith) refl
-      | false ↦ rejected-turned (a .equivalents) (a .entries) (forgotten (moved 2 3 0 a)) (lost 2 0 refl refl) (omega arith) refl ]
+      | true ↦ rejected-turned (a .equivalents) (a .entries) (emptied (forgotten (moved 2 3 0 a))) (lost-all 2 0 refl refl) (omega arith) refl
+      | false ↦ rejected-turned (a .equivalents) (a .entries) (forgotten (moved 2 3 0 a)) (lost 2 0 refl refl) (omega arith) refl
+    ]
     row-turned N1 w cause found = rejected-turned (a .equivalents) (grown found (a .entries)) (entered found (forgotten (moved 2 3 0 a))) (fit-entered limit (forgotten (moved 2 3 0 a)) (lost 2 0 refl refl) found) (omega arith) refl
     row-turned Protocol w cause found = failed-turned 5 refl
     row-turned Other w cause found = t3510-turned

@@ -202,36 +202,60 @@ module _ (r : Record) where
   good-ranges : Good r → rangesOf r ≡ true
   unfolding rangesOf
   good-ranges g =
-      joined (deviceRanges (r .hot .dev)) rangeTests
-      (device-joined (r .hot .dev) (g .fair .card, (g .fair .suci, (g .fair .cardlimit, (g .fair .banlimit, (g .fair .n1limit, (g .fair .capability, (g .fair .security, (g .fair .t3247, (g .roaming .count, g .regional .count))))))))),
-      (access-ranges (r .hot .dev) (r .hot .a0) (r .equivalents0) (r .e0) (g .half0),
-      (access-ranges (r .hot .dev) (r .hot .a1) (r .equivalents1) (r .e1) (g .half1),
-      (of-all isItem (r .hot .dev .roaming) (r .roaming) (g .roaming .items), of-all isItem (r .hot .dev .regional) (r .regional) (g .regional .items)))))
+      joined (deviceRanges (r .hot .dev)) rangeTests (
+        device-joined (r .hot .dev) (g .fair .card, (g .fair .suci, (g .fair .cardlimit, (g .fair .banlimit, (g .fair .n1limit, (g .fair .capability, (g .fair .security, (g .fair .t3247, (g .roaming .count, g .regional .count))))))))),
+        (
+          access-ranges (r .hot .dev) (r .hot .a0) (r .equivalents0) (r .e0) (g .half0),
+          (
+            access-ranges (r .hot .dev) (r .hot .a1) (r .equivalents1) (r .e1) (g .half1),
+            (of-all isItem (r .hot .dev .roaming) (r .roaming) (g .roaming .items), of-all isItem (r .hot .dev .regional) (r .regional) (g .regional .items)),
+          ),
+        ),
+      )
 
   good-codes : Good r → codesOf r ≡ true
   unfolding codesOf
   good-codes g =
-      joined (isNetwork (r .hot .dev .home)) codeTests
-      (g .fair .home, (g .half0 .fit .pending .0, (g .half1 .fit .pending .0,
-      (of-all isNetwork (r .hot .a0 .entries) (r .e0 .nets) (g .half0 .held .nets), of-all isNetwork (r .hot .a1 .entries) (r .e1 .nets) (g .half1 .held .nets)))))
+      joined (isNetwork (r .hot .dev .home)) codeTests (
+        g .fair .home,
+        (
+          g .half0 .fit .pending .0,
+          (
+            g .half1 .fit .pending .0,
+            (of-all isNetwork (r .hot .a0 .entries) (r .e0 .nets) (g .half0 .held .nets), of-all isNetwork (r .hot .a1 .entries) (r .e1 .nets) (g .half1 .held .nets)),
+          ),
+        ),
+      )
 
   good-once : Good r → onceOf r ≡ true
   unfolding onceOf
   good-once g =
-      joined (distinctTo itself (r .hot .a0 .entries) (r .e0 .nets)) onceTests
-      (of-once itself (r .hot .a0 .entries) (r .e0 .nets) (g .half0 .held .once),
-      (of-once itself (r .hot .a1 .entries) (r .e1 .nets) (g .half1 .held .once),
-      (of-once halved (r .hot .dev .roaming) (r .roaming) (g .roaming .once), of-once halved (r .hot .dev .regional) (r .regional) (g .regional .once))))
+      joined (distinctTo itself (r .hot .a0 .entries) (r .e0 .nets)) onceTests (
+        of-once itself (r .hot .a0 .entries) (r .e0 .nets) (g .half0 .held .once),
+        (
+          of-once itself (r .hot .a1 .entries) (r .e1 .nets) (g .half1 .held .once),
+          (of-once halved (r .hot .dev .roaming) (r .roaming) (g .roaming .once), of-once halved (r .hot .dev .regional) (r .regional) (g .regional .once)),
+        ),
+      )
 
   pub good-valid : Good r → validOf r ≡ true
   unfolding validOf cardOf clockOf
   good-valid g =
-      joined (rangesOf r) validTests
-      (good-ranges g,
-      (both-true (countersOf (r .hot .dev) (r .hot .a0) (r .e0)) (countersOf (r .hot .dev) (r .hot .a1) (r .e1))
-      (access-counters (r .hot .dev) (r .hot .a0) (r .equivalents0) (r .e0) (g .half0))
-      (access-counters (r .hot .dev) (r .hot .a1) (r .equivalents1) (r .e1) (g .half1)),
-      (card-both (eqb (r .hot .dev .card) 1) (eqb (r .hot .a0 .state) 0) (eqb (r .hot .a1 .state) 0) (g .half0 .carded) (g .half1 .carded),
-      (g .suci,
-      (good-codes g,
-      (both-true (clockOf (r .hot .a0)) (clockOf (r .hot .a1)) (g .half0 .timely) (g .half1 .timely), good-once g))))))
+      joined (rangesOf r) validTests (
+        good-ranges g,
+        (
+          both-true (countersOf (r .hot .dev) (r .hot .a0) (r .e0)) (countersOf (r .hot .dev) (r .hot .a1) (r .e1))
+              (access-counters (r .hot .dev) (r .hot .a0) (r .equivalents0) (r .e0) (g .half0))
+              (access-counters (r .hot .dev) (r .hot .a1) (r .equivalents1) (r .e1) (g .half1)),
+          (
+            card-both (eqb (r .hot .dev .card) 1) (eqb (r .hot .a0 .state) 0) (eqb (r .hot .a1 .state) 0) (g .half0 .carded) (g .half1 .carded),
+            (
+              g .suci,
+              (
+                good-codes g,
+                (both-true (clockOf (r .hot .a0)) (clockOf (r .hot .a1)) (g .half0 .timely) (g .half1 .timely), good-once g),
+              ),
+            ),
+          ),
+        ),
+      )
