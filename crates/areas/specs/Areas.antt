@@ -61,13 +61,23 @@ stayed count xs = kept isProtected (take (sizeOf count) xs)
 unfoldable pub sweptList : ℕ → List ℕ → List ℕ
 sweptList count xs = stayed count xs ++ drop (length (stayed count xs)) xs
 
--- what an event makes of a list: a reject puts an area there; T3247 out; all areas clear
+-- the kinds of task: a reject puts an area there, T3247 out, all areas clear
+abbrev pub isPut : ℕ → Bool
+isPut k = eqb k 1
+
+abbrev pub isSweep : ℕ → Bool
+isSweep k = eqb k 2
+
+abbrev pub isClear : ℕ → Bool
+isClear k = eqb k 3
+
+-- what an event makes of a list
 unfoldable pub listAfter : Task → ℕ → List ℕ → List ℕ
 listAfter t count xs =
-    cond (eqb (t .kind) 1) (placed (areaOf (t .net) (t .code)) (t .sure) count xs)
-    (cond (eqb (t .kind) 2) (sweptList count xs) (cond (eqb (t .kind) 3) (replicate 40 0) xs))
+    cond (isPut (t .kind)) (placed (areaOf (t .net) (t .code)) (t .sure) count xs)
+    (cond (isSweep (t .kind)) (sweptList count xs) (cond (isClear (t .kind)) (replicate 40 0) xs))
 
 unfoldable pub countAfter : Task → ℕ → List ℕ → ℕ
 countAfter t count xs =
-    cond (eqb (t .kind) 1) (placedCount (areaOf (t .net) (t .code)) count xs)
-    (cond (eqb (t .kind) 2) (length (stayed count xs)) (cond (eqb (t .kind) 3) 0 count))
+    cond (isPut (t .kind)) (placedCount (areaOf (t .net) (t .code)) count xs)
+    (cond (isSweep (t .kind)) (length (stayed count xs)) (cond (isClear (t .kind)) 0 count))

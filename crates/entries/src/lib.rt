@@ -1,5 +1,10 @@
 // One access's sixteen network entries, as columns of numbers: searched, struck, lifted and cleared in place.
 ghost use mathlib.Core.Path.{_≡_};
+ghost use mathlib.Core.Bool.{cond};
+ghost use Prim.Native.Nat.{_≤_};
+ghost use lib.ListN.{replicate};
+ghost use Rattle.laws.specs.Upto.{upto, seekTo};
+ghost use Rattle.entries.specs.Entries.{sameNet, sizeOf, liftMark, bumped, putAt, raised, peekAt, seenIn, entriesOf, banned, none, entriesAfter};
 
 // Dense from 0 to a count that the access keeps; behind it nothing is looked at.
 pub struct Entries {
@@ -38,3 +43,229 @@ pub const SWEEP: u8 = 4;
 pub const POWER: u8 = 5;
 
 pub const FRESH: u8 = 6;
+
+// Any count is taken, so that no caller owes one: above sixteen it is sixteen.
+pub fn size(count: u8) -> usize
+    ensures { λ r. ⌜ r ≡ sizeOf count ⌝ }
+    ensures { λ r. ⌜ r ≤ 16 ⌝ }
+{
+    if count < 16 { count as usize } else { 16 }
+}
+
+fn find(nets: &[u32; 16], n: usize, net: u32) -> usize
+    requires { ⌜ n ≤ 16 ⌝ }
+    ensures { λ r. ⌜ r ≡ seekTo (sameNet net) n (now (nets .entry)) ⌝ }
+{
+    let mut i = 0;
+    while i < n {
+        if nets[i] == net {
+            return i;
+        }
+        i += 1;
+    }
+    i
+}
+
+fn peek(xs: &[u8; 16], at: usize, n: usize) -> u8
+    requires { ⌜ n ≤ 16 ⌝ }
+    ensures { λ r. ⌜ r ≡ peekAt (now (xs .entry)) at n ⌝ }
+{
+    if at < n { xs[at] } else { 0 }
+}
+
+// A network with no entry has no marks.
+pub fn look(count: u8, net: u32, nets: &[u32; 16], forbidden: &[u8; 16], barred: &[u8; 16]) -> Seen
+    ensures { λ r. ⌜ r ≡ seenIn count net (now (nets .entry)) (now (forbidden .entry)) (now (barred .entry)) ⌝ }
+{
+    let n = size(count);
+    let at = find(nets, n, net);
+    Seen {
+        at: at,
+        found: at < n,
+        forbidden: peek(forbidden, at, n),
+        barred: peek(barred, at, n),
+    }
+}
+
+fn lift_by(zero: bool, small: bool, mark: u8) -> u8
+    ensures { λ r. ⌜ r ≡ cond zero mark (cond small 0 mark) ⌝ }
+{
+    if zero {
+        mark
+    } else if small {
+        0
+    } else {
+        mark
+    }
+}
+
+fn lift(n: u8, mark: u8, limit: u8) -> u8
+    ensures { λ r. ⌜ r ≡ liftMark limit n mark ⌝ }
+{
+    lift_by(n == 0, n < limit, mark)
+}
+
+fn sweep(marks: &mut [u8; 16], counts: &[u8; 16], n: usize, limit: u8)
+    requires { ⌜ n ≤ 16 ⌝ }
+    ensures { λ r. ⌜ now (marks .exit) ≡ upto (liftMark limit) n (now (counts .entry)) (now (marks .entry)) ⌝ }
+{
+    let mut i: usize = 0;
+    while i < n {
+        let k = counts[i];
+        let m = marks[i];
+        marks[i] = lift(k, m, limit);
+        i += 1;
+    }
+}
+
+fn bump(n: u8, limit: u8, sure: u8) -> u8
+    ensures { λ r. ⌜ r ≡ bumped limit sure n ⌝ }
+{
+    if sure == 0 {
+        if n < limit { n + 1 } else { n }
+    } else {
+        limit
+    }
+}
+
+// Sixteen is the place in a full table: nothing is stored there.
+fn put_net(xs: &mut [u32; 16], at: usize, v: u32)
+    ensures { λ r. ⌜ now (xs .exit) ≡ putAt (now (xs .entry)) at v ⌝ }
+{
+    if at < 16 {
+        xs[at] = v;
+    }
+}
+
+fn put(xs: &mut [u8; 16], at: usize, v: u8)
+    ensures { λ r. ⌜ now (xs .exit) ≡ putAt (now (xs .entry)) at v ⌝ }
+{
+    if at < 16 {
+        xs[at] = v;
+    }
+}
+
+fn clear(when: bool, xs: &mut [u8; 16], at: usize)
+    ensures { λ r. ⌜ now (xs .exit) ≡ cond when (putAt (now (xs .entry)) at 0) (now (xs .entry)) ⌝ }
+{
+    if when {
+        put(xs, at, 0);
+    }
+}
+
+fn old(found: bool, x: u8) -> u8
+    ensures { λ r. ⌜ r ≡ cond found x 0 ⌝ }
+{
+    if found { x } else { 0 }
+}
+
+fn raise(xs: &mut [u8; 16], at: usize, found: bool, limit: u8, sure: u8)
+    ensures { λ r. ⌜ now (xs .exit) ≡ raised (now (xs .entry)) at found limit sure ⌝ }
+{
+    if at < 16 {
+        let x = old(found, xs[at]);
+        xs[at] = bump(x, limit, sure);
+    }
+}
+
+// A reject's mark and counter; the other two columns are zeroed in a new entry.
+fn strike(
+    k: Deed,
+    limit: u8,
+    nets: &mut [u32; 16],
+    counts: &mut [u8; 16],
+    others: &mut [u8; 16],
+    marks: &mut [u8; 16],
+    spare: &mut [u8; 16],
+)
+    ensures { λ r. ⌜ entriesOf (now (nets .exit)) (now (counts .exit)) (now (others .exit)) (now (marks .exit)) (now (spare .exit)) ≡ banned k limit (entriesOf (now (nets .entry)) (now (counts .entry)) (now (others .entry)) (now (marks .entry)) (now (spare .entry))) ⌝ }
+{
+    let new = !k.found;
+    put_net(nets, k.at, k.net);
+    raise(counts, k.at, k.found, limit, k.sure);
+    clear(new, others, k.at);
+    put(marks, k.at, 1);
+    clear(new, spare, k.at);
+}
+
+// Each mark goes by its own counter and limit.
+fn sweep_both(
+    count: u8,
+    banlimit: u8,
+    n1limit: u8,
+    bans: &[u8; 16],
+    n1s: &[u8; 16],
+    forbidden: &mut [u8; 16],
+    barred: &mut [u8; 16],
+)
+    ensures { λ r. ⌜ now (forbidden .exit) ≡ upto (liftMark banlimit) (sizeOf count) (now (bans .entry)) (now (forbidden .entry)) ⌝ }
+    ensures { λ r. ⌜ now (barred .exit) ≡ upto (liftMark n1limit) (sizeOf count) (now (n1s .entry)) (now (barred .entry)) ⌝ }
+{
+    let n = size(count);
+    sweep(forbidden, bans, n, banlimit);
+    sweep(barred, n1s, n, n1limit);
+}
+
+fn cycle(count: u8, banlimit: u8, bans: &[u8; 16], forbidden: &mut [u8; 16], barred: &mut [u8; 16])
+    ensures { λ r. ⌜ now (forbidden .exit) ≡ upto (liftMark banlimit) (sizeOf count) (now (bans .entry)) (now (forbidden .entry)) ⌝ }
+    ensures { λ r. ⌜ now (barred .exit) ≡ replicate 16 0 ⌝ }
+{
+    let n = size(count);
+    sweep(forbidden, bans, n, banlimit);
+    *barred = [0u8; 16];
+}
+
+fn wipe(
+    nets: &mut [u32; 16],
+    bans: &mut [u8; 16],
+    n1s: &mut [u8; 16],
+    forbidden: &mut [u8; 16],
+    barred: &mut [u8; 16],
+)
+    ensures { λ r. ⌜ entriesOf (now (nets .exit)) (now (bans .exit)) (now (n1s .exit)) (now (forbidden .exit)) (now (barred .exit)) ≡ none ⌝ }
+{
+    *nets = [0u32; 16];
+    *bans = [0u8; 16];
+    *n1s = [0u8; 16];
+    *forbidden = [0u8; 16];
+    *barred = [0u8; 16];
+}
+
+// Barring is striking with the columns changed about; a kind not named leaves all as it is.
+pub fn tend(
+    k: Deed,
+    count: u8,
+    banlimit: u8,
+    n1limit: u8,
+    nets: &mut [u32; 16],
+    bans: &mut [u8; 16],
+    n1s: &mut [u8; 16],
+    forbidden: &mut [u8; 16],
+    barred: &mut [u8; 16],
+)
+    ensures { λ r. ⌜ entriesOf (now (nets .exit)) (now (bans .exit)) (now (n1s .exit)) (now (forbidden .exit)) (now (barred .exit)) ≡ entriesAfter k count banlimit n1limit (entriesOf (now (nets .entry)) (now (bans .entry)) (now (n1s .entry)) (now (forbidden .entry)) (now (barred .entry))) ⌝ }
+{
+    if k.kind == BAN {
+        strike(k, banlimit, nets, bans, n1s, forbidden, barred);
+        return;
+    }
+    if k.kind == BAR {
+        strike(k, n1limit, nets, n1s, bans, barred, forbidden);
+        return;
+    }
+    if k.kind == ACCEPT {
+        clear(k.found, forbidden, k.at);
+        return;
+    }
+    if k.kind == SWEEP {
+        sweep_both(count, banlimit, n1limit, bans, n1s, forbidden, barred);
+        return;
+    }
+    if k.kind == POWER {
+        cycle(count, banlimit, bans, forbidden, barred);
+        return;
+    }
+    if k.kind == FRESH {
+        wipe(nets, bans, n1s, forbidden, barred);
+    }
+}

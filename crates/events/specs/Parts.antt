@@ -1,9 +1,9 @@
 -- What an event makes of each part of the record. Assumes nothing.
-use Prim.Native.Nat.{ℕ, _+_, _*_}
+use Prim.Native.Nat.{ℕ, zero, suc}
 use mathlib.Core.Bool.{Bool, true, false, cond}
 use mathlib.Core.List.{List, [], _∷_}
-use lib.ListN.{length, drop}
-use lib.Dec.{leb, eqb}
+use lib.ListN.{length, getD, drop}
+use lib.Dec.{ltb, leb, eqb}
 use Rattle.laws.specs.Upto.{copied}
 use Rattle.record.specs.Tests.{both, either}
 use Rattle.record.specs.Network.{networkOf}
@@ -23,11 +23,14 @@ use Rattle.rules.specs.Plan.{heardOf, askOf, planOf}
 use Rattle.events.specs.declared.Done.{Done}
 
 -- what the entries of the asking access say about the network
-unfoldable pub seenOf : Ask → Hot → Entries → Entries → Seen
-seenOf q h e0 e1 =
+unfoldable pub seenBy : Ask → Hot → List ℕ → List ℕ → List ℕ → List ℕ → List ℕ → List ℕ → Seen
+seenBy q h nets0 forbidden0 barred0 nets1 forbidden1 barred1 =
     cond (eqb (q .access) 0)
-    (seenIn (h .a0 .entries) (q .net) (e0 .nets) (e0 .forbidden) (e0 .barred))
-    (seenIn (h .a1 .entries) (q .net) (e1 .nets) (e1 .forbidden) (e1 .barred))
+    (seenIn (h .a0 .entries) (q .net) nets0 forbidden0 barred0)
+    (seenIn (h .a1 .entries) (q .net) nets1 forbidden1 barred1)
+
+unfoldable pub seenOf : Ask → Hot → Entries → Entries → Seen
+seenOf q h e0 e1 = seenBy q h (e0 .nets) (e0 .forbidden) (e0 .barred) (e1 .nets) (e1 .forbidden) (e1 .barred)
 
 -- whether the area stands in one of the two lists, where that is asked
 unfoldable pub listedOf : Ask → Hot → List ℕ → List ℕ → Bool
@@ -35,9 +38,12 @@ listedOf q h roaming regional =
     both (q .area)
     (either (listedIn (areaOf (q .net) (q .code)) (h .dev .roaming) roaming) (listedIn (areaOf (q .net) (q .code)) (h .dev .regional) regional))
 
+-- what is planned, once that is known and the octets are read
+unfoldable pub plannedBy : Hot → Event → List ℕ → Seen → Bool → Plan
+plannedBy h e octets s l = planOf h e (askOf h e) s l (heardOf e octets) octets
+
 unfoldable pub plannedOf : Hot → Event → List ℕ → Entries → Entries → List ℕ → List ℕ → Plan
-plannedOf h e octets e0 e1 roaming regional =
-    planOf h e (askOf h e) (seenOf (askOf h e) h e0 e1) (listedOf (askOf h e) h roaming regional) (heardOf e octets) octets
+plannedOf h e octets e0 e1 roaming regional = plannedBy h e octets (seenOf (askOf h e) h e0 e1) (listedOf (askOf h e) h roaming regional)
 
 -- T3247 out, a power cycle and a card change go over both accesses' entries, all else over the event's own
 unfoldable pub mineOf : ℕ → ℕ → ℕ → ℕ
@@ -107,12 +113,14 @@ carriedOut p h e0 e1 roaming regional =
 unfoldable pub partsAfter : Hot → Event → List ℕ → Entries → Entries → List ℕ → List ℕ → Parts
 partsAfter h e octets e0 e1 roaming regional = carriedOut (plannedOf h e octets e0 e1 roaming regional) h e0 e1 roaming regional
 
--- three octets each: networks
-unfoldable pub networksOf : List ℕ → List ℕ
-networksOf [] = []
-networksOf (a ∷ []) = []
-networksOf (a ∷ (b ∷ [])) = []
-networksOf (a ∷ (b ∷ (c ∷ s))) = networkOf a b c ∷ networksOf s
+-- three octets each: the first n networks
+unfoldable pub networksOf : ℕ → List ℕ → List ℕ
+networksOf zero s = []
+networksOf (suc n) s = networkOf (getD s 0 0) (getD s 1 0) (getD s 2 0) ∷ networksOf n (drop 3 s)
+
+-- no more than an array holds
+abbrev pub atMost : ℕ → ℕ → ℕ
+atMost m n = cond (ltb n m) n m
 
 -- keep: 1 an accept's GUTI and equivalents, on its access; 2 a card's SUCI, all else of a new record
 abbrev pub isAccepted : Plan → ℕ → Bool
@@ -131,10 +139,10 @@ gutiAfter p me octets guti =
 unfoldable pub equivalentsAfter : Plan → ℕ → List ℕ → List ℕ → List ℕ
 equivalentsAfter p me octets equivalents =
     cond (isCarded p) (zeros 15)
-    (cond (isAccepted p me) (copied (p .gift .count) (networksOf (drop (p .gift .triplets) octets)) equivalents) equivalents)
+    (cond (isAccepted p me) (copied (atMost 15 (p .gift .count)) (networksOf (atMost 15 (p .gift .count)) (drop (p .gift .triplets) octets)) equivalents) equivalents)
 
 unfoldable pub suciAfter : Plan → List ℕ → List ℕ → List ℕ
-suciAfter p octets suci = cond (isCarded p) (copied (length octets) octets (zeros 64)) suci
+suciAfter p octets suci = cond (isCarded p) (copied (atMost 64 (length octets)) octets (zeros 64)) suci
 
 -- what the core leaves to keep
 pub record Kept : Type 0 where

@@ -10,12 +10,11 @@ use native.Mathlib.Nat.{add-zero, add-suc, suc-add}
 use lib.ListN.{length, getD, drop, length-drop, drop-of-length-le, List·getD-eq-default}
 use lib.Seq.{drop-cons, drop-drop}
 use lib.Dec.{ltb, eqb}
-use borrow.Author.Tests.{lt-ltb, le-ltb, ltb-true, ltb-false}
+use borrow.Author.Tests.{lt-ltb, ltb-true, ltb-false}
 use Rattle.octets.specs.Element.{formatOf, leadOf, contentsOf, sizeOf, elementOf, elementAt, afterOf, Elements, joined, elementsOf, keptOf, gatheredOf}
-use Rattle.octets.specs.Element.Elements.{over, broken, element}
+use Rattle.octets.specs.Element.Elements.{over}
 use Rattle.octets.specs.declared.Fault.{Fault}
 use Rattle.octets.specs.declared.Fault.the-variants.{Past, Strange}
-use Rattle.octets.specs.declared.Element.{Element}
 use Rattle.octets.specs.declared.Element.the-variants.{End, Bad, At}
 use Rattle.octets.specs.declared.Part.{Part}
 use Rattle.octets.specs.declared.Gathered.{Gathered}

@@ -1,0 +1,57 @@
+-- The search of the whole is the place reached and the search of the rest.
+use Prim.Native.Nat.{_≤_, _-_, _+_}
+use mathlib.Core.Path.{_≡_}
+use lib.ListN.{drop}
+use native.Mathlib.Omega.{arith}
+use borrow.Author.Needs.{needs}
+use borrow.Author.Tests.{eq-eqb, ne-eqb}
+use Rattle.laws.specs.Upto.{seekTo}
+use Rattle.laws.proofs.Zip.{seek-none, seek-hit, seek-miss, seek-over}
+use Rattle.areas.specs.Areas.{sameArea}
+use Rattle.areas.proofs.seek.Statement.{statement}
+use Rattle.areas.proofs.seek.Tie as tie
+
+abbrev Inv-loop : tie.InvT-loop
+Inv-loop list n area i₀ i = (i ≤ n) × (seekTo (sameArea area) n list ≡ i + seekTo (sameArea area) (n - i) (drop i list))
+
+abbrev μ-loop : tie.MeasureT-loop
+μ-loop list n area i₀ i = n - i
+
+loop-holds : tie.Need-loop-holds Inv-loop μ-loop
+loop-holds c = (search needs, seek-none (sameArea (c .args .area)) _ _)
+
+mul-if1 : tie.Need-mul-if1 Inv-loop μ-loop
+mul-if1 c = omega arith
+
+element-copy-out-if1 : tie.Need-element-copy-out-if1 Inv-loop μ-loop
+element-copy-out-if1 c = search needs
+
+returns : tie.Need-returns Inv-loop μ-loop
+returns c = seek-hit (sameArea (c .before .before .before .before .args .area)) (c .before .before .before .before .args .n) (c .before .before .before .loop .i) (c .before .before .before .before .args .list .now) (c .before .before .before .loop .inv .1) (eq-eqb _ _ (c .if1 .taken)) (search needs)
+
+add-i : tie.Need-add-i Inv-loop μ-loop
+add-i c = omega arith
+
+loop-less : tie.Need-loop-less Inv-loop μ-loop
+loop-less c = omega arith
+
+loop-again : tie.Need-loop-again Inv-loop μ-loop
+loop-again c = (search needs, seek-miss (sameArea (c .before .before .before .before .args .area)) (c .before .before .before .before .args .n) (c .before .before .before .loop .i) (c .before .before .before .before .args .list .now) (c .before .before .before .loop .inv .1) (ne-eqb _ _ (c .if1 .left)) (search needs))
+
+returns-2 : tie.Need-returns-2 Inv-loop μ-loop
+returns-2 c = seek-over (sameArea (c .before .before .args .area)) (c .before .before .args .n) _ (c .before .before .args .list .now) (c .before .loop .inv .1) (search needs)
+
+pub seek-spec : {M : Type 1} → statement M
+seek-spec =
+    tie.close
+    (tie.spec
+    Inv-loop
+    μ-loop
+    loop-holds
+    mul-if1
+    element-copy-out-if1
+    returns
+    add-i
+    loop-less
+    loop-again
+    returns-2)

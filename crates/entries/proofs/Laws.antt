@@ -1,0 +1,21 @@
+-- A bar is a ban with the columns changed about, and a new entry is one that was not found. Assumes nothing.
+use Prim.Native.Nat.{ℕ}
+use mathlib.Core.Path.{_≡_, refl, ap}
+use mathlib.Core.Bool.{Bool, true, false, cond, not}
+use mathlib.Core.List.{List}
+use Rattle.entries.specs.declared.Entries.{Entries}
+use Rattle.entries.specs.declared.Deed.{Deed}
+use Rattle.entries.specs.Entries.{putAt, clearUnless, entriesOf, banned, barredBy}
+
+pub fresh : (found : Bool) (xs : List ℕ) (at : ℕ) → cond (not found) (putAt xs at 0) xs ≡ clearUnless found xs at
+unfolding clearUnless
+fresh true xs at = refl
+fresh false xs at = refl
+
+-- bans and N1 counters, forbidden and barred marks in each other's place
+abbrev turned : Entries → Entries
+turned t = entriesOf (t .nets) (t .n1s) (t .bans) (t .barred) (t .forbidden)
+
+pub turn : (k : Deed) (limit : ℕ) (s t : Entries) → s ≡ banned k limit (turned t) → turned s ≡ barredBy k limit t
+unfolding banned barredBy
+turn k limit s t e = ap turned e

@@ -1,0 +1,17 @@
+-- `size` meets its contract: the test on the count is the definition's.
+use borrow.Author.Needs.{needs}
+use Rattle.entries.specs.Entries.{sizeOf}
+use borrow.Author.Tests.{lt-ltb, le-ltb}
+use Rattle.entries.proofs.size.Statement.{statement}
+use Rattle.entries.proofs.size.Tie as tie
+
+returns : tie.Need-returns
+unfolding sizeOf
+returns c = (simp (lt-ltb _ _ (c .if1 .taken)), search needs)
+
+returns-2 : tie.Need-returns-2
+unfolding sizeOf
+returns-2 c = (simp (le-ltb _ _ (c .if1 .left)), search needs)
+
+pub size-spec : {M : Type 1} → statement M
+size-spec = tie.close (tie.spec returns returns-2)

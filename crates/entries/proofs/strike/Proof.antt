@@ -1,0 +1,38 @@
+-- `strike` meets its contract: each column by its callee's.
+use borrow.Author.Needs.{needs}
+use Rattle.entries.specs.Entries.{banned}
+use Rattle.entries.proofs.Laws.{fresh}
+use Rattle.entries.proofs.strike.Statement.{statement}
+use Rattle.entries.proofs.strike.Tie as tie
+
+put-net-requires : tie.Need-put-net-requires
+put-net-requires c κs = search needs
+
+raise-requires : tie.Need-raise-requires
+raise-requires c κs = search needs
+
+clear-requires : tie.Need-clear-requires
+clear-requires c κs = search needs
+
+put-requires : tie.Need-put-requires
+put-requires c κs = search needs
+
+clear-requires-2 : tie.Need-clear-requires-2
+clear-requires-2 c κs = search needs
+
+returns : tie.Need-returns
+unfolding banned
+returns c =
+    rw (
+      c .before .before .before .before .before .before .before .before .put-net .ensures,
+      c .before .before .before .before .before .before .raise .ensures,
+      c .before .before .before .before .clear .ensures,
+      c .before .before .put .ensures,
+      c .clear2 .ensures,
+    )
+    (simp fresh)
+
+pub strike-spec : {M : Type 1} → statement M
+strike-spec =
+    tie.close
+    (tie.spec put-net-requires raise-requires clear-requires put-requires clear-requires-2 returns)

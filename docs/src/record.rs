@@ -1,0 +1,612 @@
+// The registration record of document 01 and its six events, updated in place.
+
+use crate::message::{self, Accept, Message};
+
+pub type Network = [u8; 3];
+/// A network and a three-octet area code.
+pub type Area = [u8; 6];
+pub type Guti = [u8; 10];
+
+// Reply numbers.
+pub const TAKEN: u8 = 0;
+pub const RANGE: u8 = 1;
+pub const IGNORED: u8 = 2;
+pub const MALFORMED: u8 = 3;
+pub const FULL: u8 = 4;
+pub const NO_CARD: u8 = 5;
+pub const STATE: u8 = 6;
+pub const CONCURRENT: u8 = 7;
+pub const NETWORK_LISTED: u8 = 8;
+pub const AREA_LISTED: u8 = 9;
+pub const UNPROTECTED: u8 = 10;
+pub const NOT_RUNNING: u8 = 11;
+pub const SHORT: u8 = 12;
+
+// States.
+pub const NO_SUPI: u8 = 0;
+pub const NORMAL: u8 = 1;
+pub const LIMITED: u8 = 2;
+pub const ATTEMPTING: u8 = 3;
+pub const INITIATED: u8 = 4;
+pub const REGISTERED: u8 = 5;
+pub const SEARCH: u8 = 6;
+
+// Places of the timers in a reply: the access is added to the first three.
+pub const T3510: usize = 0;
+pub const T3511: usize = 2;
+pub const T3502: usize = 4;
+pub const T3247: usize = 6;
+
+const T3510_SECONDS: u16 = 15;
+const T3511_SECONDS: u16 = 10;
+const T3502_SECONDS: u16 = 720;
+const MOST_ATTEMPTS: u8 = 5;
+const NO_KEY: u8 = 7;
+
+/// A list held in place, oldest first.
+#[derive(Clone, Copy)]
+pub struct List<T, const N: usize> {
+    items: [T; N],
+    count: usize,
+}
+
+impl<T: Copy + Default, const N: usize> List<T, N> {
+    pub fn new() -> Self {
+        List { items: [T::default(); N], count: 0 }
+    }
+
+    /// The first `N` of `items`.
+    pub fn of(items: &[T]) -> Self {
+        let mut list = Self::new();
+        for &item in items.iter().take(N) {
+            list.push(item);
+        }
+        list
+    }
+
+    pub fn push(&mut self, item: T) {
+        self.items[self.count] = item;
+        self.count += 1;
+    }
+
+    pub fn clear(&mut self) {
+        self.count = 0;
+    }
+
+    pub fn full(&self) -> bool {
+        self.count == N
+    }
+
+    fn drop_oldest(&mut self) {
+        self.items.copy_within(1..self.count, 0);
+        self.count -= 1;
+    }
+
+    fn retain(&mut self, keep: impl Fn(&T) -> bool) {
+        let mut kept = 0;
+        for place in 0..self.count {
+            if keep(&self.items[place]) {
+                self.items[kept] = self.items[place];
+                kept += 1;
+            }
+        }
+        self.count = kept;
+    }
+}
+
+impl<T, const N: usize> std::ops::Deref for List<T, N> {
+    type Target = [T];
+    fn deref(&self) -> &[T] {
+        &self.items[..self.count]
+    }
+}
+
+impl<T, const N: usize> std::ops::DerefMut for List<T, N> {
+    fn deref_mut(&mut self) -> &mut [T] {
+        &mut self.items[..self.count]
+    }
+}
+
+#[derive(Clone, Copy)]
+pub struct Limits {
+    pub card: u8,
+    pub ban: u8,
+    pub n1: u8,
+}
+
+/// A network that was barred once on an access.
+#[derive(Clone, Copy, Default)]
+pub struct Entry {
+    pub network: Network,
+    pub ban: u8,
+    pub n1: u8,
+    pub forbidden: bool,
+    pub n1_barred: bool,
+}
+
+#[derive(Clone, Copy, Default)]
+pub struct Listed {
+    pub area: Area,
+    pub protected: bool,
+}
+
+pub type Areas = List<Listed, 40>;
+
+#[derive(Clone, Copy)]
+pub struct Access {
+    pub state: u8,
+    /// 1, 2 or 3 for 5U1, 5U2 or 5U3.
+    pub status: u8,
+    pub attempts: u8,
+    pub t3510: bool,
+    pub t3511: bool,
+    pub t3502: bool,
+    pub t3502_length: u16,
+    pub pending: Area,
+    pub guti: Option<Guti>,
+    pub last: Option<Area>,
+    pub ksi: u8,
+    pub equivalents: List<Network, 15>,
+    pub cards: u8,
+    pub entries: List<Entry, 16>,
+}
+
+#[derive(Clone, Copy)]
+pub struct Record {
+    pub card: bool,
+    pub home: Network,
+    pub suci: List<u8, 64>,
+    pub limits: Limits,
+    pub capability: List<u8, 13>,
+    pub security: List<u8, 8>,
+    pub t3247: bool,
+    pub roaming: Areas,
+    pub regional: Areas,
+    pub access: [Access; 2],
+}
+
+#[derive(Clone, Copy, PartialEq, Debug)]
+pub enum Change {
+    Left,
+    Stopped,
+    Started(u16),
+}
+
+/// What an event returns; a request names the access it is meant for.
+#[derive(Clone, Copy, PartialEq, Debug)]
+pub struct Reply {
+    pub answer: u8,
+    pub timers: [Change; 7],
+    pub restart: Option<u8>,
+    pub leave: Option<u8>,
+    pub update: Option<u8>,
+}
+
+impl Reply {
+    pub const fn of(answer: u8) -> Reply {
+        Reply { answer, timers: [Change::Left; 7], restart: None, leave: None, update: None }
+    }
+
+    fn stop(&mut self, timer: usize, running: &mut bool) {
+        if *running {
+            *running = false;
+            self.timers[timer] = Change::Stopped;
+        }
+    }
+
+    fn start(&mut self, timer: usize, running: &mut bool, seconds: u16) {
+        *running = true;
+        self.timers[timer] = Change::Started(seconds);
+    }
+}
+
+/// Decimal digits; only the third MNC digit, the high half of octet 2, may be F.
+pub fn is_network(code: &Network) -> bool {
+    let high = |octet: u8| octet >> 4;
+    let low = |octet: u8| octet & 15;
+    high(code[0]) < 10
+        && low(code[0]) < 10
+        && (high(code[1]) < 10 || high(code[1]) == 15)
+        && low(code[1]) < 10
+        && high(code[2]) < 10
+        && low(code[2]) < 10
+}
+
+pub fn network_of(area: &Area) -> Network {
+    [area[0], area[1], area[2]]
+}
+
+/// The test by which T3247 and a power cycle lift a mark.
+fn lifts(counter: u8, limit: u8) -> bool {
+    0 < counter && counter < limit
+}
+
+/// One more below the limit; a protected reject counts to the limit at once.
+fn counted(counter: u8, limit: u8, protected: bool) -> u8 {
+    if protected {
+        limit
+    } else if counter < limit {
+        counter + 1
+    } else {
+        counter
+    }
+}
+
+/// A listed area keeps its place, and a protected mark is never lowered.
+fn list(areas: &mut Areas, area: Area, protected: bool) {
+    if let Some(held) = areas.iter_mut().find(|held| held.area == area) {
+        held.protected |= protected;
+        return;
+    }
+    if areas.full() {
+        areas.drop_oldest();
+    }
+    areas.push(Listed { area, protected });
+}
+
+fn holds(areas: &Areas, area: &Area) -> bool {
+    areas.iter().any(|held| held.area == *area)
+}
+
+impl Access {
+    fn new() -> Access {
+        Access {
+            state: NO_SUPI,
+            status: 2,
+            attempts: 0,
+            t3510: false,
+            t3511: false,
+            t3502: false,
+            t3502_length: T3502_SECONDS,
+            pending: [0; 6],
+            guti: None,
+            last: None,
+            ksi: NO_KEY,
+            equivalents: List::new(),
+            cards: 0,
+            entries: List::new(),
+        }
+    }
+
+    pub fn entry(&self, network: &Network) -> Option<&Entry> {
+        self.entries.iter().find(|entry| entry.network == *network)
+    }
+
+    /// The entry of the network, taken into use if it has none; None if all are held.
+    fn claim(&mut self, network: Network) -> Option<&mut Entry> {
+        let held = self.entries.iter().position(|entry| entry.network == network);
+        let place = match held {
+            Some(place) => place,
+            None if self.entries.full() => return None,
+            None => {
+                self.entries.push(Entry { network, ..Entry::default() });
+                self.entries.len() - 1
+            }
+        };
+        Some(&mut self.entries[place])
+    }
+
+    fn clear_identity(&mut self) {
+        self.guti = None;
+        self.last = None;
+        self.ksi = NO_KEY;
+    }
+
+    /// 5U3, clear identity and the new state: what all rows but the last two share.
+    fn barred(&mut self, state: u8) {
+        self.status = 3;
+        self.clear_identity();
+        self.state = state;
+    }
+
+    /// 11, 73 away from home; false if it has no entry and all are held.
+    fn ban_row(&mut self, a: usize, limit: u8, protected: bool) -> bool {
+        let Some(entry) = self.claim(network_of(&self.pending)) else { return false };
+        entry.forbidden = true;
+        entry.ban = counted(entry.ban, limit, protected);
+        self.barred(if a == 0 { SEARCH } else { LIMITED });
+        self.equivalents.clear();
+        self.attempts = 0;
+        true
+    }
+
+    /// 27, and 72 over access 1; false if it has no entry and all are held.
+    fn n1_row(&mut self, limit: u8, protected: bool) -> bool {
+        let Some(entry) = self.claim(network_of(&self.pending)) else { return false };
+        entry.n1_barred = true;
+        entry.n1 = counted(entry.n1, limit, protected);
+        self.barred(LIMITED);
+        self.attempts = 0;
+        true
+    }
+
+    /// T3510 out, once T3510 is stopped.
+    fn failed(&mut self, a: usize, reply: &mut Reply) {
+        if self.attempts < MOST_ATTEMPTS {
+            self.attempts += 1;
+        }
+        self.state = ATTEMPTING;
+        if self.attempts < MOST_ATTEMPTS {
+            reply.start(T3511 + a, &mut self.t3511, T3511_SECONDS);
+        } else {
+            self.clear_identity();
+            self.equivalents.clear();
+            self.status = 2;
+            reply.start(T3502 + a, &mut self.t3502, self.t3502_length);
+        }
+    }
+}
+
+impl Record {
+    pub fn new(limits: Limits, capability: &[u8], security: &[u8]) -> Record {
+        Record {
+            card: false,
+            home: [0; 3],
+            suci: List::new(),
+            limits,
+            capability: List::of(capability),
+            security: List::of(security),
+            t3247: false,
+            roaming: List::new(),
+            regional: List::new(),
+            access: [Access::new(); 2],
+        }
+    }
+
+    fn stop_all(&mut self, reply: &mut Reply) {
+        for (a, access) in self.access.iter_mut().enumerate() {
+            reply.stop(T3510 + a, &mut access.t3510);
+            reply.stop(T3511 + a, &mut access.t3511);
+            reply.stop(T3502 + a, &mut access.t3502);
+        }
+        reply.stop(T3247, &mut self.t3247);
+    }
+
+    pub fn card(&mut self, home: Network, suci: &[u8]) -> Reply {
+        if !is_network(&home) || suci.len() < 9 || suci.len() > 64 || suci[0] != 1 {
+            return Reply::of(RANGE);
+        }
+        let mut reply = Reply::of(TAKEN);
+        self.stop_all(&mut reply);
+        self.card = true;
+        self.home = home;
+        self.suci = List::of(suci);
+        self.roaming.clear();
+        self.regional.clear();
+        self.access = [Access { state: NORMAL, ..Access::new() }; 2];
+        reply
+    }
+
+    pub fn start(&mut self, access: u8, manual: u8, area: Area) -> Reply {
+        let network = network_of(&area);
+        if access > 1 || manual > 1 || !is_network(&network) {
+            return Reply::of(RANGE);
+        }
+        let a = access as usize;
+        let other = &self.access[1 - a];
+        let this = &self.access[a];
+        match this.state {
+            NO_SUPI => return Reply::of(NO_CARD),
+            INITIATED | REGISTERED => return Reply::of(STATE),
+            _ => {}
+        }
+        if other.state == INITIATED && network_of(&other.pending) == network {
+            return Reply::of(CONCURRENT);
+        }
+        if let Some(entry) = this.entry(&network) {
+            if entry.n1_barred || entry.forbidden && manual == 0 {
+                return Reply::of(NETWORK_LISTED);
+            }
+        }
+        if a == 0 && (holds(&self.roaming, &area) || holds(&self.regional, &area)) {
+            return Reply::of(AREA_LISTED);
+        }
+        let this = &mut self.access[a];
+        let mut reply = Reply::of(TAKEN);
+        this.state = INITIATED;
+        this.pending = area;
+        reply.start(T3510 + a, &mut this.t3510, T3510_SECONDS);
+        reply.stop(T3511 + a, &mut this.t3511);
+        reply.stop(T3502 + a, &mut this.t3502);
+        reply
+    }
+
+    pub fn message(&mut self, access: u8, protected: u8, draw: u16, octets: &[u8]) -> Reply {
+        if access > 1 || protected > 1 || !(1800..=3600).contains(&draw) {
+            return Reply::of(RANGE);
+        }
+        let a = access as usize;
+        if self.access[a].state != INITIATED {
+            return Reply::of(STATE);
+        }
+        match message::read(octets) {
+            None => Reply::of(MALFORMED),
+            Some(Message::Accept(_)) if protected == 0 => Reply::of(UNPROTECTED),
+            Some(Message::Accept(accept)) => self.accept(a, &accept),
+            Some(Message::Reject(cause)) => self.reject(a, cause, protected == 1, draw),
+        }
+    }
+
+    fn accept(&mut self, a: usize, accept: &Accept) -> Reply {
+        let mut reply = Reply::of(TAKEN);
+        let this = &mut self.access[a];
+        this.state = REGISTERED;
+        this.status = 1;
+        this.attempts = 0;
+        reply.stop(T3510 + a, &mut this.t3510);
+        this.last = Some(this.pending);
+        if let Some(guti) = accept.guti {
+            this.guti = Some(guti);
+        }
+        this.equivalents.clear();
+        for triplet in accept.equivalents.chunks_exact(3).take(15) {
+            this.equivalents.push([triplet[0], triplet[1], triplet[2]]);
+        }
+        this.t3502_length = accept.t3502.unwrap_or(T3502_SECONDS);
+        let network = network_of(&this.pending);
+        if let Some(entry) = this.entries.iter_mut().find(|entry| entry.network == network) {
+            entry.forbidden = false;
+        }
+        reply
+    }
+
+    fn reject(&mut self, a: usize, cause: u8, protected: bool, draw: u16) -> Reply {
+        if matches!(cause, 3 | 6 | 7) && !protected && self.access[1 - a].state == REGISTERED {
+            let mut reply = Reply::of(IGNORED);
+            reply.leave = Some(a as u8);
+            reply.update = Some(1 - a as u8);
+            return reply;
+        }
+        let mut reply = Reply::of(TAKEN);
+        if !self.row(a, cause, protected, &mut reply) {
+            return Reply::of(FULL);
+        }
+        reply.stop(T3510 + a, &mut self.access[a].t3510);
+        let starts = matches!(cause, 3 | 6 | 7 | 11 | 12 | 13 | 15 | 27 | 72 | 73);
+        if starts && !protected && !self.t3247 {
+            reply.start(T3247, &mut self.t3247, draw);
+        }
+        reply
+    }
+
+    /// The row of the table for a cause; false if it needs an entry and all are held.
+    fn row(&mut self, a: usize, cause: u8, protected: bool, reply: &mut Reply) -> bool {
+        let this = &mut self.access[a];
+        let home = network_of(&this.pending) == self.home;
+        match cause {
+            3 | 6 | 7 => self.card_row(a, protected),
+            11 | 73 if !home => return this.ban_row(a, self.limits.ban, protected),
+            11 | 73 if !protected => self.home_row(a),
+            12 | 13 | 15 if a == 0 => self.area_row(cause, protected),
+            27 => return this.n1_row(self.limits.n1, protected),
+            72 if a == 1 => return this.n1_row(self.limits.n1, protected),
+            95 | 96 | 97 | 99 | 111 => {
+                this.attempts = MOST_ATTEMPTS;
+                this.failed(a, reply);
+            }
+            _ => this.failed(a, reply),
+        }
+        true
+    }
+
+    /// 3, 6, 7: the first three rows.
+    fn card_row(&mut self, a: usize, protected: bool) {
+        let this = &mut self.access[a];
+        if protected || this.cards == self.limits.card {
+            this.barred(NO_SUPI);
+            this.equivalents.clear();
+            if protected {
+                self.access[0].cards = self.limits.card;
+                self.access[1].cards = self.limits.card;
+            }
+            return;
+        }
+        this.barred(LIMITED);
+        this.cards += 1;
+        if a == 0 {
+            this.equivalents.clear();
+            this.attempts = 0;
+            list(&mut self.roaming, this.pending, false);
+        }
+    }
+
+    /// 11, 73 unprotected at home.
+    fn home_row(&mut self, a: usize) {
+        let this = &mut self.access[a];
+        this.barred(LIMITED);
+        this.equivalents.clear();
+        this.attempts = 0;
+        if a == 0 {
+            list(&mut self.roaming, this.pending, false);
+        }
+    }
+
+    /// 12, 13, 15 over access 0.
+    fn area_row(&mut self, cause: u8, protected: bool) {
+        let this = &mut self.access[0];
+        this.barred(LIMITED);
+        this.attempts = 0;
+        if cause == 13 {
+            this.equivalents.clear();
+        }
+        let areas = if cause == 12 { &mut self.regional } else { &mut self.roaming };
+        list(areas, this.pending, protected);
+    }
+
+    /// Timer numbers as in the log: 1 T3510, 2 T3511, 3 T3502, 4 T3247 (access 0).
+    pub fn timer(&mut self, number: u8, access: u8) -> Reply {
+        if !(1..=4).contains(&number) || access > 1 || number == 4 && access != 0 {
+            return Reply::of(RANGE);
+        }
+        let a = access as usize;
+        let this = &mut self.access[a];
+        let (timer, running) = match number {
+            1 => (T3510 + a, &mut this.t3510),
+            2 => (T3511 + a, &mut this.t3511),
+            3 => (T3502 + a, &mut this.t3502),
+            _ => (T3247, &mut self.t3247),
+        };
+        if !*running {
+            return Reply::of(NOT_RUNNING);
+        }
+        let mut reply = Reply::of(TAKEN);
+        reply.stop(timer, running);
+        match number {
+            1 => this.failed(a, &mut reply),
+            2 => reply.restart = Some(access),
+            3 => {
+                reply.restart = Some(access);
+                this.attempts = 0;
+            }
+            _ => self.lift(),
+        }
+        reply
+    }
+
+    /// T3247 out.
+    fn lift(&mut self) {
+        let limits = self.limits;
+        for access in &mut self.access {
+            for entry in access.entries.iter_mut() {
+                if lifts(entry.ban, limits.ban) {
+                    entry.forbidden = false;
+                }
+                if lifts(entry.n1, limits.n1) {
+                    entry.n1_barred = false;
+                }
+            }
+        }
+        self.roaming.retain(|held| held.protected);
+        self.regional.retain(|held| held.protected);
+    }
+
+    pub fn power(&mut self) -> Reply {
+        let mut reply = Reply::of(TAKEN);
+        self.stop_all(&mut reply);
+        self.roaming.clear();
+        self.regional.clear();
+        for access in &mut self.access {
+            access.state = if self.card { NORMAL } else { NO_SUPI };
+            access.attempts = 0;
+            for entry in access.entries.iter_mut() {
+                entry.n1_barred = false;
+                if lifts(entry.ban, self.limits.ban) {
+                    entry.forbidden = false;
+                }
+            }
+        }
+        reply
+    }
+
+    pub fn key(&mut self, access: u8, set: u8) -> Reply {
+        if access > 1 || set > 6 {
+            return Reply::of(RANGE);
+        }
+        let this = &mut self.access[access as usize];
+        if this.state != INITIATED {
+            return Reply::of(STATE);
+        }
+        this.ksi = set;
+        Reply::of(TAKEN)
+    }
+}

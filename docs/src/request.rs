@@ -1,0 +1,134 @@
+// The registration request: choosing the identity, writing and reading back.
+
+use crate::message::{element, Within};
+use crate::record::{network_of, Network, Record, INITIATED, MALFORMED, RANGE, SHORT, STATE};
+use std::ops::Range;
+
+/// The longest request: head, SUCI of 64, 10 of 13, 2E of 8 and 52.
+pub const LONGEST: usize = 6 + 64 + 15 + 10 + 7;
+
+/// Two identities as sent, F2 and ten octets, for access 0 then 1; zeros where none is held.
+pub fn gutis(record: &Record) -> [u8; 22] {
+    let mut octets = [0; 22];
+    for (a, access) in record.access.iter().enumerate() {
+        if let Some(guti) = access.guti {
+            octets[11 * a] = 0xF2;
+            octets[11 * a + 1..11 * a + 11].copy_from_slice(&guti);
+        }
+    }
+    octets
+}
+
+/// A GUTI of the pending network, else of an equivalent one, else any, else the SUCI;
+/// within each, this access's first. The answer is a part of `gutis` or `suci`.
+pub fn identity<'a>(
+    gutis: &'a [u8; 22],
+    held: [bool; 2],
+    suci: &'a [u8],
+    a: usize,
+    pending: &Network,
+    equivalents: &[Network],
+) -> &'a [u8] {
+    let part = |b: usize| &gutis[11 * b..11 * b + 11];
+    let pick = |fits: &dyn Fn(&[u8]) -> bool| {
+        [a, 1 - a].iter().copied().find(|&b| held[b] && fits(&part(b)[1..4])).map(part)
+    };
+    pick(&|network| network == pending)
+        .or_else(|| pick(&|network| equivalents.iter().any(|equivalent| network == equivalent)))
+        .or_else(|| pick(&|_| true))
+        .unwrap_or(suci)
+}
+
+/// The request as octets and its length.
+fn build(record: &Record, a: usize) -> ([u8; LONGEST], usize) {
+    let access = &record.access[a];
+    let gutis = gutis(record);
+    let held = [record.access[0].guti.is_some(), record.access[1].guti.is_some()];
+    let pending = network_of(&access.pending);
+    let identity = identity(&gutis, held, &record.suci, a, &pending, &access.equivalents);
+    let mut octets = [0; LONGEST];
+    let mut used = 0;
+    let mut put = |part: &[u8]| {
+        octets[used..used + part.len()].copy_from_slice(part);
+        used += part.len();
+    };
+    put(&[0x7E, 0x00, 0x41, access.ksi * 16 + 1, 0, identity.len() as u8]);
+    put(identity);
+    if access.ksi < 7 {
+        put(&[0x10, record.capability.len() as u8]);
+        put(&record.capability);
+    }
+    put(&[0x2E, record.security.len() as u8]);
+    put(&record.security);
+    if let (true, Some(area)) = (access.ksi < 7, access.last) {
+        put(&[0x52]);
+        put(&area);
+    }
+    (octets, used)
+}
+
+/// Writes the request into the lent buffer and gives its length, or answer 1, 6 or 12.
+pub fn write(record: &Record, access: u8, buffer: &mut [u8]) -> Result<usize, u8> {
+    if access > 1 {
+        return Err(RANGE);
+    }
+    let a = access as usize;
+    if record.access[a].state != INITIATED {
+        return Err(STATE);
+    }
+    let (octets, length) = build(record, a);
+    let place = buffer.get_mut(..length).ok_or(SHORT)?;
+    place.copy_from_slice(&octets[..length]);
+    Ok(length)
+}
+
+/// What a request says, each part by its place in the octets.
+#[derive(Clone, PartialEq, Debug)]
+pub struct Request {
+    pub ksi: u8,
+    pub identity: Range<usize>,
+    pub capability: Option<Range<usize>>,
+    pub security: Range<usize>,
+    pub area: Option<Range<usize>>,
+}
+
+/// Reads a request back, elements in any order; all that breaks the layout is answer 3.
+pub fn read(octets: &[u8]) -> Result<Request, u8> {
+    parse(octets).ok_or(MALFORMED)
+}
+
+fn parse(octets: &[u8]) -> Option<Request> {
+    let [0x7E, 0, 0x41, fourth, high, low, rest @ ..] = octets else { return None };
+    if fourth & 15 != 1 || fourth >> 4 > 7 {
+        return None;
+    }
+    let length = u16::from_be_bytes([*high, *low]) as usize;
+    let fits = match rest.first()? {
+        0xF2 => length == 11,
+        0x01 => (9..=64).contains(&length),
+        _ => false,
+    };
+    if !fits || rest.len() < length {
+        return None;
+    }
+    let mut rest = &rest[length..];
+    let mut first: [Option<Range<usize>>; 3] = [None, None, None];
+    while !rest.is_empty() {
+        let (identifier, contents) = element(&mut rest, Within::Request)?;
+        let end = octets.len() - rest.len();
+        let kind = match identifier {
+            0x10 => 0,
+            0x2E => 1,
+            0x52 => 2,
+            _ => continue,
+        };
+        first[kind].get_or_insert(end - contents.len()..end);
+    }
+    let [capability, security, area] = first;
+    let capability = capability.filter(|part| !part.is_empty());
+    let security = security.filter(|part| part.len() >= 2)?;
+    if capability.as_ref().is_some_and(|part| part.len() > 13) || security.len() > 8 {
+        return None;
+    }
+    Some(Request { ksi: fourth >> 4, identity: 6..6 + length, capability, security, area })
+}

@@ -1,0 +1,1070 @@
+// Scenarios worked out by hand from document 01: rustc --test docs/src/main.rs
+
+use crate::log::{apply, Input, Next};
+use crate::message::{self, Message};
+use crate::record::*;
+use crate::request;
+use std::io::{self, Read};
+
+const HOME: Network = [0x00, 0xF1, 0x10];
+const AWAY: Network = [0x00, 0xF2, 0x20];
+const SUCI: [u8; 9] = [0x01, 0x00, 0xF1, 0x10, 0xF0, 0xFF, 0x00, 0x00, 0x07];
+const GUTI: Guti = [0x00, 0xF1, 0x10, 0x80, 0x01, 0xC5, 0xD1, 0xC2, 0xB3, 0xA4];
+const EQUIVALENT: Network = [0x00, 0xF3, 0x30];
+const OLD: Area = [9, 9, 9, 9, 9, 9];
+const LISTING: [u8; 70] = [
+    0x0E, 0x00, 0x01, 0x00, 0x00, 0xF1, 0x10, 0x01, 0x00, 0xF1, 0x10, 0xF0, 0xFF, 0x00, 0x00, 0x07,
+    0x0A, 0x00, 0x02, 0x00, 0x00, 0x00, 0x00, 0xF2, 0x20, 0x00, 0x00, 0x2A, 0x0A, 0x00, 0x03, 0x00,
+    0x00, 0x00, 0x08, 0x07, 0x7E, 0x00, 0x44, 0x0B, 0x0A, 0x00, 0x02, 0x00, 0x00, 0x00, 0x00, 0xF2,
+    0x20, 0x00, 0x00, 0x2A, 0x04, 0x00, 0x04, 0x00, 0x04, 0x00, 0x0A, 0x00, 0x02, 0x00, 0x00, 0x00,
+    0x00, 0xF2, 0x20, 0x00, 0x00, 0x2A,
+];
+
+fn limited(limit: u8) -> Record {
+    let limits = Limits { card: limit, ban: limit, n1: limit };
+    let mut record = Record::new(limits, &[0x00], &[0xF0, 0xF0]);
+    assert_eq!(record.card(HOME, &SUCI).answer, 0);
+    record
+}
+
+fn area(network: Network) -> Area {
+    [network[0], network[1], network[2], 0x00, 0x00, 0x2A]
+}
+
+fn start(record: &mut Record, a: u8, network: Network) -> u8 {
+    record.start(a, 0, area(network)).answer
+}
+
+fn reject(record: &mut Record, a: u8, protected: u8, cause: u8) -> Reply {
+    record.message(a, protected, 1800, &[0x7E, 0x00, 0x44, cause])
+}
+
+fn accept(record: &mut Record, a: u8) -> u8 {
+    record.message(a, 1, 1800, &[0x7E, 0x00, 0x42, 0x01, 0x01]).answer
+}
+
+fn out(record: &mut Record, number: u8, a: u8) -> Reply {
+    record.timer(number, a)
+}
+
+fn text(record: &Record) -> String {
+    let mut text = String::new();
+    crate::full::record(&mut text, record);
+    text
+}
+
+/// Access `a` in state 4 on `network`, both accesses with all that a reject could clear.
+fn pending(a: usize, network: Network) -> Record {
+    let mut record = limited(3);
+    for access in &mut record.access {
+        access.status = 1;
+        access.attempts = 2;
+        access.t3502_length = 60;
+        access.guti = Some(GUTI);
+        access.last = Some(OLD);
+        access.ksi = 3;
+        access.equivalents = List::of(&[EQUIVALENT]);
+        access.cards = 1;
+    }
+    assert_eq!(start(&mut record, a as u8, network), 0);
+    record
+}
+
+fn marks(areas: &Areas) -> String {
+    areas.iter().map(|held| if held.protected { 'p' } else { 'u' }).collect()
+}
+
+/// What a row of rejects may change, in short.
+fn shown(record: &Record, a: usize) -> String {
+    let this = &record.access[a];
+    let identity = match (this.guti, this.last, this.ksi) {
+        (None, None, 7) => "-",
+        (Some(GUTI), Some(OLD), 3) => "+",
+        _ => "?",
+    };
+    let entries: String = this
+        .entries
+        .iter()
+        .map(|entry| {
+            assert_eq!(entry.network, network_of(&this.pending));
+            let forbidden = if entry.forbidden { "F" } else { "-" };
+            let barred = if entry.n1_barred { "N" } else { "-" };
+            format!("{}{}{forbidden}{barred}", entry.ban, entry.n1)
+        })
+        .collect();
+    format!(
+        "{} 5U{} a{} {} eq{} c{}{} e[{}] r[{}] g[{}]",
+        this.state,
+        this.status,
+        this.attempts,
+        identity,
+        this.equivalents.len(),
+        record.access[0].cards,
+        record.access[1].cards,
+        entries,
+        marks(&record.roaming),
+        marks(&record.regional)
+    )
+}
+
+/// A taken reject's reply: T3510 stopped, T3247 and one timer of the access started.
+fn reply(a: usize, t3247: bool, started: Started) -> Reply {
+    let mut reply = Reply::of(0);
+    reply.timers[T3510 + a] = Change::Stopped;
+    if t3247 {
+        reply.timers[T3247] = Change::Started(1800);
+    }
+    if let Some((timer, seconds)) = started {
+        reply.timers[timer + a] = Change::Started(seconds);
+    }
+    reply
+}
+
+type Started = Option<(usize, u16)>;
+type Case = (&'static [u8], usize, u8, Network, &'static str, bool, Started);
+
+const FAILED: &str = "3 5U1 a3 + eq1 c11 e[] r[] g[]";
+const FIVE: &[u8] = &[95, 96, 97, 99, 111];
+const OTHERS: &[u8] = &[0, 5, 9, 10, 22, 62, 98, 110, 255];
+const LATER: Started = Some((T3502, 60));
+const RETRY: Started = Some((T3511, 10));
+
+/// Each row of the table: causes, access, protected, network, what `shown` tells after it,
+/// whether T3247 starts and which other timer does.
+const ROWS: &[Case] = &[
+    (&[3, 6, 7], 0, 0, AWAY, "2 5U3 a0 - eq0 c21 e[] r[u] g[]", true, None),
+    (&[3, 6, 7], 0, 0, HOME, "2 5U3 a0 - eq0 c21 e[] r[u] g[]", true, None),
+    (&[3, 6, 7], 1, 0, AWAY, "2 5U3 a2 - eq1 c12 e[] r[] g[]", true, None),
+    (&[3, 6, 7], 0, 1, AWAY, "0 5U3 a2 - eq0 c33 e[] r[] g[]", false, None),
+    (&[3, 6, 7], 1, 1, HOME, "0 5U3 a2 - eq0 c33 e[] r[] g[]", false, None),
+    (&[11, 73], 0, 0, AWAY, "6 5U3 a0 - eq0 c11 e[10F-] r[] g[]", true, None),
+    (&[11, 73], 1, 0, AWAY, "2 5U3 a0 - eq0 c11 e[10F-] r[] g[]", true, None),
+    (&[11, 73], 0, 1, AWAY, "6 5U3 a0 - eq0 c11 e[30F-] r[] g[]", false, None),
+    (&[11, 73], 1, 1, AWAY, "2 5U3 a0 - eq0 c11 e[30F-] r[] g[]", false, None),
+    (&[11, 73], 0, 0, HOME, "2 5U3 a0 - eq0 c11 e[] r[u] g[]", true, None),
+    (&[11, 73], 1, 0, HOME, "2 5U3 a0 - eq0 c11 e[] r[] g[]", true, None),
+    (&[11, 73], 0, 1, HOME, FAILED, false, RETRY),
+    (&[11, 73], 1, 1, HOME, FAILED, false, RETRY),
+    (&[12], 0, 0, AWAY, "2 5U3 a0 - eq1 c11 e[] r[] g[u]", true, None),
+    (&[12], 0, 1, HOME, "2 5U3 a0 - eq1 c11 e[] r[] g[p]", false, None),
+    (&[13], 0, 0, AWAY, "2 5U3 a0 - eq0 c11 e[] r[u] g[]", true, None),
+    (&[13], 0, 1, HOME, "2 5U3 a0 - eq0 c11 e[] r[p] g[]", false, None),
+    (&[15], 0, 0, HOME, "2 5U3 a0 - eq1 c11 e[] r[u] g[]", true, None),
+    (&[15], 0, 1, AWAY, "2 5U3 a0 - eq1 c11 e[] r[p] g[]", false, None),
+    (&[12, 13, 15], 1, 0, AWAY, FAILED, true, RETRY),
+    (&[12, 13, 15], 1, 1, HOME, FAILED, false, RETRY),
+    (&[27], 0, 0, AWAY, "2 5U3 a0 - eq1 c11 e[01-N] r[] g[]", true, None),
+    (&[27], 0, 1, HOME, "2 5U3 a0 - eq1 c11 e[03-N] r[] g[]", false, None),
+    (&[27, 72], 1, 0, HOME, "2 5U3 a0 - eq1 c11 e[01-N] r[] g[]", true, None),
+    (&[27, 72], 1, 1, AWAY, "2 5U3 a0 - eq1 c11 e[03-N] r[] g[]", false, None),
+    (&[72], 0, 0, AWAY, FAILED, true, RETRY),
+    (&[72], 0, 1, HOME, FAILED, false, RETRY),
+    (FIVE, 0, 0, AWAY, "3 5U2 a5 - eq0 c11 e[] r[] g[]", false, LATER),
+    (FIVE, 1, 1, HOME, "3 5U2 a5 - eq0 c11 e[] r[] g[]", false, LATER),
+    (OTHERS, 0, 0, AWAY, FAILED, false, RETRY),
+    (OTHERS, 1, 1, HOME, FAILED, false, RETRY),
+];
+
+#[test]
+fn rows_of_rejects() {
+    for &(causes, a, protected, network, after, t3247, started) in ROWS {
+        for &cause in causes {
+            let mut record = pending(a, network);
+            let before = record.access[1 - a];
+            let got = reject(&mut record, a as u8, protected, cause);
+            let what = format!("cause {cause} access {a} protected {protected} {network:?}");
+            assert_eq!(shown(&record, a), after, "{what}");
+            assert_eq!(got, reply(a, t3247, started), "{what}");
+            assert_eq!(record.t3247, t3247, "{what}");
+            assert_eq!(record.access[a].t3502_length, 60);
+            assert_eq!(record.access[a].pending, area(network));
+            let mut other = record;
+            other.access[1 - a].cards = before.cards;
+            let mut same = record;
+            same.access[1 - a] = before;
+            assert_eq!(text(&other), text(&same), "{what}");
+            valid(&record);
+        }
+    }
+}
+
+#[test]
+fn every_other_cause_fails() {
+    let named = [3, 6, 7, 11, 12, 13, 15, 27, 72, 73, 95, 96, 97, 99, 111];
+    for cause in (0..=255).filter(|cause| !named.contains(cause)) {
+        for a in 0..2 {
+            let mut record = pending(a, AWAY);
+            assert_eq!(reject(&mut record, a as u8, 0, cause), reply(a, false, RETRY));
+            assert_eq!(shown(&record, a), FAILED);
+        }
+    }
+}
+
+#[test]
+fn card_row_at_the_limit() {
+    for a in 0..2 {
+        let mut record = pending(a, AWAY);
+        record.access[a].cards = 3;
+        assert_eq!(reject(&mut record, a as u8, 0, 6), reply(a, true, None));
+        let cards = if a == 0 { "c31" } else { "c13" };
+        assert_eq!(shown(&record, a), format!("0 5U3 a2 - eq0 {cards} e[] r[] g[]"));
+        assert_eq!(start(&mut record, a as u8, AWAY), 5);
+        assert_eq!(record.power().answer, 0);
+        assert_eq!(start(&mut record, a as u8, AWAY), 0);
+    }
+}
+
+#[test]
+fn third_card_reject_is_below_and_fourth_at_the_limit() {
+    let mut record = limited(3);
+    for count in 1..=3 {
+        assert_eq!(start(&mut record, 1, AWAY), 0);
+        assert_eq!(reject(&mut record, 1, 0, 3).answer, 0);
+        assert_eq!((record.access[1].state, record.access[1].cards), (2, count));
+    }
+    assert_eq!(start(&mut record, 1, AWAY), 0);
+    assert_eq!(reject(&mut record, 1, 0, 3).answer, 0);
+    assert_eq!((record.access[1].state, record.access[1].cards), (0, 3));
+    assert_eq!(record.access[0].cards, 0);
+}
+
+#[test]
+fn a_running_t3247_keeps_its_time() {
+    let mut record = pending(0, AWAY);
+    record.t3247 = true;
+    assert_eq!(reject(&mut record, 0, 0, 11), reply(0, false, None));
+    assert!(record.t3247);
+}
+
+/// Fact 1: the listing.
+#[test]
+fn listing() {
+    let lines = ["0 1 1 0", "0 4 1 0", "0 6 1 1", "8 6 1 1", "0 6 1 0", "0 4 1 0"];
+    let mut record = Record::new(Limits { card: 3, ban: 3, n1: 3 }, &[0], &[0xF0, 0xF0]);
+    let mut input = Input::new(&LISTING[..]);
+    for line in lines {
+        let Ok(Next::Record(octets)) = input.next() else { panic!("a record") };
+        let answer = apply(&mut record, octets).answer;
+        let states = (record.access[0].state, record.access[1].state);
+        assert_eq!(format!("{answer} {} {} {}", states.0, states.1, record.t3247 as u8), line);
+    }
+    assert!(matches!(input.next(), Ok(Next::End)));
+}
+
+/// `count` taken rejects with cause 11 on access 0, by manual starts.
+fn banned(limit: u8, count: usize, protected: u8) -> Record {
+    let mut record = limited(limit);
+    for _ in 0..count {
+        assert_eq!(record.start(0, 1, area(AWAY)).answer, 0);
+        assert_eq!(reject(&mut record, 0, protected, 11).answer, 0);
+    }
+    record
+}
+
+fn ban(record: &Record) -> (u8, bool) {
+    let entry = record.access[0].entry(&AWAY).expect("an entry");
+    (entry.ban, entry.forbidden)
+}
+
+/// Facts 2 to 6: what T3247 lifts.
+#[test]
+fn bans() {
+    for (limit, count, counter, stays) in
+        [(3, 3, 3, true), (3, 2, 2, false), (1, 1, 1, true), (3, 4, 3, true)]
+    {
+        let mut record = banned(limit, count, 0);
+        assert_eq!(ban(&record), (counter, true));
+        assert_eq!(out(&mut record, 4, 0).answer, 0);
+        assert_eq!(ban(&record), (counter, stays));
+        assert_eq!(start(&mut record, 0, AWAY), if stays { 8 } else { 0 });
+    }
+    let mut record = banned(3, 1, 1);
+    assert_eq!(ban(&record), (3, true));
+    assert_eq!(out(&mut record, 4, 0).answer, 11);
+    record.power();
+    assert_eq!(ban(&record), (3, true));
+}
+
+/// Fact 7: the two-access rule.
+#[test]
+fn two_accesses() {
+    for cause in [3, 6, 7] {
+        for a in 0..2 {
+            let mut record = pending(a, AWAY);
+            record.access[1 - a].state = 5;
+            let before = text(&record);
+            let mut asks = Reply::of(2);
+            asks.leave = Some(a as u8);
+            asks.update = Some(1 - a as u8);
+            assert_eq!(reject(&mut record, a as u8, 0, cause), asks);
+            assert_eq!(text(&record), before);
+            assert_eq!(reject(&mut record, a as u8, 1, cause).answer, 0);
+            assert_eq!(record.access[1 - a].state, 5);
+            assert_eq!(record.access[1 - a].guti, Some(GUTI));
+        }
+    }
+    let mut record = pending(0, AWAY);
+    record.access[1].state = 5;
+    assert_eq!(reject(&mut record, 0, 0, 11).answer, 0);
+}
+
+/// Fact 8: the seventeenth network.
+#[test]
+fn seventeenth() {
+    for (a, cause) in [(0, 11), (1, 73), (0, 27), (1, 72)] {
+        let mut record = limited(3);
+        for index in 1..=16 {
+            assert_eq!(start(&mut record, a, [index / 10 << 4 | index % 10, 0, 0]), 0);
+            assert_eq!(reject(&mut record, a, 0, cause).answer, 0);
+        }
+        assert_eq!(start(&mut record, a, AWAY), 0);
+        let before = text(&record);
+        assert_eq!(reject(&mut record, a, 0, cause), Reply::of(4));
+        assert_eq!(text(&record), before);
+        assert_eq!(reject(&mut record, a, 0, 22).answer, 0);
+        assert_eq!(record.card(HOME, &SUCI).answer, 0);
+        assert_eq!(start(&mut record, a, AWAY), 0);
+        assert_eq!(reject(&mut record, a, 0, cause).answer, 0);
+        assert_eq!(record.access[a as usize].entries.len(), 1);
+        valid(&record);
+    }
+}
+
+#[test]
+fn a_full_table_takes_what_needs_no_entry() {
+    let mut record = limited(3);
+    for index in 1..=16 {
+        assert_eq!(start(&mut record, 0, [index / 10 << 4 | index % 10, 0, 0]), 0);
+        assert_eq!(reject(&mut record, 0, 0, 11).answer, 0);
+    }
+    assert_eq!(start(&mut record, 0, HOME), 0);
+    assert_eq!(reject(&mut record, 0, 0, 11).answer, 0);
+    assert_eq!(record.start(0, 1, area([0x01, 0, 0])).answer, 0);
+    assert_eq!(reject(&mut record, 0, 0, 11).answer, 0);
+    assert_eq!(record.access[0].entries[0].ban, 2);
+}
+
+fn cause(octets: &[u8]) -> Option<u8> {
+    match message::read(octets) {
+        Some(Message::Reject(cause)) => Some(cause),
+        _ => None,
+    }
+}
+
+/// Fact 9, and the formats of unknown elements.
+#[test]
+fn elements() {
+    let head = [0x7E, 0x00, 0x44, 0x0B];
+    let with = |rest: &[u8]| cause(&[&head[..], rest].concat());
+    assert_eq!(with(&[0x9F, 0x16, 0x01, 0x3F]), Some(11));
+    assert_eq!(with(&[0x9F, 0x16, 0x02, 0x3F]), None);
+    assert_eq!(with(&[]), Some(11));
+    assert_eq!(with(&[0x5F, 0x05]), None);
+    assert_eq!(with(&[0x5F]), None);
+    assert_eq!(with(&[0x5F, 0x00]), Some(11));
+    assert_eq!(with(&[0x52, 0x01, 0x00]), Some(11));
+    assert_eq!(with(&[0x52, 1, 2, 3, 4, 5, 6]), None);
+    assert_eq!(with(&[0x70, 0x00, 0x01, 0x00]), Some(11));
+    assert_eq!(with(&[0x7F, 0x00]), None);
+    assert_eq!(with(&[0x7F, 0x01, 0x00]), None);
+    for identifier in 0..=255 {
+        let alone = with(&[identifier]);
+        assert_eq!(alone.is_some(), identifier >= 0x80);
+        let zero = with(&[identifier, 0x80]);
+        assert_eq!(zero.is_some(), identifier >= 0x80);
+        let short = with(&[identifier, 0]);
+        assert_eq!(short.is_some(), (0x10..0x70).contains(&identifier));
+        let long = with(&[identifier, 0, 0]);
+        assert_eq!(long.is_some(), (0x70..0x80).contains(&identifier));
+    }
+    assert_eq!(cause(&[0x7E, 0x00, 0x44]), None);
+    assert_eq!(cause(&[0x7E, 0x00, 0x41, 0x0B]), None);
+    assert_eq!(cause(&[0x7D, 0x00, 0x44, 0x0B]), None);
+    assert_eq!(cause(&[0x7E, 0x01, 0x44, 0x0B]), None);
+    assert_eq!(cause(&[]), None);
+}
+
+/// Fact 10, and the timer octet's other units.
+#[test]
+fn timer_octets() {
+    assert_eq!(message::seconds(0x3F), Some(1860));
+    assert_eq!(message::seconds(0x5F), Some(11160));
+    assert_eq!(message::seconds(0xE5), None);
+    assert_eq!(message::seconds(0x00), Some(0));
+    assert_eq!(message::seconds(0x20), Some(0));
+    assert_eq!(message::seconds(0x1F), Some(62));
+    for octet in [0x7F, 0x9F, 0xBF, 0xDF] {
+        assert_eq!(message::seconds(octet), Some(1860));
+    }
+}
+
+type Said = (Option<Guti>, Vec<u8>, Option<u16>);
+
+fn said(octets: &[u8]) -> Option<Said> {
+    match message::read(octets) {
+        Some(Message::Accept(accept)) => {
+            Some((accept.guti, accept.equivalents.to_vec(), accept.t3502))
+        }
+        _ => None,
+    }
+}
+
+fn accepted(elements: &[u8]) -> Option<Said> {
+    said(&[&[0x7E, 0x00, 0x42, 0x01, 0x01], elements].concat())
+}
+
+fn guti_element(lead: u8, extra: usize) -> Vec<u8> {
+    let mut octets = vec![0x77, 0x00, 0x0B + extra as u8, lead];
+    octets.extend(GUTI);
+    octets.extend(vec![0xAA; extra]);
+    octets
+}
+
+#[test]
+fn accepts() {
+    let whole = [
+        0x77, 0x00, 0x0B, 0xF2, 0x00, 0xF1, 0x10, 0x80, 0x01, 0xC5, 0xD1, 0xC2, 0xB3, 0xA4, 0x4A,
+        0x06, 0x00, 0xF2, 0x20, 0x00, 0xF3, 0x30, 0x5E, 0x01, 0x2A, 0x16, 0x01, 0x3F, 0x75, 0x00,
+        0x00,
+    ];
+    let pair = vec![0x00, 0xF2, 0x20, 0x00, 0xF3, 0x30];
+    assert_eq!(accepted(&whole), Some((Some(GUTI), pair, Some(1860))));
+    let turned = [&[0x16, 0x01, 0x3F][..], &guti_element(0xF2, 0)].concat();
+    assert_eq!(accepted(&turned), Some((Some(GUTI), vec![], Some(1860))));
+    assert_eq!(accepted(&[]), Some((None, vec![], None)));
+    assert_eq!(accepted(&[0x16, 0x01, 0xE5]), Some((None, vec![], None)));
+    assert_eq!(accepted(&[0x16, 0x00, 0x16, 0x01, 0x3F]), Some((None, vec![], None)));
+    assert_eq!(accepted(&[0x16, 0x01, 0xE5, 0x16, 0x01, 0x3F]), Some((None, vec![], None)));
+    assert_eq!(accepted(&[0x16, 0x02, 0x01, 0x3F]), Some((None, vec![], Some(2))));
+    assert_eq!(accepted(&guti_element(0xF2, 3)), Some((Some(GUTI), vec![], None)));
+    assert_eq!(accepted(&guti_element(0xF1, 0)), Some((None, vec![], None)));
+    let repeat = [guti_element(0xF6, 0), guti_element(0xF2, 0)].concat();
+    assert_eq!(accepted(&repeat), Some((None, vec![], None)));
+    let short = [&[0x77, 0x00, 0x01, 0xF2][..], &guti_element(0xF2, 0)].concat();
+    assert_eq!(accepted(&short), Some((None, vec![], None)));
+    assert_eq!(accepted(&[0x00]), None);
+    assert_eq!(said(&[0x7E, 0x00, 0x42]), None);
+    assert_eq!(said(&[0x7E, 0x00, 0x42, 0x00]), None);
+    assert_eq!(said(&[0x7E, 0x00, 0x42, 0x01]), None);
+    assert_eq!(said(&[0x7E, 0x00, 0x42, 0x02, 0x01]), None);
+    assert!(said(&[0x7E, 0x00, 0x42, 0x02, 0x01, 0x00]).is_some());
+}
+
+#[test]
+fn accept_event() {
+    let mut record = pending(0, AWAY);
+    record.access[0].entries.push(Entry {
+        network: AWAY,
+        ban: 2,
+        n1: 1,
+        forbidden: true,
+        n1_barred: true,
+    });
+    record.access[1].entries.push(Entry {
+        network: AWAY,
+        ban: 2,
+        n1: 1,
+        forbidden: true,
+        n1_barred: true,
+    });
+    let new = [0x00, 0xF2, 0x20, 1, 2, 3, 4, 5, 6, 7];
+    let mut octets = vec![0x7E, 0x00, 0x42, 0x01, 0x01, 0x77, 0x00, 0x0B, 0xF2];
+    octets.extend(new);
+    octets.extend([0x4A, 0x31]);
+    octets.extend([0x77; 48]);
+    octets.extend([0x99, 0x16, 0x01, 0x5F]);
+    let other = record.access[1];
+    let mut expected = Reply::of(0);
+    expected.timers[T3510] = Change::Stopped;
+    assert_eq!(record.message(0, 1, 3600, &octets), expected);
+    let this = &record.access[0];
+    assert_eq!((this.state, this.status, this.attempts, this.t3510), (5, 1, 0, false));
+    assert_eq!((this.guti, this.last, this.ksi), (Some(new), Some(area(AWAY)), 3));
+    assert_eq!((this.equivalents.len(), this.t3502_length, this.cards), (15, 11160, 1));
+    let entry = this.entries[0];
+    assert_eq!((entry.ban, entry.n1, entry.forbidden, entry.n1_barred), (2, 1, false, true));
+    let mut same = record;
+    same.access[1] = other;
+    assert_eq!(text(&record), text(&same));
+
+    let mut record = pending(1, AWAY);
+    assert_eq!(accept(&mut record, 1), 0);
+    let this = &record.access[1];
+    assert_eq!((this.guti, this.equivalents.len(), this.t3502_length), (Some(GUTI), 0, 720));
+    assert_eq!(this.entries.len(), 0);
+}
+
+#[test]
+fn messages_are_checked_in_order() {
+    let mut record = pending(0, AWAY);
+    let reject = [0x7E, 0x00, 0x44, 0x0B];
+    let accept = [0x7E, 0x00, 0x42, 0x01, 0x01];
+    let before = text(&record);
+    for (access, protected, draw, octets, answer) in [
+        (2, 0, 1800, &reject[..], 1),
+        (0, 2, 1800, &reject, 1),
+        (0, 0, 1799, &reject, 1),
+        (0, 1, 3601, &accept, 1),
+        (1, 0, 1799, &[], 1),
+        (1, 0, 1800, &reject, 6),
+        (1, 0, 1800, &[], 6),
+        (0, 0, 1800, &[], 3),
+        (0, 0, 1800, &accept[..4], 3),
+        (0, 1, 1800, &[0x7E, 0x00, 0x41, 0x71], 3),
+        (0, 0, 1800, &accept, 10),
+    ] {
+        assert_eq!(record.message(access, protected, draw, octets), Reply::of(answer));
+        assert_eq!(text(&record), before);
+    }
+    assert_eq!(record.message(0, 0, 3600, &reject).timers[T3247], Change::Started(3600));
+}
+
+#[test]
+fn starts() {
+    let mut record = Record::new(Limits { card: 3, ban: 3, n1: 3 }, &[0], &[0xF0, 0xF0]);
+    assert_eq!(start(&mut record, 0, AWAY), 5);
+    assert_eq!(start(&mut record, 2, AWAY), 1);
+    assert_eq!(record.start(0, 2, area(AWAY)).answer, 1);
+    for bad in [
+        [0x0A, 0xF2, 0x20],
+        [0xA0, 0xF2, 0x20],
+        [0, 0xE2, 0x20],
+        [0, 0xFB, 0x20],
+        [0, 0xF2, 0xF0],
+        [0, 0xF2, 0x0A],
+    ] {
+        assert_eq!(start(&mut record, 0, bad), 1);
+    }
+    record.card(HOME, &SUCI);
+    for (state, answer) in [(0, 5), (1, 0), (2, 0), (3, 0), (4, 6), (5, 6), (6, 0)] {
+        let mut record = record;
+        record.access[0].state = state;
+        assert_eq!(start(&mut record, 0, AWAY), answer);
+    }
+    record.access[0].t3511 = true;
+    record.access[0].t3502 = true;
+    record.access[0].attempts = 5;
+    let mut expected = Reply::of(0);
+    expected.timers[T3510] = Change::Started(15);
+    expected.timers[T3511] = Change::Stopped;
+    expected.timers[T3502] = Change::Stopped;
+    assert_eq!(record.start(0, 0, area(AWAY)), expected);
+    assert_eq!((record.access[0].state, record.access[0].attempts), (4, 5));
+    assert_eq!(record.access[0].pending, area(AWAY));
+    assert_eq!(start(&mut record, 1, AWAY), 7);
+    assert_eq!(record.start(1, 1, area(AWAY)).answer, 7);
+    assert_eq!(start(&mut record, 1, HOME), 0);
+}
+
+#[test]
+fn starts_on_listed_networks_and_areas() {
+    let mut record = limited(3);
+    let entry = Entry { network: AWAY, ban: 1, n1: 0, forbidden: true, n1_barred: false };
+    record.access[0].entries.push(entry);
+    record.roaming.push(Listed { area: area(AWAY), protected: false });
+    record.regional.push(Listed { area: area(HOME), protected: true });
+    assert_eq!(start(&mut record, 0, AWAY), 8);
+    assert_eq!(record.start(0, 1, area(AWAY)), Reply::of(9));
+    assert_eq!(start(&mut record, 0, HOME), 9);
+    let mut away = area(AWAY);
+    away[5] = 0x2B;
+    let mut passed = record;
+    assert_eq!(passed.start(0, 1, away).answer, 0);
+    record.access[0].entries[0].n1_barred = true;
+    assert_eq!(record.start(0, 1, away).answer, 8);
+    assert_eq!(record.start(1, 0, area(AWAY)).answer, 0);
+    assert_eq!(record.start(0, 0, area(AWAY)).answer, 7);
+}
+
+#[test]
+fn attempts() {
+    let mut record = pending(1, AWAY);
+    for attempts in 3..5 {
+        assert_eq!(out(&mut record, 1, 1), reply(1, false, RETRY));
+        assert_eq!(shown(&record, 1), format!("3 5U1 a{attempts} + eq1 c11 e[] r[] g[]"));
+        assert_eq!(start(&mut record, 1, AWAY), 0);
+        assert!(!record.access[1].t3511);
+    }
+    for _ in 0..2 {
+        assert_eq!(out(&mut record, 1, 1), reply(1, false, LATER));
+        assert_eq!(shown(&record, 1), "3 5U2 a5 - eq0 c11 e[] r[] g[]");
+        assert_eq!(start(&mut record, 1, AWAY), 0);
+    }
+    record.access[1].t3502_length = 0;
+    assert_eq!(out(&mut record, 1, 1), reply(1, false, Some((T3502, 0))));
+    let mut expected = Reply::of(0);
+    expected.timers[T3502 + 1] = Change::Stopped;
+    expected.restart = Some(1);
+    assert_eq!(out(&mut record, 3, 1), expected);
+    assert_eq!((record.access[1].state, record.access[1].attempts), (3, 0));
+    assert_eq!(out(&mut record, 3, 1), Reply::of(11));
+}
+
+#[test]
+fn t3511_out() {
+    let mut record = pending(0, AWAY);
+    out(&mut record, 1, 0);
+    let mut expected = Reply::of(0);
+    expected.timers[T3511] = Change::Stopped;
+    expected.restart = Some(0);
+    assert_eq!(out(&mut record, 2, 0), expected);
+    assert_eq!(shown(&record, 0), FAILED);
+}
+
+#[test]
+fn timer_checks() {
+    let mut record = limited(3);
+    for (number, access, answer) in
+        [(0, 0, 1), (5, 0, 1), (1, 2, 1), (4, 1, 1), (4, 2, 1), (4, 0, 11)]
+    {
+        assert_eq!(out(&mut record, number, access), Reply::of(answer));
+    }
+    for number in 1..=3 {
+        for access in 0..2 {
+            assert_eq!(out(&mut record, number, access), Reply::of(11));
+        }
+    }
+}
+
+/// Entries with every counter from 0 to the limit and both marks, and areas of both kinds.
+fn marked() -> Record {
+    let mut record = limited(3);
+    record.t3247 = true;
+    for access in &mut record.access {
+        for counter in 0..4 {
+            let network = [counter, 0, 0];
+            let n1 = 3 - counter;
+            access.entries.push(Entry {
+                network,
+                ban: counter,
+                n1,
+                forbidden: true,
+                n1_barred: true,
+            });
+        }
+        access.attempts = 4;
+        access.guti = Some(GUTI);
+        access.last = Some(OLD);
+        access.ksi = 2;
+        access.t3502 = true;
+    }
+    for (place, protected) in [false, true, false, true, true].into_iter().enumerate() {
+        record.roaming.push(Listed { area: [place as u8; 6], protected });
+        record.regional.push(Listed { area: [place as u8; 6], protected: !protected });
+    }
+    record
+}
+
+fn marks_of(record: &Record, a: usize) -> Vec<(u8, u8, bool, bool)> {
+    let entries = record.access[a].entries.iter();
+    entries.map(|entry| (entry.ban, entry.n1, entry.forbidden, entry.n1_barred)).collect()
+}
+
+#[test]
+fn t3247_out() {
+    let mut record = marked();
+    let mut expected = Reply::of(0);
+    expected.timers[T3247] = Change::Stopped;
+    assert_eq!(out(&mut record, 4, 0), expected);
+    let after =
+        [(0, 3, true, true), (1, 2, false, false), (2, 1, false, false), (3, 0, true, true)];
+    for a in 0..2 {
+        assert_eq!(marks_of(&record, a), after);
+        assert_eq!(record.access[a].attempts, 4);
+    }
+    let places = |areas: &Areas| areas.iter().map(|held| held.area[0]).collect::<Vec<u8>>();
+    assert_eq!(places(&record.roaming), [1, 3, 4]);
+    assert_eq!(places(&record.regional), [0, 2]);
+    assert!(record.roaming.iter().chain(record.regional.iter()).all(|held| held.protected));
+}
+
+#[test]
+fn power() {
+    let mut record = marked();
+    record.access[0].state = 4;
+    record.access[0].t3510 = true;
+    record.access[1].state = 0;
+    record.access[1].t3511 = true;
+    let mut expected = Reply::of(0);
+    for timer in [T3510, T3511 + 1, T3502, T3502 + 1, T3247] {
+        expected.timers[timer] = Change::Stopped;
+    }
+    assert_eq!(record.power(), expected);
+    let after =
+        [(0, 3, true, false), (1, 2, false, false), (2, 1, false, false), (3, 0, true, false)];
+    for a in 0..2 {
+        assert_eq!(marks_of(&record, a), after);
+        let this = &record.access[a];
+        assert_eq!(
+            (this.state, this.attempts, this.guti, this.last, this.ksi),
+            (1, 0, Some(GUTI), Some(OLD), 2)
+        );
+    }
+    assert_eq!(record.roaming.len() + record.regional.len(), 0);
+    let mut bare = Record::new(record.limits, &[0], &[0, 0]);
+    assert_eq!(bare.power(), Reply::of(0));
+    assert_eq!((bare.access[0].state, bare.access[1].state), (0, 0));
+}
+
+#[test]
+fn cards() {
+    let mut record = marked();
+    record.access[1].state = 5;
+    let mut suci = [7; 64];
+    suci[0] = 1;
+    for (home, suci) in
+        [(AWAY, &suci[..8]), (AWAY, &[1; 65]), (AWAY, &suci[1..]), ([0xA0, 0, 0], &suci[..])]
+    {
+        let before = text(&record);
+        assert_eq!(record.card(home, suci), Reply::of(1));
+        assert_eq!(text(&record), before);
+    }
+    let mut expected = Reply::of(0);
+    for timer in [T3502, T3502 + 1, T3247] {
+        expected.timers[timer] = Change::Stopped;
+    }
+    assert_eq!(record.card(AWAY, &suci), expected);
+    let mut new = Record::new(record.limits, &[0x00], &[0xF0, 0xF0]);
+    new.card = true;
+    new.home = AWAY;
+    new.suci = List::of(&suci);
+    new.access[0].state = 1;
+    new.access[1].state = 1;
+    assert_eq!(text(&record), text(&new));
+}
+
+#[test]
+fn keys() {
+    let mut record = pending(0, AWAY);
+    for (access, set, answer) in [(2, 0, 1), (0, 7, 1), (1, 7, 1), (1, 0, 6), (0, 6, 0), (0, 0, 0)]
+    {
+        assert_eq!(record.key(access, set), Reply::of(answer));
+    }
+    assert_eq!((record.access[0].ksi, record.access[1].ksi), (0, 3));
+}
+
+#[test]
+fn a_listed_area_keeps_its_place() {
+    let mut record = pending(0, AWAY);
+    record.regional.push(Listed { area: area(AWAY), protected: false });
+    record.regional.push(Listed { area: OLD, protected: false });
+    let mut lowered = record;
+    lowered.regional[0].protected = true;
+    reject(&mut record, 0, 1, 12);
+    assert_eq!(marks(&record.regional), "pu");
+    reject(&mut lowered, 0, 0, 12);
+    assert_eq!(marks(&lowered.regional), "pu");
+    assert_eq!(lowered.regional[0].area, area(AWAY));
+}
+
+#[test]
+fn a_full_list_drops_its_oldest() {
+    let mut record = limited(3);
+    for code in 0..41 {
+        let mut area = area(AWAY);
+        area[5] = code;
+        assert_eq!(record.start(0, 0, area).answer, 0);
+        assert_eq!(reject(&mut record, 0, 1, 12).answer, 0);
+    }
+    assert_eq!(record.regional.len(), 40);
+    let codes: Vec<u8> = record.regional.iter().map(|held| held.area[5]).collect();
+    assert_eq!(codes, (1..41).collect::<Vec<u8>>());
+    assert_eq!(record.roaming.len(), 0);
+    valid(&record);
+}
+
+fn octets(text: &str) -> Vec<u8> {
+    text.split_whitespace().map(|octet| u8::from_str_radix(octet, 16).unwrap()).collect()
+}
+
+fn written(record: &Record, a: u8) -> Vec<u8> {
+    let mut buffer = [0xEE; request::LONGEST + 1];
+    let length = request::write(record, a, &mut buffer).unwrap();
+    assert!(buffer[length..].iter().all(|&octet| octet == 0xEE));
+    for short in [0, length - 1] {
+        let mut buffer = vec![0xEE; short];
+        assert_eq!(request::write(record, a, &mut buffer), Err(12));
+        assert!(buffer.iter().all(|&octet| octet == 0xEE));
+    }
+    buffer[..length].to_vec()
+}
+
+#[test]
+fn requests() {
+    let mut record = limited(3);
+    assert_eq!(request::write(&record, 0, &mut [0; 200]), Err(6));
+    assert_eq!(request::write(&record, 2, &mut [0; 200]), Err(1));
+    start(&mut record, 0, AWAY);
+    let plain = octets("7E 00 41 71 00 09 01 00 F1 10 F0 FF 00 00 07 2E 02 F0 F0");
+    assert_eq!(written(&record, 0), plain);
+    let read = request::read(&plain).unwrap();
+    assert_eq!((read.ksi, read.identity, read.security), (7, 6..15, 17..19));
+    assert_eq!((read.capability, read.area), (None, None));
+
+    record.access[0].guti = Some(GUTI);
+    record.access[0].last = Some(area(AWAY));
+    record.key(0, 3);
+    let flat = octets(
+        "7E 00 41 31 00 0B F2 00 F1 10 80 01 C5 D1 C2 B3 A4 10 01 00 2E 02 F0 F0 52 00 F2 20 00 00 2A",
+    );
+    assert_eq!(written(&record, 0), flat);
+    let read = request::read(&flat).unwrap();
+    assert_eq!((read.ksi, read.identity, read.security), (3, 6..17, 22..24));
+    assert_eq!((read.capability, read.area), (Some(19..20), Some(25..31)));
+    record.access[0].last = None;
+    assert_eq!(written(&record, 0), flat[..24]);
+    record.access[0].last = Some(area(AWAY));
+    record.access[0].ksi = 7;
+    assert_eq!(written(&record, 0)[17..], [0x2E, 0x02, 0xF0, 0xF0]);
+
+    let mut suci = [7; 64];
+    suci[0] = 1;
+    record.suci = List::of(&suci);
+    record.access[0].guti = None;
+    record.capability = List::of(&[5; 13]);
+    record.security = List::of(&[6; 8]);
+    assert_eq!(written(&record, 0).len(), 80);
+    record.access[0].ksi = 0;
+    assert_eq!(written(&record, 0).len(), request::LONGEST);
+    assert_eq!(request::LONGEST, 102);
+    assert!(request::read(&written(&record, 0)).is_ok());
+}
+
+/// The identity for GUTIs of two networks, either or none held.
+#[test]
+fn identities() {
+    let guti = |network: Network| [network[0], network[1], network[2], 1, 2, 3, 4, 5, 6, 7];
+    let far: Network = [0x00, 0xF9, 0x90];
+    // This access's GUTI, the other's, and which is sent: 0 this, 1 the other, 2 the SUCI.
+    for (this, other, sent) in [
+        (Some(AWAY), Some(AWAY), 0),
+        (Some(EQUIVALENT), Some(AWAY), 1),
+        (Some(far), Some(AWAY), 1),
+        (Some(far), Some(EQUIVALENT), 1),
+        (Some(EQUIVALENT), Some(EQUIVALENT), 0),
+        (Some(far), Some(far), 0),
+        (None, Some(far), 1),
+        (None, Some(EQUIVALENT), 1),
+        (Some(far), None, 0),
+        (None, None, 2),
+    ] {
+        for a in 0..2 {
+            let mut record = pending(a, AWAY);
+            record.access[a].guti = this.map(guti);
+            record.access[1 - a].guti = other.map(guti);
+            record.access[1 - a].equivalents = List::of(&[far]);
+            let mut expected = vec![0xF2];
+            match sent {
+                0 => expected.extend(guti(this.unwrap())),
+                1 => expected.extend(guti(other.unwrap())),
+                _ => expected = SUCI.to_vec(),
+            }
+            let octets = written(&record, a as u8);
+            assert_eq!(octets[6..6 + expected.len()], expected[..]);
+            assert_eq!(octets[5] as usize, expected.len());
+        }
+    }
+}
+
+#[test]
+fn requests_read_back() {
+    let with = |fourth: &str, identity: &str, rest: &str| {
+        request::read(&octets(&format!("7E 00 41 {fourth} {identity} {rest}")))
+    };
+    let suci = "00 09 01 00 F1 10 F0 FF 00 00 07";
+    let security = "2E 02 F0 F0";
+    assert!(with("71", suci, security).is_ok());
+    for fourth in ["72", "81", "F1", "70", "79"] {
+        assert_eq!(with(fourth, suci, security), Err(3), "{fourth}");
+    }
+    assert!(with("01", suci, security).is_ok());
+    for identity in [
+        "00 08 01 00 F1 10 F0 FF 00 00",
+        "00 00",
+        "00 09 02 00 F1 10 F0 FF 00 00 07",
+        "00 0A F2 00 F1 10 80 01 C5 D1 C2 B3",
+        "00 0C F2 00 F1 10 80 01 C5 D1 C2 B3 A4 00",
+        "00 0B F6 00 F1 10 80 01 C5 D1 C2 B3 A4",
+        "01 09 01 00 F1 10 F0 FF 00 00 07",
+    ] {
+        assert_eq!(with("71", identity, security), Err(3), "{identity}");
+    }
+    assert!(with("71", "00 0B F2 00 F1 10 80 01 C5 D1 C2 B3 A4", security).is_ok());
+    let long = |count: usize| format!("00 {:02X} 01{}", count, " 00".repeat(count - 1));
+    assert!(with("71", &long(64), security).is_ok());
+    assert_eq!(with("71", &long(65), security), Err(3));
+    for (rest, fits) in [
+        ("", false),
+        ("2E 01 F0", false),
+        ("2E 01 F0 2E 02 F0 F0", false),
+        ("2E 08 0 1 2 3 4 5 6 7", true),
+        ("2E 09 0 1 2 3 4 5 6 7 8", false),
+        ("2E 02 F0 F0 2E 09 0 1 2 3 4 5 6 7 8", true),
+        ("2E 02 F0 F0 10 0D 0 1 2 3 4 5 6 7 8 9 A B C", true),
+        ("10 0E 0 1 2 3 4 5 6 7 8 9 A B C D 2E 02 F0 F0", false),
+        ("10 01 00 10 0E 0 1 2 3 4 5 6 7 8 9 A B C D 2E 02 F0 F0", true),
+        ("10 00 2E 02 F0 F0", true),
+        ("52 0 1 2 3 4 5 2E 02 F0 F0", true),
+        ("2E 02 F0 F0 52 0 1 2 3 4", false),
+        ("2E 02 F0 F0 9F 77 00 01 00 40 00", true),
+        ("2E 02 F0 F0 0F", false),
+        ("2E 02 F0 F0 05 00", false),
+        ("2E 02 F0 F0 77 00 05 1", false),
+    ] {
+        assert_eq!(with("71", suci, rest).is_ok(), fits, "{rest}");
+    }
+    let turned = with("31", suci, "52 0 1 2 3 4 5 2E 02 F0 F0 10 00 10 01 00").unwrap();
+    assert_eq!((turned.area, turned.security, turned.capability), (Some(16..22), 24..26, None));
+    assert_eq!(request::read(&[]), Err(3));
+    assert_eq!(
+        request::read(&octets("7E 00 42 71 00 09 01 00 F1 10 F0 FF 00 00 07 2E 02 F0 F0")),
+        Err(3)
+    );
+}
+
+/// Gives its octets in pieces of a fixed size.
+struct Pieces<'a>(&'a [u8], usize);
+
+impl Read for Pieces<'_> {
+    fn read(&mut self, buffer: &mut [u8]) -> io::Result<usize> {
+        let count = self.1.min(self.0.len()).min(buffer.len());
+        buffer[..count].copy_from_slice(&self.0[..count]);
+        self.0 = &self.0[count..];
+        Ok(count)
+    }
+}
+
+/// The records of a log by their lengths, and where it is bad.
+fn split(log: &[u8], piece: usize) -> (Vec<usize>, Option<u64>) {
+    let mut input = Input::new(Pieces(log, piece));
+    let mut lengths = vec![];
+    loop {
+        match input.next().unwrap() {
+            Next::Record(octets) => lengths.push(octets.len()),
+            Next::Bad(offset) => return (lengths, Some(offset)),
+            Next::End => return (lengths, None),
+        }
+    }
+}
+
+#[test]
+fn logs() {
+    for piece in [1, 2, 3, 7, 1000, 65536, 100000] {
+        assert_eq!(split(&[], piece), (vec![], None));
+        assert_eq!(split(&[9], piece), (vec![], Some(0)));
+        assert_eq!(split(&[0, 0], piece), (vec![], Some(0)));
+        assert_eq!(split(&[1, 0, 5, 0], piece), (vec![], Some(0)));
+        assert_eq!(split(&[2, 0, 5, 0], piece), (vec![2], None));
+        assert_eq!(split(&[2, 0, 5, 0, 2], piece), (vec![2], Some(4)));
+        assert_eq!(split(&[2, 0, 5, 0, 2, 0, 5], piece), (vec![2], Some(4)));
+        assert_eq!(split(&LISTING, piece), (vec![14, 10, 10, 10, 4, 10], None));
+        let mut log = LISTING.to_vec();
+        for _ in 0..3 {
+            log.extend([0xFF, 0xFF]);
+            log.extend(vec![3; 65535]);
+        }
+        log.push(2);
+        let lengths = vec![14, 10, 10, 10, 4, 10, 65535, 65535, 65535];
+        assert_eq!(split(&log, piece), (lengths, Some(70 + 3 * 65537)));
+    }
+}
+
+#[test]
+fn kinds_and_lengths() {
+    let mut record = limited(3);
+    let mut card = [&[1, 0][..], &HOME, &[1; 64]].concat();
+    assert_eq!(apply(&mut record, &card).answer, 0);
+    card.push(1);
+    assert_eq!(apply(&mut record, &card).answer, 1);
+    assert_eq!(apply(&mut record, &card[..13]).answer, 1);
+    assert_eq!(apply(&mut record, &card[..14]).answer, 0);
+    let start = [2, 0, 0, 0, 0x00, 0xF2, 0x20, 0, 0, 0x2A, 0];
+    for (octets, answer) in [
+        (&start[..9], 1),
+        (&start[..], 1),
+        (&start[..10], 0),
+        (&[3, 0, 0, 0, 8], 1),
+        (&[3, 0, 0, 0, 8, 7], 3),
+        (&[3, 0, 0, 0, 7, 7], 1),
+        (&[4, 0, 1], 1),
+        (&[4, 0, 1, 0, 0], 1),
+        (&[4, 0, 2, 0], 11),
+        (&[6, 0, 0], 1),
+        (&[6, 0, 0, 4, 0], 1),
+        (&[6, 0, 0, 4], 0),
+        (&[5, 0, 0], 1),
+        (&[5, 1], 1),
+        (&[0, 0], 1),
+        (&[7, 0], 1),
+        (&[9, 0, 1, 2], 1),
+        (&[4, 0, 1, 0], 0),
+        (&[5, 0], 0),
+    ] {
+        assert_eq!(apply(&mut record, octets).answer, answer, "{octets:?}");
+    }
+}
+
+/// What document 01 asks of a record handed in; each event keeps it.
+fn valid(record: &Record) {
+    let limits = record.limits;
+    assert!([limits.card, limits.ban, limits.n1].iter().all(|limit| (1..=10).contains(limit)));
+    assert!(is_network(&record.home));
+    assert!(!record.card || (9..=64).contains(&record.suci.len()) && record.suci[0] == 1);
+    for access in &record.access {
+        assert!(access.state <= 6 && (access.state == 0 || record.card));
+        assert!((1..=3).contains(&access.status) && access.attempts <= 5);
+        assert!(access.t3502_length <= 11160 && access.ksi <= 7);
+        assert!(access.cards <= limits.card && is_network(&network_of(&access.pending)));
+        assert!(!access.t3510 || access.state == 4);
+        for (place, entry) in access.entries.iter().enumerate() {
+            assert!(entry.ban <= limits.ban && entry.n1 <= limits.n1 && is_network(&entry.network));
+            assert!(access.entries[..place].iter().all(|before| before.network != entry.network));
+        }
+    }
+    for areas in [&record.roaming, &record.regional] {
+        for (place, held) in areas.iter().enumerate() {
+            assert!(areas[..place].iter().all(|before| before.area != held.area));
+        }
+    }
+}
+
+/// A refusal changes nothing and names no timer; every event keeps the record valid.
+#[test]
+fn events_at_random() {
+    let mut word: u64 = 1;
+    let mut below = |bound: u64| {
+        word = word.wrapping_mul(6364136223846793005).wrapping_add(1442695040888963407);
+        ((word >> 33) % bound) as u8
+    };
+    let causes = [3, 6, 7, 11, 12, 13, 15, 22, 27, 72, 73, 95];
+    let mut record = limited(2);
+    for _ in 0..200_000 {
+        let before = record;
+        let a = below(2);
+        let reply = match below(12) {
+            0..=4 => record.start(
+                a,
+                below(4) / 3,
+                [below(30) / 10 * 16, 0xF1, 0x10, 0, below(4), below(20)],
+            ),
+            5..=7 => {
+                let cause = causes[below(12) as usize];
+                record.message(a, below(2), 2000, &[0x7E, 0, 0x44, cause])
+            }
+            8 => record.message(a, 1, 2000, &[0x7E, 0, 0x42, 1, 1, 0x16, 1, below(256)]),
+            9 => record.timer(1 + below(3), a),
+            10 => record.key(a, below(8)),
+            _ => match below(40) {
+                0 => record.card(HOME, &SUCI),
+                1..=4 => record.power(),
+                _ => record.timer(4, 0),
+            },
+        };
+        valid(&record);
+        if reply.answer != 0 {
+            assert_eq!(reply.timers, [Change::Left; 7]);
+            assert_eq!(reply.leave.is_some(), reply.answer == 2);
+            assert_eq!(text(&record), text(&before));
+        }
+    }
+}

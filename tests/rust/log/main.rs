@@ -1,0 +1,648 @@
+// Writes event logs for comparing programs, the same for the same seed.
+//
+//   generate SEED EVENTS [realistic|wild]   a log on standard output
+//   generate pieces SEED                    copies standard input in odd pieces
+//
+// A realistic log has whole records only, few of them refused as out of range. A wild log
+// has damaged ones too and may end in a cut record. The state is followed with the record
+// of docs/src, so that starts, messages and timers come when they have an effect.
+
+#[allow(dead_code)]
+#[path = "../../../docs/src/log.rs"]
+mod log;
+#[allow(dead_code)]
+#[path = "../../../docs/src/message.rs"]
+mod message;
+#[allow(dead_code)]
+#[path = "../../../docs/src/record.rs"]
+mod record;
+
+use record::{Limits, Record};
+use std::io::{self, Read, Write};
+
+/// SplitMix64.
+struct Random(u64);
+
+impl Random {
+    fn next(&mut self) -> u64 {
+        self.0 = self.0.wrapping_add(0x9E37_79B9_7F4A_7C15);
+        let mut word = self.0;
+        word = (word ^ (word >> 30)).wrapping_mul(0xBF58_476D_1CE4_E5B9);
+        word = (word ^ (word >> 27)).wrapping_mul(0x94D0_49BB_1331_11EB);
+        word ^ (word >> 31)
+    }
+
+    fn below(&mut self, bound: usize) -> usize {
+        (self.next() % bound as u64) as usize
+    }
+
+    fn octet(&mut self) -> u8 {
+        self.next() as u8
+    }
+
+    fn octets(&mut self, count: usize) -> Vec<u8> {
+        (0..count).map(|_| self.octet()).collect()
+    }
+
+    /// True in `percent` of a hundred calls.
+    fn odds(&mut self, percent: usize) -> bool {
+        self.below(100) < percent
+    }
+
+    fn pick<T: Copy>(&mut self, items: &[T]) -> T {
+        items[self.below(items.len())]
+    }
+}
+
+/// What a stretch of the log leans to.
+#[derive(Clone, Copy, PartialEq)]
+enum Phase {
+    Mixed,
+    Areas,
+    Networks,
+    Cards,
+    Attempts,
+    Register,
+    Manual,
+}
+
+const PHASES: [Phase; 9] = [
+    Phase::Mixed,
+    Phase::Mixed,
+    Phase::Mixed,
+    Phase::Areas,
+    Phase::Networks,
+    Phase::Cards,
+    Phase::Attempts,
+    Phase::Register,
+    Phase::Manual,
+];
+
+const CAUSES: [u8; 24] =
+    [3, 6, 7, 11, 73, 12, 13, 15, 27, 72, 95, 96, 97, 99, 111, 22, 5, 9, 10, 11, 27, 13, 62, 0];
+const ONE: [u8; 6] = [0x80, 0x9F, 0xA1, 0xB0, 0xFF, 0xD2];
+const SHORT: [u8; 12] = [0x10, 0x2E, 0x52, 0x5E, 0x5F, 0x15, 0x27, 0x31, 0x6F, 0x34, 0x4A, 0x16];
+const LONG: [u8; 7] = [0x70, 0x71, 0x72, 0x75, 0x79, 0x7F, 0x77];
+
+/// Two- and three-digit MNCs; the first two are homes.
+fn network(index: usize) -> [u8; 3] {
+    let digit = |value: usize| (value % 10) as u8;
+    let third = if index % 3 == 2 { digit(index + 4) } else { 15 };
+    [digit(index / 10) << 4, third << 4 | digit(index + 1), digit(index) << 4 | digit(index / 7)]
+}
+
+/// The oldest area of a full list.
+fn first(areas: &record::Areas) -> Option<record::Area> {
+    areas.full().then(|| areas[0].area)
+}
+
+struct Generator {
+    random: Random,
+    record: Record,
+    wild: bool,
+    phase: Phase,
+    left: usize,
+    fresh: usize,
+    past: Vec<record::Area>,
+    dropped: Option<record::Area>,
+}
+
+impl Generator {
+    fn new(seed: u64, wild: bool) -> Generator {
+        Generator {
+            random: Random(seed.wrapping_mul(0xD129_0B26_2F0A_53B5) ^ wild as u64),
+            record: Record::new(Limits { card: 3, ban: 3, n1: 3 }, &[0], &[0xF0, 0xF0]),
+            wild,
+            phase: Phase::Mixed,
+            left: 40,
+            fresh: 0,
+            past: Vec::new(),
+            dropped: None,
+        }
+    }
+
+    /// True in `percent` of a hundred calls for a wild log, else never.
+    fn spoil(&mut self, percent: usize) -> bool {
+        self.wild && self.random.odds(percent)
+    }
+
+    fn access(&mut self, a: usize) -> u8 {
+        if self.spoil(2) {
+            self.random.pick(&[2, 3, 128, 255])
+        } else {
+            a as u8
+        }
+    }
+
+    fn flag(&mut self, percent: usize) -> u8 {
+        if self.spoil(2) {
+            self.random.pick(&[2, 3, 0x80, 0xFF])
+        } else {
+            self.random.odds(percent) as u8
+        }
+    }
+
+    fn code(&mut self, mut code: [u8; 3]) -> [u8; 3] {
+        if self.spoil(3) {
+            let half = self.random.below(6);
+            let digit = 10 + self.random.below(6) as u8;
+            let octet = &mut code[half / 2];
+            *octet = if half % 2 == 0 { *octet & 15 | digit << 4 } else { *octet & 0xF0 | digit };
+        }
+        code
+    }
+
+    fn card(&mut self) -> Vec<u8> {
+        let index = self.random.below(3);
+        let mut body = vec![1, 0];
+        let home = self.code(network(index));
+        body.extend(home);
+        let mut length = self.random.pick(&[9, 9, 9, 10, 13, 32, 64]);
+        if self.spoil(10) {
+            length = self.random.pick(&[0, 1, 8, 65, 66, 200]);
+        }
+        let mut suci = self.random.octets(length);
+        if let Some(first) = suci.first_mut() {
+            *first = if self.wild && self.random.odds(10) { self.random.octet() } else { 1 };
+        }
+        body.extend(suci);
+        body
+    }
+
+    /// A network that may be started, in most cases.
+    fn choose(&mut self, a: usize) -> [u8; 3] {
+        let mut chosen = self.record.home;
+        let entries = &self.record.access[a].entries;
+        if self.phase == Phase::Manual && entries.len() > 2 && self.random.odds(70) {
+            return entries[self.random.below(3)].network;
+        }
+        if self.random.odds(20) {
+            return chosen;
+        }
+        for _ in 0..3 {
+            let pool = if self.phase == Phase::Networks { 40 } else { 8 };
+            chosen = network(self.random.below(pool));
+            let entry = self.record.access[a].entry(&chosen);
+            if !entry.is_some_and(|entry| entry.forbidden || entry.n1_barred) {
+                break;
+            }
+        }
+        chosen
+    }
+
+    fn area(&mut self) -> [u8; 3] {
+        if self.phase == Phase::Areas && self.random.odds(80) {
+            self.fresh += 1;
+            return [1, (self.fresh >> 8) as u8, self.fresh as u8];
+        }
+        [0, self.random.below(3) as u8, self.random.below(24) as u8]
+    }
+
+    /// Sometimes an area that stands on a list, or one started before that may have left it.
+    fn again(&mut self) -> Option<record::Area> {
+        if !self.random.odds(8) {
+            return None;
+        }
+        if self.dropped.is_some() && self.random.odds(20) {
+            return self.dropped.take();
+        }
+        let record = &self.record;
+        let listed = if self.random.odds(50) { &record.roaming } else { &record.regional };
+        if !listed.is_empty() && self.random.odds(50) {
+            let oldest = listed.full() && self.random.odds(50);
+            let place = if oldest { 0 } else { self.random.below(listed.len()) };
+            return Some(listed[place].area);
+        }
+        let past = self.past.len().min(64);
+        (past > 0).then(|| self.past[self.past.len() - 1 - self.random.below(past)])
+    }
+
+    fn start(&mut self, a: usize) -> Vec<u8> {
+        let chosen = self.choose(a);
+        let access = self.access(a);
+        let manual = self.flag(if self.phase == Phase::Manual { 50 } else { 15 });
+        let mut body = vec![2, 0, access, manual];
+        if let Some(area) = self.again() {
+            body.extend(area);
+        } else {
+            body.extend(self.code(chosen));
+            body.extend(self.area());
+        }
+        self.past.extend(<[u8; 6]>::try_from(&body[4..]));
+        if self.past.len() > 200 {
+            self.past.drain(..100);
+        }
+        body
+    }
+
+    fn draw(&mut self) -> [u8; 2] {
+        let draw = if self.spoil(3) {
+            self.random.pick(&[0, 1, 1799, 3601, 0x0807, 0x100E, 65535])
+        } else if self.random.odds(10) {
+            self.random.pick(&[1800, 3600])
+        } else {
+            1800 + self.random.below(1801) as u16
+        };
+        draw.to_le_bytes()
+    }
+
+    fn cause(&mut self) -> u8 {
+        match self.phase {
+            Phase::Areas => self.random.pick(&[12, 12, 12, 13, 15]),
+            Phase::Networks => self.random.pick(&[11, 73, 27, 72, 11, 27]),
+            Phase::Cards => self.random.pick(&[3, 6, 7]),
+            Phase::Manual => self.random.pick(&[11, 73, 11, 27, 22]),
+            Phase::Attempts => self.random.pick(&[22, 5, 9, 95, 111, 72, 12]),
+            _ if self.wild && self.random.odds(10) => self.random.octet(),
+            _ => self.random.pick(&CAUSES),
+        }
+    }
+
+    /// One element with an identifier and `length` octets of contents, by its format.
+    fn element(&mut self, identifier: u8, length: usize) -> Vec<u8> {
+        let mut octets = vec![identifier];
+        match identifier {
+            0x70..=0x7F => octets.extend((length as u16).to_be_bytes()),
+            0x80..=0xFF => return octets,
+            _ => octets.push(length as u8),
+        }
+        octets.extend(self.random.octets(length));
+        octets
+    }
+
+    fn unknown(&mut self) -> Vec<u8> {
+        match self.random.below(if self.wild { 10 } else { 3 }) {
+            0 | 3 => vec![self.random.pick(&ONE)],
+            1 | 4 => {
+                let identifier = self.random.pick(&SHORT[..10]);
+                let length = self.random.below(9);
+                self.element(identifier, length)
+            }
+            2 | 5 => {
+                let identifier = self.random.pick(&LONG[..6]);
+                let length = self.random.below(20);
+                self.element(identifier, length)
+            }
+            6 if self.random.odds(40) => {
+                let octet = self.random.octet() & 15;
+                vec![self.random.pick(&[0x00, 0x0F, octet]), 0]
+            }
+            7 if self.random.odds(10) => vec![0x7A],
+            8 if self.random.odds(10) => vec![0x7A, 0xFF, 0xFE, 1],
+            _ => {
+                let octet = self.random.octet() | 16;
+                let identifier = self.random.pick(&[octet, 0x10, 0x6F, 0x70, 0x7F, 0x80]);
+                let length = self.random.pick(&[0, 1, 255]);
+                self.element(identifier, length)
+            }
+        }
+    }
+
+    fn known(&mut self) -> Vec<u8> {
+        match self.random.below(3) {
+            0 => {
+                let extra = if self.spoil(20) { self.random.below(6) } else { 0 };
+                let short = if self.spoil(10) { 1 + self.random.below(11) } else { 0 };
+                let mut octets = self.element(0x77, 11 - short + extra);
+                if octets.len() > 3 {
+                    octets[3] = if self.spoil(15) { self.random.octet() } else { 0xF2 };
+                }
+                if octets.len() > 6 {
+                    let index = self.random.below(8);
+                    octets[4..7].copy_from_slice(&network(index));
+                }
+                octets
+            }
+            1 => {
+                let triplets = self.random.below(17);
+                let extra = if self.spoil(25) { self.random.below(3) } else { 0 };
+                let mut octets = vec![0x4A, (3 * triplets + extra).min(48) as u8];
+                for index in 0..16 {
+                    octets.extend(network(index));
+                }
+                octets.truncate(2 + octets[1] as usize);
+                octets
+            }
+            _ => {
+                let length = if self.spoil(20) { self.random.below(4) } else { 1 };
+                self.element(0x16, length)
+            }
+        }
+    }
+
+    fn elements(&mut self, accept: bool, octets: &mut Vec<u8>) {
+        let count = self.random.below(if self.wild { 6 } else { 4 });
+        for _ in 0..count {
+            let element =
+                if accept && self.random.odds(70) { self.known() } else { self.unknown() };
+            octets.extend(element);
+        }
+    }
+
+    /// Sometimes elements up to the largest log record.
+    fn fill(&mut self, octets: &mut Vec<u8>) {
+        const ROOM: usize = 65535 - 6;
+        let target = if self.random.odds(30) { ROOM } else { self.random.below(ROOM) };
+        while octets.len() + 3 <= target {
+            let room = target - octets.len() - 3;
+            let length = if self.random.odds(50) { room } else { self.random.below(room + 1) };
+            if self.random.odds(20) {
+                octets.extend(vec![0x9F; length + 1]);
+            } else {
+                let identifier = self.random.pick(&LONG);
+                octets.extend(self.element(identifier, length));
+            }
+        }
+        if self.random.odds(30) && octets.len() < ROOM {
+            octets.push(self.random.octet());
+        }
+    }
+
+    fn damage(&mut self, octets: &mut Vec<u8>) {
+        match self.random.below(6) {
+            0 | 1 => {
+                let length = self.random.below(octets.len() + 1);
+                octets.truncate(length);
+            }
+            2 => {
+                let place = self.random.below(octets.len().min(8));
+                octets[place] = self.random.octet();
+            }
+            3 => {
+                let place = self.random.below(octets.len());
+                octets[place] ^= 1 << self.random.below(8);
+            }
+            4 => octets[2] = self.random.pick(&[0x41, 0x43, 0x45, 0x00, 0x42, 0x44]),
+            _ => {
+                let count = 1 + self.random.below(3);
+                octets.extend(self.random.octets(count));
+            }
+        }
+    }
+
+    fn accept(&mut self) -> Vec<u8> {
+        let length = if self.spoil(10) { self.random.pick(&[0, 2, 5, 200]) } else { 1 };
+        let mut octets = vec![0x7E, 0, 0x42, length];
+        let present = if self.spoil(5) { self.random.below(5) } else { length as usize };
+        octets.extend(self.random.octets(present));
+        octets
+    }
+
+    fn message(&mut self, a: usize) -> Vec<u8> {
+        let accepts = match self.phase {
+            Phase::Register => 80,
+            Phase::Mixed => 25,
+            Phase::Manual => 40,
+            Phase::Areas => 1,
+            _ => 4,
+        };
+        let accept = self.random.odds(accepts);
+        let mut octets = if accept { self.accept() } else { vec![0x7E, 0, 0x44, self.cause()] };
+        if self.random.odds(if accept { 80 } else { 20 }) {
+            self.elements(accept, &mut octets);
+        }
+        if self.wild && self.random.below(400) == 0 {
+            self.fill(&mut octets);
+        }
+        if self.spoil(12) {
+            self.damage(&mut octets);
+        }
+        let percent = if accept {
+            95
+        } else if self.phase == Phase::Areas {
+            60
+        } else {
+            20
+        };
+        let mut body = vec![3, 0, self.access(a), self.flag(percent)];
+        body.extend(self.draw());
+        body.extend(octets);
+        body
+    }
+
+    fn timer(&mut self, number: u8, a: usize) -> Vec<u8> {
+        let number = if self.spoil(3) { self.random.pick(&[0, 5, 6, 255]) } else { number };
+        let a = if self.spoil(3) { 1 - a } else { a };
+        vec![4, 0, number, self.access(a)]
+    }
+
+    fn key(&mut self, a: usize) -> Vec<u8> {
+        let set = if self.spoil(10) {
+            self.random.pick(&[7, 8, 255])
+        } else {
+            self.random.below(7) as u8
+        };
+        vec![6, 0, self.access(a), set]
+    }
+
+    /// What an access in state 4 meets.
+    fn initiated(&mut self, a: usize) -> Vec<u8> {
+        let outs = match self.phase {
+            Phase::Attempts => 60,
+            Phase::Areas => 3,
+            _ => 12,
+        };
+        if self.random.odds(outs) {
+            self.timer(1, a)
+        } else if self.random.odds(12) {
+            self.key(a)
+        } else {
+            self.message(a)
+        }
+    }
+
+    fn idle(&mut self, a: usize) -> Vec<u8> {
+        let access = self.record.access[a];
+        if access.t3511 && self.random.odds(60) {
+            self.timer(2, a)
+        } else if access.t3502 && self.random.odds(60) {
+            self.timer(3, a)
+        } else {
+            self.start(a)
+        }
+    }
+
+    /// An event picked without regard to the state.
+    fn stray(&mut self) -> Vec<u8> {
+        let a = self.random.below(2);
+        match self.random.below(6) {
+            0 => self.start(a),
+            1 | 2 => self.message(a),
+            3 => {
+                let number = 1 + self.random.below(4) as u8;
+                self.timer(number, if number == 4 { 0 } else { a })
+            }
+            4 => self.key(a),
+            _ => self.idle(a),
+        }
+    }
+
+    fn turn(&mut self) {
+        self.phase = self.random.pick(&PHASES);
+        let most = if self.phase == Phase::Areas { 500 } else { 180 };
+        self.left = 20 + self.random.below(most);
+    }
+
+    fn event(&mut self) -> Vec<u8> {
+        if self.left == 0 {
+            self.turn();
+            return if self.random.odds(30) { self.card() } else { vec![5, 0] };
+        }
+        self.left -= 1;
+        if !self.record.card && self.random.odds(80) {
+            return self.card();
+        }
+        let calm = matches!(self.phase, Phase::Areas | Phase::Networks);
+        if self.record.t3247 && self.random.below(1000) < if calm { 5 } else { 40 } {
+            return self.timer(4, 0);
+        }
+        if self.random.odds(3) {
+            return self.stray();
+        }
+        if self.random.below(800) == 0 {
+            return self.card();
+        }
+        self.steered()
+    }
+
+    fn steered(&mut self) -> Vec<u8> {
+        let mut a = self.random.odds(if self.phase == Phase::Areas { 10 } else { 42 }) as usize;
+        let stuck = |state: u8| state == 5 || state == 0;
+        let states = [self.record.access[0].state, self.record.access[1].state];
+        if stuck(states[0]) && stuck(states[1]) {
+            return if self.random.odds(50) { vec![5, 0] } else { self.stray() };
+        }
+        if stuck(states[a]) {
+            if self.random.odds(6) {
+                return vec![5, 0];
+            }
+            a = 1 - a;
+        }
+        if states[a] == 4 {
+            self.initiated(a)
+        } else {
+            self.idle(a)
+        }
+    }
+
+    /// Wrong kinds and body lengths, and records of random octets.
+    fn spoiled(&mut self, mut body: Vec<u8>) -> Vec<u8> {
+        match self.random.below(6) {
+            0 => {
+                let kind = self.random.pick(&[0, 7, 8, 9, 10, 11, 255]);
+                body[0] = kind;
+            }
+            1 => body[1] = self.random.pick(&[1, 2, 128, 255]),
+            2 => {
+                let length = 2 + self.random.below(body.len() - 1);
+                body.truncate(length);
+            }
+            3 => {
+                let count = 1 + self.random.below(3);
+                let extra = self.random.octets(count);
+                body.extend(extra);
+            }
+            4 => {
+                let count = 2 + self.random.below(70);
+                body = self.random.octets(count);
+            }
+            _ => {
+                let place = self.random.below(body.len());
+                body[place] = self.random.octet();
+            }
+        }
+        body
+    }
+
+    fn next(&mut self) -> Vec<u8> {
+        let mut body = self.event();
+        if self.spoil(4) {
+            body = self.spoiled(body);
+        }
+        body.truncate(65535);
+        let oldest = [&self.record.roaming, &self.record.regional].map(first);
+        log::apply(&mut self.record, &body);
+        let now = [&self.record.roaming, &self.record.regional].map(first);
+        for list in 0..2 {
+            if oldest[list] != now[list] && now[list].is_some() {
+                self.dropped = oldest[list];
+            }
+        }
+        body
+    }
+
+    /// What a wild log may end in: a lone octet, a length below 2, a cut record.
+    fn tail(&mut self) -> Vec<u8> {
+        match self.random.below(8) {
+            0 => vec![self.random.octet()],
+            1 => vec![0, 0],
+            2 => vec![1, 0],
+            3 => vec![self.random.below(2) as u8, 0, 5, 0, 2, 0, 5, 0],
+            4 => vec![2, 0, 5],
+            5 => {
+                let body = self.message(0);
+                let mut octets = (body.len() as u16).to_le_bytes().to_vec();
+                octets.extend(body);
+                let length = 2 + self.random.below(octets.len() - 2);
+                octets.truncate(length);
+                octets
+            }
+            6 => {
+                let count = self.random.below(65535);
+                let mut octets = vec![255, 255];
+                octets.extend(self.random.octets(count));
+                octets
+            }
+            _ => vec![],
+        }
+    }
+}
+
+fn generate(seed: u64, events: u64, wild: bool) -> io::Result<()> {
+    let mut generator = Generator::new(seed, wild);
+    let mut out = io::BufWriter::with_capacity(65536, io::stdout().lock());
+    for _ in 0..events {
+        let body = generator.next();
+        out.write_all(&(body.len() as u16).to_le_bytes())?;
+        out.write_all(&body)?;
+    }
+    if wild {
+        out.write_all(&generator.tail())?;
+    }
+    out.flush()
+}
+
+/// Pieces of one octet to a few thousand, each its own write.
+fn pieces(seed: u64) -> io::Result<()> {
+    let mut random = Random(seed);
+    let mut octets = Vec::new();
+    io::stdin().lock().read_to_end(&mut octets)?;
+    let mut rest = &octets[..];
+    let mut out = io::stdout().lock();
+    while !rest.is_empty() {
+        let most = random.pick(&[1, 3, 17, 300, 5000, 70000]);
+        let length = (1 + random.below(most)).min(rest.len());
+        out.write_all(&rest[..length])?;
+        out.flush()?;
+        rest = &rest[length..];
+    }
+    Ok(())
+}
+
+fn main() {
+    let words: Vec<String> = std::env::args().skip(1).collect();
+    let words: Vec<&str> = words.iter().map(String::as_str).collect();
+    let number = |word: &str| word.parse::<u64>().expect("a number");
+    let result = match words[..] {
+        ["pieces", seed] => pieces(number(seed)),
+        [seed, events] | [seed, events, "realistic"] => {
+            generate(number(seed), number(events), false)
+        }
+        [seed, events, "wild"] => generate(number(seed), number(events), true),
+        _ => Err(io::Error::other("generate SEED EVENTS [realistic|wild] | generate pieces SEED")),
+    };
+    if let Err(error) = result {
+        eprintln!("generate: {error}");
+        std::process::exit(1);
+    }
+}
