@@ -1,13 +1,15 @@
 -- Tests that hold: both, either one, a bound, and an answer that passed a check. Each is by cases on the test. Assumes nothing.
 use Prim.Native.Nat.{ℕ, _≤_}
 use mathlib.Core.Path.{_≡_, refl, sym, _∙_}
-use mathlib.Core.Bool.{Bool, true, false, true≢false, false≢true}
-use lib.Dec.{leb}
-use borrow.Author.Tests.{leb-true}
-use Rattle.record.specs.Tests.{both, either, flip, within}
+use mathlib.Core.Bool.{Bool, true, false, cond, true≢false, false≢true}
+use native.Mathlib.Omega.{arith}
+use lib.Dec.{leb, ltb}
+use borrow.Author.Tests.{leb-true, ltb-false}
+use Rattle.record.specs.Tests.{both, either, flip, within, upTo}
 use Rattle.record.specs.declared.Answer.{Answer}
 use Rattle.record.specs.Answers.{isTaken}
 use Rattle.rules.specs.Answers.{check}
+use Rattle.events.specs.Parts.{atMost}
 
 pub both-left : (a b : Bool) → both a b ≡ true → a ≡ true
 both-left true b e = refl
@@ -39,8 +41,19 @@ pub flip-true : (a : Bool) → flip a ≡ true → a ≡ false
 flip-true true e = absurd (false≢true e)
 flip-true false e = refl
 
+pub within-high : (a b n : ℕ) → within a b n ≡ true → n ≤ b
+within-high a b n e = leb-true n b (both-right (leb a n) (leb n b) e)
+
 pub within-low : (a b n : ℕ) → within a b n ≡ true → a ≤ n
 within-low a b n e = leb-true a n (both-left (leb a n) (leb n b) e)
+
+-- a number below the most
+pub most-is : (m n : ℕ) → upTo m n ≡ true → atMost m n ≡ n
+most-is m n e = go (ltb n m) refl
+  where
+    go : (b : Bool) → ltb n m ≡ b → cond (ltb n m) n m ≡ n
+    go true q = rw q
+    go false q = rw q (let l = ltb-false n m q in let h = leb-true n m e in omega arith)
 
 -- what was taken passed the check, and the rest was taken
 pub check-passed : (b : Bool) (n rest : Answer) → isTaken n ≡ false → isTaken (check b n rest) ≡ true → b ≡ true

@@ -21,8 +21,9 @@ use Rattle.messages.specs.declared.Reading.the-variants as reading
 use Rattle.messages.specs.Message.{countOf, waitOf, secondsOf, acceptOf, acceptedOf, acceptReading, rejectedOf, rejectReading, typeReading, openedBy, readingOf}
 use Rattle.record.specs.Tests.{upTo, isShort}
 use Rattle.record.specs.Network.{networkOf}
-use Rattle.events.specs.Parts.{networksOf}
+use Rattle.events.specs.Parts.{atMost, networksOf}
 use Rattle.validity.specs.Run.{Octets}
+use Rattle.validity.proofs.Bools.{most-is}
 use Rattle.validity.proofs.Arrays.{All, upto-reads}
 
 -- a reading whose numbers fit an access
@@ -116,16 +117,16 @@ drop-octets zero s h = h
 drop-octets (suc n) [] h = h
 drop-octets (suc n) (x ∷ s) h = drop-octets n s (λ k. h (suc k))
 
-networks-short : (s : List ℕ) → Octets s → (k : ℕ) → isShort (getD (networksOf s) k 0) ≡ true
+networks-short : (n : ℕ) (s : List ℕ) → Octets s → (k : ℕ) → isShort (getD (networksOf n s) k 0) ≡ true
 unfolding networksOf
-networks-short [] h k = refl
-networks-short (a ∷ []) h k = refl
-networks-short (a ∷ (b ∷ [])) h k = refl
-networks-short (a ∷ (b ∷ (c ∷ s))) h zero = lt-ltb (networkOf a b c) 16777216 (omega (arith, h 0, h 1, h 2))
-networks-short (a ∷ (b ∷ (c ∷ s))) h (suc k) = networks-short s (λ j. h (suc (suc (suc j)))) k
+networks-short zero s h k = refl
+networks-short (suc n) s h zero = lt-ltb (networkOf (getD s 0 0) (getD s 1 0) (getD s 2 0)) 16777216 (omega (arith, h 0, h 1, h 2))
+networks-short (suc n) s h (suc k) = networks-short n (drop 3 s) (drop-octets 3 s h) k
 
 -- the equivalents copied from the message
-pub copied-short : (count at : ℕ) (octets equivalents : List ℕ) → Octets octets → All isShort count (copied count (networksOf (drop at octets)) equivalents)
+pub copied-short : (count at : ℕ) (octets equivalents : List ℕ) → upTo 15 count ≡ true → Octets octets
+    → All isShort count (copied (atMost 15 count) (networksOf (atMost 15 count) (drop at octets)) equivalents)
 unfolding copied
-copied-short count at octets equivalents h k l =
-    upto-reads first count (networksOf (drop at octets)) equivalents k (λ x. isShort x ≡ true) l (networks-short (drop at octets) (drop-octets at octets h) k) refl
+copied-short count at octets equivalents e h k l =
+    rw (most-is 15 count e)
+    (upto-reads first count (networksOf count (drop at octets)) equivalents k (λ x. isShort x ≡ true) l (networks-short count (drop at octets) (drop-octets at octets h) k) refl)

@@ -29,7 +29,7 @@ use Rattle.rules.specs.declared.Plan.{Plan}
 use Rattle.rules.specs.Hot.{accessOf, otherOf}
 use Rattle.rules.specs.Effects.{plain, acceptEffect, rejectT3247, rowDeed, rowWork, rejectEffect}
 use Rattle.rules.specs.Plan.{askAt, giftOf, takenPlan}
-use Rattle.events.specs.Parts.{seenOf, mineOf, deedOf, tableAfter, networksOf, equivalentsAfter}
+use Rattle.events.specs.Parts.{seenBy, seenOf, mineOf, deedOf, tableAfter, atMost, networksOf, equivalentsAfter}
 use Rattle.validity.specs.Sized.{Columns, Sized}
 use Rattle.validity.specs.Run.{Octets}
 use Rattle.validity.proofs.Good.{Fit, Timely, Carded, Held, Good}
@@ -97,9 +97,9 @@ module _ (r : Record) (g : Good r) where
         own-first r g z octets net code area sure s (reading.Accept a) (accepted (a .given) (a .count) (cond (a .timed) (a .wait) 720) (r .hot .a0)) (still (r .hot .a1)) Leave 3 0 0 1 false
         refl refl (λ e. absurd (false≢true e)) (λ e. absurd (false≢true e))
         (half-turned (r .hot .dev) (a .count) (r .hot .a0 .entries) (after (accepted (a .given) (a .count) (cond (a .timed) (a .wait) 720) (r .hot .a0)))
-        (copied (a .count) (networksOf (drop (a .triplets) octets)) (r .equivalents0)) (Rattle.entries.specs.Entries.accepted (deed 0) (r .e0))
+        (copied (atMost 15 (a .count)) (networksOf (atMost 15 (a .count)) (drop (a .triplets) octets)) (r .equivalents0)) (Rattle.entries.specs.Entries.accepted (deed 0) (r .e0))
         (accepted-turned (r .hot .dev .card) (r .hot .dev .cardlimit) (r .hot .a0) (g .half0 .fit) c (a .given) (a .count) (cond (a .timed) (a .wait) 720) p wait)
-        (copied-short (a .count) (a .triplets) octets (r .equivalents0) o)
+        (copied-short (a .count) (a .triplets) octets (r .equivalents0) p o)
         (accepted-held (r .hot .dev .banlimit) (r .hot .dev .n1limit) (r .hot .a0 .entries) (r .e0) (z .e0) (g .half0 .held) (deed 0)))
         second-still
       where
@@ -112,9 +112,9 @@ module _ (r : Record) (g : Good r) where
         own-second r g z octets net code area sure s (reading.Accept a) (accepted (a .given) (a .count) (cond (a .timed) (a .wait) 720) (r .hot .a1)) (still (r .hot .a0)) Leave 3 0 0 1 false
         refl refl (λ e. absurd (false≢true e)) (λ e. absurd (false≢true e))
         (half-turned (r .hot .dev) (a .count) (r .hot .a1 .entries) (after (accepted (a .given) (a .count) (cond (a .timed) (a .wait) 720) (r .hot .a1)))
-        (copied (a .count) (networksOf (drop (a .triplets) octets)) (r .equivalents1)) (Rattle.entries.specs.Entries.accepted (deed 1) (r .e1))
+        (copied (atMost 15 (a .count)) (networksOf (atMost 15 (a .count)) (drop (a .triplets) octets)) (r .equivalents1)) (Rattle.entries.specs.Entries.accepted (deed 1) (r .e1))
         (accepted-turned (r .hot .dev .card) (r .hot .dev .cardlimit) (r .hot .a1) (g .half1 .fit) c (a .given) (a .count) (cond (a .timed) (a .wait) 720) p wait)
-        (copied-short (a .count) (a .triplets) octets (r .equivalents1) o)
+        (copied-short (a .count) (a .triplets) octets (r .equivalents1) p o)
         (accepted-held (r .hot .dev .banlimit) (r .hot .dev .n1limit) (r .hot .a1 .entries) (r .e1) (z .e1) (g .half1 .held) (deed 1)))
         first-still
       where
@@ -165,7 +165,7 @@ module _ (r : Record) (g : Good r) (z : Sized r) (octets : List ℕ) (sure draw 
 
   -- a reject, by its row, where an entry that it needs has room
   pub reject-good : (w : ℕ) → isFlag w ≡ true → (needsEntry row ≡ true → ltb (pendingSeen r sure w .at) 16 ≡ true) → Good (carry r octets (rejectPlan w) .next)
-  unfolding accessOf otherOf takenPlan rejectEffect rowWork tableAfter deedOf seenOf
+  unfolding accessOf otherOf takenPlan rejectEffect rowWork tableAfter deedOf seenOf seenBy
   reject-good zero h f =
       own-first r g z octets (r .hot .a0 .net) (r .hot .a0 .code) false sure (pendingSeen r sure 0) (reading.Reject cause)
       (rowTurn row 0 (r .hot .dev .cardlimit) cause (pendingSeen r sure 0 .found) (r .hot .a0)) (otherTurn row (r .hot .dev .cardlimit) (r .hot .a1)) (rejectT3247 (r .hot .dev .t3247) sure cause draw)

@@ -21,7 +21,7 @@ use Rattle.rules.specs.declared.Event.{Event}
 use Rattle.rules.specs.declared.Plan.{Plan}
 use Rattle.rules.specs.Plan.{heardOf, askOf, effectOf, takenReply, refusedReply, takenPlan, refusedPlan, decidedBy, planOf}
 use Rattle.events.specs.declared.Outcome.{Outcome}
-use Rattle.events.specs.Parts.{plannedOf, mineOf, deedOf, tableAfter, listed, doneOf, carriedOut, partsAfter, gutiAfter, equivalentsAfter, suciAfter, keptAfter}
+use Rattle.events.specs.Parts.{plannedOf, plannedBy, mineOf, deedOf, tableAfter, listed, doneOf, carriedOut, partsAfter, gutiAfter, equivalentsAfter, suciAfter, keptAfter}
 use Rattle.events.specs.Step.{together, joinedOf, advanceOf, stepOf}
 use Rattle.validity.specs.Answered.{askIn, seenAt, answeredBy}
 
@@ -35,7 +35,7 @@ effectIn r e octets = effectOf (r .hot) e (seenAt r e) (heardOf e octets) octets
 
 pub taken-plan : (r : Record) (e : Event) (octets : List ℕ) → isTaken (answeredBy r e octets) ≡ true
     → advanceOf r e octets ≡ carry r octets (takenPlan (r .hot) (askIn r e) (seenAt r e) (heardOf e octets) (effectIn r e octets))
-unfolding advanceOf partsAfter plannedOf planOf decidedBy answeredBy
+unfolding advanceOf partsAfter plannedOf plannedBy planOf decidedBy answeredBy
 taken-plan r e octets q = rw q
 
 -- a deed of kind 0 leaves the entries as they are
@@ -62,7 +62,7 @@ module _ (r : Record) (q : Ask) (s : Seen) (m : Reading) (n : Answer) where
 -- the whole outcome of an event that is not taken
 pub refused : (r : Record) (e : Event) (octets : List ℕ) → isTaken (answeredBy r e octets) ≡ false
     → advanceOf r e octets ≡ record { reply = refusedReply (answeredBy r e octets) (askOf (r .hot) e .access); next = r }
-unfolding advanceOf partsAfter plannedOf planOf decidedBy answeredBy
+unfolding advanceOf partsAfter plannedOf plannedBy planOf decidedBy answeredBy
 refused r e octets q = rw q (refused-carry r (askIn r e) (seenAt r e) (heardOf e octets) (answeredBy r e octets) octets)
 
 taken-is : (n : Answer) → isTaken n ≡ true → Taken ≡ n

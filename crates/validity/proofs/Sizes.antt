@@ -22,7 +22,7 @@ use Rattle.rules.specs.declared.Event.{Event}
 use Rattle.rules.specs.declared.Plan.{Plan}
 use Rattle.rules.specs.Plan.{refusedReply}
 use Rattle.events.specs.declared.Outcome.{Outcome}
-use Rattle.events.specs.Parts.{taskOf, deedOf, tableAfter, doneOf, carriedOut, plannedOf, partsAfter, isAccepted, isCarded, networksOf, gutiAfter, equivalentsAfter, suciAfter, keptAfter}
+use Rattle.events.specs.Parts.{taskOf, deedOf, tableAfter, doneOf, carriedOut, plannedOf, partsAfter, isAccepted, isCarded, atMost, networksOf, gutiAfter, equivalentsAfter, suciAfter, keptAfter}
 use Rattle.events.specs.Step.{together, joinedOf, advanceOf, stepOf}
 use Rattle.validity.specs.Sized.{Columns, Sized}
 use Rattle.validity.proofs.Arrays.{upto-length}
@@ -165,6 +165,9 @@ list-length t count xs e =
     (cond-length (eqb (t .kind) 2) (sweptList count xs) (cond (eqb (t .kind) 3) (replicate 40 0) xs) 40 (swept-length count xs ∙ e)
     (cond-length (eqb (t .kind) 3) (replicate 40 0) xs 40 (length-replicate {A = ℕ} 40 0) e))
 
+abbrev most : Plan → ℕ
+most p = atMost 15 (p .gift .count)
+
 module _ (p : Plan) (octets : List ℕ) where
   guti-length : (me : ℕ) (guti : List ℕ) → length guti ≡ 10 → length (gutiAfter p me octets guti) ≡ 10
   unfolding gutiAfter
@@ -175,13 +178,13 @@ module _ (p : Plan) (octets : List ℕ) where
   equivalents-length : (me : ℕ) (xs : List ℕ) → length xs ≡ 15 → length (equivalentsAfter p me octets xs) ≡ 15
   unfolding equivalentsAfter
   equivalents-length me xs e =
-      cond-length (isCarded p) (zeros 15) (cond (isAccepted p me) (copied (p .gift .count) (networksOf (drop (p .gift .triplets) octets)) xs) xs) 15 (length-replicate {A = ℕ} 15 0)
-      (cond-length (isAccepted p me) (copied (p .gift .count) (networksOf (drop (p .gift .triplets) octets)) xs) xs 15 (copied-length (p .gift .count) (networksOf (drop (p .gift .triplets) octets)) xs ∙ e) e)
+      cond-length (isCarded p) (zeros 15) (cond (isAccepted p me) (copied (most p) (networksOf (most p) (drop (p .gift .triplets) octets)) xs) xs) 15 (length-replicate {A = ℕ} 15 0)
+      (cond-length (isAccepted p me) (copied (most p) (networksOf (most p) (drop (p .gift .triplets) octets)) xs) xs 15 (copied-length (most p) (networksOf (most p) (drop (p .gift .triplets) octets)) xs ∙ e) e)
 
   suci-length : (suci : List ℕ) → length suci ≡ 64 → length (suciAfter p octets suci) ≡ 64
   unfolding suciAfter
   suci-length suci e =
-      cond-length (isCarded p) (copied (length octets) octets (zeros 64)) suci 64 (copied-length (length octets) octets (zeros 64) ∙ length-replicate {A = ℕ} 64 0) e
+      cond-length (isCarded p) (copied (atMost 64 (length octets)) octets (zeros 64)) suci 64 (copied-length (atMost 64 (length octets)) octets (zeros 64) ∙ length-replicate {A = ℕ} 64 0) e
 
 pub advance-sized : (r : Record) (e : Event) (octets : List ℕ) → Sized r → Sized (advanceOf r e octets .next)
 unfolding advanceOf joinedOf together partsAfter carriedOut doneOf tableAfter keptAfter
