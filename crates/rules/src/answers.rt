@@ -15,7 +15,6 @@ use turns::Row;
 use turns::needs_entry;
 use turns::row_of;
 ghost use mathlib.Core.Path.{_≡_};
-ghost use mathlib.Core.Bool.{cond};
 ghost use lib.Dec.{eqb};
 ghost use lib.ListN.{getD};
 ghost use Rattle.record.specs.Tests.{both, flip};

@@ -12,7 +12,7 @@ or-requires-2 c κs = search needs
 
 returns : tie.Need-returns
 unfolding isCard
-returns c = cc
+returns c = rw (c .or2 .ensures, c .before .or .ensures)
 
 pub is-card-spec : {M : Type 1} → statement M
 is-card-spec = tie.close (tie.spec or-requires or-requires-2 returns)

@@ -15,15 +15,15 @@ enum-told-3 c = search needs
 
 returns : tie.Need-returns
 unfolding flagAfter
-returns c = cc
+returns c = rw (c .enum-told .given .1)
 
 returns-2 : tie.Need-returns-2
 unfolding flagAfter
-returns-2 c = cc
+returns-2 c = rw (c .enum-told2 .given .1)
 
 returns-3 : tie.Need-returns-3
 unfolding flagAfter
-returns-3 c = cc
+returns-3 c = rw (c .enum-told3 .given .1)
 
 pub flag-after-spec : {M : Type 1} → statement M
 flag-after-spec =
