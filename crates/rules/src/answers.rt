@@ -105,16 +105,10 @@ pub(crate) fn row_now(h: Hot, w: u8, sure: u8, cause: u8) -> Row
     )
 }
 
-fn is_card(cause: u8) -> bool
-    ensures { λ r. ⌜ r ≡ isCard cause ⌝ }
-{
-    or(cause == 3, or(cause == 6, cause == 7))
-}
-
 fn is_ignored(sure: u8, cause: u8, other: Access) -> bool
     ensures { λ r. ⌜ r ≡ rules.isIgnored sure cause other ⌝ }
 {
-    and(is_card(cause), and(sure == 0, other.state == 5))
+    and(turns::is_card(cause), and(sure == 0, other.state == 5))
 }
 
 fn is_full(row: Row, s: Seen) -> bool
