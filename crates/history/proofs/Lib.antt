@@ -3,3 +3,4 @@ pub mod Sizes
 pub mod Said
 pub mod Columns
 pub mod Cells
+pub mod Next
