@@ -4,3 +4,4 @@ pub mod Said
 pub mod Columns
 pub mod Cells
 pub mod Next
+pub mod Rows

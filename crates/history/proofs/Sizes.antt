@@ -132,3 +132,4 @@ entries-columns k count banlimit n1limit t w =
     others : Entries
     others = cond (isBar (k .kind)) (barredBy k n1limit t) rest
 
+
