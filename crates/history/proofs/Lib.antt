@@ -5,3 +5,4 @@ pub mod Columns
 pub mod Cells
 pub mod Next
 pub mod Rows
+pub mod Events
