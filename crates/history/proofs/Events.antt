@@ -179,3 +179,90 @@ module _ (h : Hot) where
         others = other-net (h .dev .cardlimit) (otherOf h b) (rowNow h b sure cause);
       }
   message-keeps b sure draw (reading.Bad f at) s = record { dev = refl; net = refl; others = refl }
+
+module _ (r : Record) where
+  event-home : (e : Event) (octets : List ℕ) → isTaken (answered r e octets) ≡ true → effect r e octets .dev .home ≡ homeAfter e (r .hot .dev .home)
+  unfolding answerOf effectOf homeAfter cardEffect carded startEffect keyEffect powerEffect
+  event-home (Card home) octets t = refl
+  event-home (Start b manual net code) octets t = refl
+  event-home (Message b sure draw) octets t = ap (λ (d : Device). d .home) (message-keeps (r .hot) b sure draw _ _ .dev)
+  event-home (Timer number b) octets t = ap (λ (d : Device). d .home) (timer-keeps (r .hot) number b t .dev)
+  event-home Power octets t = refl
+  event-home (Key b set) octets t = refl
+  event-home Unknown octets t = refl
+
+  event-ban : (e : Event) (octets : List ℕ) → isTaken (answered r e octets) ≡ true → effect r e octets .dev .banlimit ≡ r .hot .dev .banlimit
+  unfolding answerOf effectOf cardEffect carded startEffect keyEffect powerEffect
+  event-ban (Card home) octets t = refl
+  event-ban (Start b manual net code) octets t = refl
+  event-ban (Message b sure draw) octets t = ap (λ (d : Device). d .banlimit) (message-keeps (r .hot) b sure draw _ _ .dev)
+  event-ban (Timer number b) octets t = ap (λ (d : Device). d .banlimit) (timer-keeps (r .hot) number b t .dev)
+  event-ban Power octets t = refl
+  event-ban (Key b set) octets t = refl
+  event-ban Unknown octets t = refl
+
+  event-n1 : (e : Event) (octets : List ℕ) → isTaken (answered r e octets) ≡ true → effect r e octets .dev .n1limit ≡ r .hot .dev .n1limit
+  unfolding answerOf effectOf cardEffect carded startEffect keyEffect powerEffect
+  event-n1 (Card home) octets t = refl
+  event-n1 (Start b manual net code) octets t = refl
+  event-n1 (Message b sure draw) octets t = ap (λ (d : Device). d .n1limit) (message-keeps (r .hot) b sure draw _ _ .dev)
+  event-n1 (Timer number b) octets t = ap (λ (d : Device). d .n1limit) (timer-keeps (r .hot) number b t .dev)
+  event-n1 Power octets t = refl
+  event-n1 (Key b set) octets t = refl
+  event-n1 Unknown octets t = refl
+
+  pub home-step : (e : Event) (octets : List ℕ) → isTaken (answered r e octets) ≡ true → next r e octets .hot .dev .home ≡ homeAfter e (r .hot .dev .home)
+  home-step e octets t = taken-home r e octets t ∙ event-home e octets t
+
+  pub ban-step : (e : Event) (octets : List ℕ) → isTaken (answered r e octets) ≡ true → next r e octets .hot .dev .banlimit ≡ r .hot .dev .banlimit
+  ban-step e octets t = taken-ban r e octets t ∙ event-ban e octets t
+
+  pub n1-step : (e : Event) (octets : List ℕ) → isTaken (answered r e octets) ≡ true → next r e octets .hot .dev .n1limit ≡ r .hot .dev .n1limit
+  n1-step e octets t = taken-n1 r e octets t ∙ event-n1 e octets t
+
+  -- the pending network after an event that keeps it
+  net-kept : (e : Event) (octets : List ℕ) (t : isTaken (answered r e octets) ≡ true) → Keeps (r .hot) (asked r e octets .access) (effect r e octets) → (w : ℕ) → w < 2
+      → accessOf (next r e octets .hot) w .net ≡ accessOf (r .hot) w .net
+  net-kept e octets t k w hw =
+      taken-net r e octets t (small r e octets t) w hw
+      ∙ rw (k .net, k .others) (both-kept (r .hot) (λ (a : Access). a .net) (asked r e octets .access) w (small r e octets t) hw)
+
+  pub net-step : (e : Event) (octets : List ℕ) (t : isTaken (answered r e octets) ≡ true) (w : ℕ) → w < 2
+      → accessOf (next r e octets .hot) w .net ≡ pendingAfter w e (accessOf (r .hot) w .net)
+  unfolding askOf answerOf effectOf pendingAfter cardEffect renewed newAccess startEffect started pending keyEffect keySet keyed powerEffect cycled moved accessOf otherOf
+  net-step (Card home) octets t w hw =
+      taken-net r (Card home) octets t (small r (Card home) octets t) w hw ∙ elim (eqb 0 w) as (λ s. cond {A = ℕ} s 0 0 ≡ 0) [ true ↦ refl | false ↦ refl ]
+  net-step (Start b manual net code) octets t w hw = go (eqb b w) refl
+    where
+      hb : b < 2
+      hb = small r (Start b manual net code) octets t
+
+      go : (s : Bool) → eqb b w ≡ s → accessOf (next r (Start b manual net code) octets .hot) w .net ≡ cond (eqb b w) net (accessOf (r .hot) w .net)
+      go true q = taken-net r (Start b manual net code) octets t hb w hw ∙ rw q
+      go false q = taken-net r (Start b manual net code) octets t hb w hw ∙ rw q (ap (λ (a : Access). a .net) (other-is (r .hot) b w hb hw q))
+  net-step (Message b sure draw) octets t w hw = net-kept (Message b sure draw) octets t (message-keeps (r .hot) b sure draw _ _) w hw
+  net-step (Timer number b) octets t w hw = net-kept (Timer number b) octets t (timer-keeps (r .hot) number b t) w hw
+  net-step Power octets t w hw = net-kept Power octets t (record { dev = refl; net = refl; others = refl }) w hw
+  net-step (Key b set) octets t w hw = net-kept (Key b set) octets t (record { dev = refl; net = refl; others = refl }) w hw
+  net-step Unknown octets t w hw = net-kept Unknown octets t (record { dev = refl; net = refl; others = refl }) w hw
+
+  -- the new record's limits
+  abbrev pub limitsOf : Limits
+  limitsOf = record { ban = r .hot .dev .banlimit; n1 = r .hot .dev .n1limit }
+
+  -- an effect without a deed that leaves the counts of entries
+  cell-kept : (e : Event) (octets : List ℕ) (t : isTaken (answered r e octets) ≡ true)
+      → effect r e octets .mine .access .entries ≡ accessOf (r .hot) (asked r e octets .access) .entries
+      → effect r e octets .theirs .access .entries ≡ otherOf (r .hot) (asked r e octets .access) .entries
+      → effect r e octets .work .deed ≡ 0
+      → (w n : ℕ) → w < 2 → cellOf (next r e octets) w n ≡ cellOf r w n
+  unfolding cellOf
+  cell-kept e octets t mine theirs deed w n hw =
+      taken-cell r e octets t (small r e octets t) w hw n
+      ∙ rw (mine, theirs, deed,
+        both-kept (r .hot) (λ (a : Access). a .entries) (asked r e octets .access) w (small r e octets t) hw,
+        left (asked r e octets .access) w (seen r e octets .at) (seen r e octets .found) (asked r e octets .net) (asked r e octets .sure) (accessOf (r .hot) w .entries) (r .hot .dev .banlimit) (r .hot .dev .n1limit) (entriesIn r w))
+
+  pub card-cell : (home : ℕ) (octets : List ℕ) → isTaken (answered r (Card home) octets) ≡ true → (w n : ℕ) → w < 2 → cellOf (next r (Card home) octets) w n ≡ blank
+  unfolding askOf effectOf cardEffect mineOf entriesAfter
+  card-cell home octets t w n hw = taken-cell r (Card home) octets t (small r (Card home) octets t) w hw n ∙ cell-none _ n
