@@ -18,14 +18,17 @@ use Rattle.record.specs.declared.Answer.{Answer}
 use Rattle.record.specs.declared.Answer.the-variants as answer
 use Rattle.entries.specs.declared.Entries.{Entries}
 use Rattle.entries.specs.declared.Seen.{Seen}
-use Rattle.entries.specs.Entries.{seenIn, placeIn, sizeOf, entriesAfter}
+use Rattle.entries.specs.Entries.{seenIn, placeIn, sizeOf, accepted, swept, cycled, entriesAfter}
+use Rattle.messages.specs.declared.Accept.{Accept}
 use Rattle.messages.specs.declared.Reading.{Reading}
 use Rattle.messages.specs.declared.Reading.the-variants as reading
 use Rattle.messages.specs.Message.{readingOf}
 use Rattle.turns.specs.declared.Row.{Row}
+use Rattle.turns.specs.declared.Row.the-variants as row
 use Rattle.turns.specs.Access.{moved, pending, keyed, taught}
 use Rattle.turns.specs.Rows.{needsEntry}
-use Rattle.turns.specs.Turns.{started, keySet, accepted, t3511Out, t3502Out, cycled, renewed}
+use Rattle.turns.specs.Turns.{started, keySet, t3511Out, t3502Out, renewed}
+use Rattle.turns.specs.Turns as turns
 use Rattle.rules.specs.declared.Effect.{Effect}
 use Rattle.rules.specs.declared.Event.{Event}
 use Rattle.rules.specs.declared.Event.the-variants.{Card, Start, Message, Timer, Power, Key, Unknown}
@@ -36,10 +39,11 @@ use Rattle.rules.specs.Plan.{heardOf, askOf, answerOf, messageEffect, effectOf}
 use Rattle.events.specs.Parts.{seenBy, seenOf, mineOf}
 use Rattle.history.specs.Cell.{Cell, cellIn, entriesIn, cellOf}
 use Rattle.history.specs.History.{Limits, News, nothing, ended, homeAfter, pendingAfter, isCardChange, causeNews, messageNews, eventNews}
+use Rattle.history.specs.History as history
 use Rattle.history.proofs.Said.{blank, cellAfter}
 use Rattle.history.proofs.Columns.{grown}
 use Rattle.history.proofs.Cells.{cell-none, cell-swept, cell-cycled, cell-accepted}
-use Rattle.history.proofs.Next.{other-is, left, asked, seen, answered, effect, next, taken-home, taken-ban, taken-n1, taken-net, taken-cell}
+use Rattle.history.proofs.Next.{other-is, left, asked, seen, answered, effect, next, deedOn, taken-home, taken-ban, taken-n1, taken-net, taken-cell}
 use Rattle.history.proofs.Rows.{rowNews, row-news, row-cell, out-net, out-entries, row-net, row-entries, other-net, other-entries}
 use Rattle.history.proofs.Sizes.{Columns}
 
@@ -128,6 +132,15 @@ module _ (h : Hot) where
       go true q = rw q (ap (λ (z : ℕ). f (accessOf h z)) (eqb-true b w q))
       go false q = rw q (ap f (other-is h b w hb hw q))
 
+  -- the same, from access 0's and access 1's
+  pub each-kept : (f : Access → ℕ) (w : ℕ) → w < 2 → cond (eqb 0 w) (f (h .a0)) (f (h .a1)) ≡ f (accessOf h w)
+  unfolding accessOf otherOf
+  each-kept f w hw = both-kept f 0 w (omega arith) hw
+
+  pub out-effect : (number b : ℕ) → eqb number 4 ≡ true → timerEffect h number b ≡ t3247Effect h
+  unfolding timerEffect
+  out-effect number b q = rw q
+
   -- an effect that leaves the device's numbers, the pending networks and the counts of entries
   pub record Keeps (b : ℕ) (e : Effect) : Type 0 where
     pub dev : e .dev ≡ h .dev
@@ -170,7 +183,7 @@ module _ (h : Hot) where
       go false q = rw q (clock-keeps number b)
 
   message-keeps : (b sure draw : ℕ) (m : Reading) (s : Seen) → Keeps b (messageEffect h b sure draw m s)
-  unfolding messageEffect acceptEffect rejectEffect accepted taught moved
+  unfolding messageEffect acceptEffect rejectEffect turns.accepted taught moved
   message-keeps b sure draw (reading.Accept g) s = record { dev = refl; net = refl; others = refl }
   message-keeps b sure draw (reading.Reject cause) s =
       record {
@@ -229,7 +242,7 @@ module _ (r : Record) where
 
   pub net-step : (e : Event) (octets : List ℕ) (t : isTaken (answered r e octets) ≡ true) (w : ℕ) → w < 2
       → accessOf (next r e octets .hot) w .net ≡ pendingAfter w e (accessOf (r .hot) w .net)
-  unfolding askOf answerOf effectOf pendingAfter cardEffect renewed newAccess startEffect started pending keyEffect keySet keyed powerEffect cycled moved accessOf otherOf
+  unfolding askOf answerOf effectOf pendingAfter cardEffect renewed newAccess startEffect started pending keyEffect keySet keyed powerEffect turns.cycled moved accessOf otherOf
   net-step (Card home) octets t w hw =
       taken-net r (Card home) octets t (small r (Card home) octets t) w hw ∙ elim (eqb 0 w) as (λ s. cond {A = ℕ} s 0 0 ≡ 0) [ true ↦ refl | false ↦ refl ]
   net-step (Start b manual net code) octets t w hw = go (eqb b w) refl
@@ -266,3 +279,162 @@ module _ (r : Record) where
   pub card-cell : (home : ℕ) (octets : List ℕ) → isTaken (answered r (Card home) octets) ≡ true → (w n : ℕ) → w < 2 → cellOf (next r (Card home) octets) w n ≡ blank
   unfolding askOf effectOf cardEffect mineOf entriesAfter
   card-cell home octets t w n hw = taken-cell r (Card home) octets t (small r (Card home) octets t) w hw n ∙ cell-none _ n
+
+  module _ (c0 : Columns (r .e0)) (c1 : Columns (r .e1)) where
+    columns : (w : ℕ) → Columns (entriesIn r w)
+    unfolding entriesIn
+    columns w = elim (eqb w 0) as (λ s. Columns (cond s (r .e0) (r .e1))) [ true ↦ c0 | false ↦ c1 ]
+
+    -- T3247 out
+    ended-cell : (number b : ℕ) (octets : List ℕ) → isTaken (answered r (Timer number b) octets) ≡ true → eqb number 4 ≡ true → (w n : ℕ) → w < 2
+        → cellOf (next r (Timer number b) octets) w n ≡ cellAfter limitsOf ended (cellOf r w n)
+    unfolding askOf answerOf effectOf t3247Effect mineOf entriesAfter cellOf
+    ended-cell number b octets t q w n hw =
+        taken-cell r (Timer number b) octets t (small r (Timer number b) octets t) w hw n
+        ∙ ap (λ (x : Effect). cellIn (cond (eqb b w) (x .mine .access .entries) (x .theirs .access .entries)) (entriesAfter (deedOn r (Timer number b) octets (x .work .deed) w) (accessOf (r .hot) w .entries) (r .hot .dev .banlimit) (r .hot .dev .n1limit) (entriesIn r w)) n) (out-effect (r .hot) number b q)
+        ∙ ap (λ (k : ℕ). cellIn k (swept (accessOf (r .hot) w .entries) (r .hot .dev .banlimit) (r .hot .dev .n1limit) (entriesIn r w)) n)
+        (ap (λ (z : ℕ). cond (eqb z w) (r .hot .a0 .entries) (r .hot .a1 .entries)) (t3247-zero (r .hot) number b t q) ∙ each-kept (r .hot) (λ (a : Access). a .entries) w hw)
+        ∙ cell-swept limitsOf (accessOf (r .hot) w .entries) (entriesIn r w) (columns w) n
+
+    cycled-cell : (octets : List ℕ) → isTaken (answered r Power octets) ≡ true → (w n : ℕ) → w < 2 → cellOf (next r Power octets) w n ≡ cellAfter limitsOf history.cycled (cellOf r w n)
+    unfolding askOf effectOf powerEffect turns.cycled moved mineOf entriesAfter cellOf
+    cycled-cell octets t w n hw =
+        taken-cell r Power octets t (small r Power octets t) w hw n
+        ∙ ap (λ (k : ℕ). cellIn k (cycled (accessOf (r .hot) w .entries) (r .hot .dev .banlimit) (entriesIn r w)) n) (each-kept (r .hot) (λ (a : Access). a .entries) w hw)
+        ∙ cell-cycled limitsOf (accessOf (r .hot) w .entries) (entriesIn r w) (columns w) n
+
+    -- Messages: on the other access nothing, on their own by what was read.
+    module _ (b sure draw : ℕ) (octets : List ℕ) where
+      abbrev event : Event
+      event = Message b sure draw
+
+      abbrev sight : Seen
+      sight = seen r event octets
+
+      abbrev done : Seen → ℕ → ℕ → Entries
+      done s w k =
+          entriesAfter (record { kind = k; at = s .at; found = s .found; net = accessOf (r .hot) b .net; sure = sure })
+          (accessOf (r .hot) w .entries) (r .hot .dev .banlimit) (r .hot .dev .n1limit) (entriesIn r w)
+
+      abbrev after : Effect → ℕ → ℕ → Cell
+      after x w n = cellIn (cond (eqb b w) (x .mine .access .entries) (x .theirs .access .entries)) (done sight w (mineOf (x .work .deed) b w)) n
+
+      message-after : isTaken (answered r event octets) ≡ true → (w n : ℕ) → w < 2
+          → cellOf (next r event octets) w n ≡ after (messageEffect (r .hot) b sure draw (readingOf octets) sight) w n
+      unfolding askOf effectOf heardOf
+      message-after t w n hw = taken-cell r event octets t (small r event octets t) w hw n
+
+      mine-none : (d w : ℕ) → leb 4 d ≡ false → eqb b w ≡ false → mineOf d b w ≡ 0
+      unfolding mineOf
+      mine-none d w p q = rw (p, q)
+
+      mine-own : (d : ℕ) → mineOf d b b ≡ d
+      unfolding mineOf
+      mine-own d = rw (eq-eqb b b refl) (elim (leb 4 d) as (λ s. cond (cond s true true) d 0 ≡ d) [ true ↦ refl | false ↦ refl ])
+
+      other-after : (x : Effect) → leb 4 (x .work .deed) ≡ false → x .theirs .access .entries ≡ otherOf (r .hot) b .entries
+          → b < 2 → (w n : ℕ) → w < 2 → eqb b w ≡ false → after x w n ≡ cellOf r w n
+      unfolding cellOf entriesAfter
+      other-after x d o hb w n hw q =
+          ap (λ (s : Bool). cellIn (cond s (x .mine .access .entries) (x .theirs .access .entries)) (done sight w (mineOf (x .work .deed) b w)) n) q
+          ∙ ap (λ (k : ℕ). cellIn (x .theirs .access .entries) (done sight w k) n) (mine-none (x .work .deed) w d q)
+          ∙ ap (λ (c : ℕ). cellIn c (entriesIn r w) n) (o ∙ ap (λ (a : Access). a .entries) (other-is (r .hot) b w hb hw q))
+
+      few : (row : Row) → leb 4 (rowDeed row) ≡ false
+      unfolding rowDeed
+      few row.CardBelow = refl
+      few row.CardLimit = refl
+      few row.CardProtected = refl
+      few row.Away = refl
+      few row.Home = refl
+      few row.Area = refl
+      few row.N1 = refl
+      few row.Protocol = refl
+      few row.Other = refl
+
+      other-message : (m : Reading) → b < 2 → (w n : ℕ) → w < 2 → eqb b w ≡ false → after (messageEffect (r .hot) b sure draw m sight) w n ≡ cellOf r w n
+      unfolding messageEffect acceptEffect rejectEffect rowWork
+      other-message (reading.Accept g) hb w n hw q = other-after (acceptEffect (r .hot) b g) refl refl hb w n hw q
+      other-message (reading.Reject cause) hb w n hw q =
+          other-after (rejectEffect (r .hot) b sure draw (sight .found) cause (rowNow (r .hot) b sure cause)) (few (rowNow (r .hot) b sure cause))
+          (other-entries (r .hot .dev .cardlimit) (otherOf (r .hot) b) (rowNow (r .hot) b sure cause)) hb w n hw q
+      other-message (reading.Bad f at) hb w n hw q = other-after (messageEffect (r .hot) b sure draw (reading.Bad f at) sight) refl refl hb w n hw q
+
+      -- what is seen on the message's access
+      abbrev count : ℕ
+      count = accessOf (r .hot) b .entries
+
+      abbrev net : ℕ
+      net = accessOf (r .hot) b .net
+
+      abbrev table : Entries
+      table = entriesIn r b
+
+      abbrev found-in : Seen
+      found-in = seenIn count net (table .nets) (table .forbidden) (table .barred)
+
+      seen-is : b < 2 → sight ≡ found-in
+      unfolding askOf seenOf seenBy accessOf entriesIn
+      seen-is hb = go b hb
+        where
+          go : (c : ℕ) → c < 2 → seenOf (askOf (r .hot) (Message c sure draw)) (r .hot) (r .e0) (r .e1)
+              ≡ seenIn (accessOf (r .hot) c .entries) (accessOf (r .hot) c .net) (entriesIn r c .nets) (entriesIn r c .forbidden) (entriesIn r c .barred)
+          go zero h = refl
+          go (suc zero) h = refl
+          go (suc (suc c)) h = absurd (omega arith)
+
+      -- on the message's own access
+      own-after : (x : Effect) (n : ℕ) → after x b n ≡ cellIn (x .mine .access .entries) (done sight b (x .work .deed)) n
+      own-after x n =
+          ap (λ (s : Bool). cellIn (cond s (x .mine .access .entries) (x .theirs .access .entries)) (done sight b (mineOf (x .work .deed) b b)) n) (eq-eqb b b refl)
+          ∙ ap (λ (k : ℕ). cellIn (x .mine .access .entries) (done sight b k) n) (mine-own (x .work .deed))
+
+      abbrev protected : Bool
+      protected = not (eqb sure 0)
+
+      abbrev told : Reading → ℕ → News
+      told m n = cond (eqb net n) (messageNews (eqb n (r .hot .dev .home)) b protected m) nothing
+
+      own-accept : b < 2 → (g : Accept) (n : ℕ) → after (acceptEffect (r .hot) b g) b n ≡ cellAfter limitsOf (cond (eqb net n) history.accepted nothing) (cellIn count table n)
+      unfolding acceptEffect turns.accepted taught moved entriesAfter seenIn
+      own-accept hb g n =
+          own-after (acceptEffect (r .hot) b g) n
+          ∙ ap (λ (s : Seen). cellIn count (done s b 3) n) (seen-is hb)
+          ∙ cell-accepted limitsOf count net sure table (columns b) 3 n
+
+      abbrev here : ℕ → Row
+      here cause = rowNow (r .hot) b sure cause
+
+      room-for : b < 2 → (cause : ℕ) → isTaken (rejectAnswer (r .hot) b sure cause sight) ≡ true → both (needsEntry (here cause)) (flip (ltb (placeIn count net (table .nets)) 16)) ≡ false
+      unfolding isFull seenIn
+      room-for hb cause t = rw (seen-is hb) at (reject-room (r .hot) b sure cause sight t)
+
+      own-reject : b < 2 → (cause : ℕ) → isTaken (rejectAnswer (r .hot) b sure cause sight) ≡ true → (n : ℕ)
+          → after (rejectEffect (r .hot) b sure draw (sight .found) cause (here cause)) b n
+          ≡ cellAfter limitsOf (cond (eqb net n) (rowNews (here cause) protected) nothing) (cellIn count table n)
+      unfolding rejectEffect rowWork seenIn
+      own-reject hb cause t n =
+          own-after (rejectEffect (r .hot) b sure draw (sight .found) cause (here cause)) n
+          ∙ ap (λ (k : ℕ). cellIn k (done sight b (rowDeed (here cause))) n) (row-entries b (r .hot .dev .cardlimit) cause (sight .found) (accessOf (r .hot) b) (here cause))
+          ∙ ap (λ (s : Seen). cellIn (cond (needsEntry (here cause)) (grown (s .found) count) count) (done s b (rowDeed (here cause))) n) (seen-is hb)
+          ∙ row-cell limitsOf (here cause) count net sure table (columns b) (room-for hb cause t) n
+
+      -- the row's word for the network is the history's
+      said-same : (cause n : ℕ) → cond (eqb net n) (rowNews (here cause) protected) nothing ≡ told (reading.Reject cause) n
+      unfolding rowNow messageNews
+      said-same cause n = go (eqb net n) refl
+        where
+          go : (s : Bool) → eqb net n ≡ s
+              → cond (eqb net n) (rowNews (here cause) protected) nothing ≡ cond (eqb net n) (causeNews (eqb n (r .hot .dev .home)) b protected cause) nothing
+          go true q =
+              rw q (row-news b (eqb sure 0) (eqb net (r .hot .dev .home)) (ltb (accessOf (r .hot) b .cards) (r .hot .dev .cardlimit)) protected cause
+              ∙ ap (λ (k : ℕ). causeNews (eqb k (r .hot .dev .home)) b protected cause) (eqb-true net n q))
+          go false q = rw q
+
+      own-message : b < 2 → (m : Reading) → isTaken (readAnswer (r .hot) b sure m sight) ≡ true → (n : ℕ)
+          → after (messageEffect (r .hot) b sure draw m sight) b n ≡ cellAfter limitsOf (told m n) (cellIn count table n)
+      unfolding messageEffect readAnswer messageNews isTaken
+      own-message hb (reading.Accept g) t n = own-accept hb g n
+      own-message hb (reading.Reject cause) t n =
+          own-reject hb cause t n ∙ ap (λ (d : News). cellAfter limitsOf d (cellIn count table n)) (said-same cause n)
+      own-message hb (reading.Bad f at) t n = absurd (false≢true t)
