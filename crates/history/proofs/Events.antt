@@ -438,3 +438,44 @@ module _ (r : Record) where
       own-message hb (reading.Reject cause) t n =
           own-reject hb cause t n ∙ ap (λ (d : News). cellAfter limitsOf d (cellIn count table n)) (said-same cause n)
       own-message hb (reading.Bad f at) t n = absurd (false≢true t)
+
+      own-at : b < 2 → isTaken (readAnswer (r .hot) b sure (readingOf octets) sight) ≡ true → (w n : ℕ) → b ≡ w
+          → after (messageEffect (r .hot) b sure draw (readingOf octets) sight) w n
+          ≡ cellAfter limitsOf (cond (eqb (accessOf (r .hot) w .net) n) (messageNews (eqb n (r .hot .dev .home)) w protected (readingOf octets)) nothing) (cellIn (accessOf (r .hot) w .entries) (entriesIn r w) n)
+      own-at hb t w n e = rw (sym e) (own-message hb (readingOf octets) t n)
+
+      message-cell : isTaken (answered r event octets) ≡ true → (w n : ℕ) → w < 2
+          → cellOf (next r event octets) w n ≡ cellAfter limitsOf (eventNews (r .hot .dev .home) (accessOf (r .hot) w .net) w n event octets) (cellOf r w n)
+      unfolding answerOf heardOf askOf eventNews cellAfter cellOf
+      message-cell t w n hw = message-after t w n hw ∙ go (eqb b w) refl
+        where
+          hb : b < 2
+          hb = small r event octets t
+
+          go : (s : Bool) → eqb b w ≡ s
+              → after (messageEffect (r .hot) b sure draw (readingOf octets) sight) w n
+              ≡ cellAfter limitsOf (cond (eqb b w && eqb (accessOf (r .hot) w .net) n) (messageNews (eqb n (r .hot .dev .home)) w protected (readingOf octets)) nothing) (cellIn (accessOf (r .hot) w .entries) (entriesIn r w) n)
+          go true q = own-at hb (message-read (r .hot) b sure draw (readingOf octets) sight t) w n (eqb-true b w q) ∙ rw q
+          go false q = other-message (readingOf octets) hb w n hw q ∙ rw q
+
+    timer-cell : (number b : ℕ) (octets : List ℕ) → isTaken (answered r (Timer number b) octets) ≡ true → (w n : ℕ) → w < 2
+        → cellOf (next r (Timer number b) octets) w n ≡ cellAfter limitsOf (cond (eqb number 4) ended nothing) (cellOf r w n)
+    unfolding answerOf effectOf timerEffect askOf cellAfter
+    timer-cell number b octets t w n hw = go (eqb number 4) refl
+      where
+        go : (s : Bool) → eqb number 4 ≡ s → cellOf (next r (Timer number b) octets) w n ≡ cellAfter limitsOf (cond (eqb number 4) ended nothing) (cellOf r w n)
+        go true q = rw q (ended-cell number b octets t q w n hw)
+        go false q =
+            rw q (cell-kept (Timer number b) octets t (rw q (clock-entries (r .hot) number b)) (rw q (clock-others (r .hot) number b .0)) (rw q (clock-others (r .hot) number b .1)) w n hw)
+
+    -- the cell of network n on access w after a taken event
+    pub event-cell : (e : Event) (octets : List ℕ) → isTaken (answered r e octets) ≡ true → isCardChange e ≡ false → (w n : ℕ) → w < 2
+        → cellOf (next r e octets) w n ≡ cellAfter limitsOf (eventNews (r .hot .dev .home) (accessOf (r .hot) w .net) w n e octets) (cellOf r w n)
+    unfolding answerOf effectOf askOf isCardChange isTaken eventNews cellAfter startEffect started pending keyEffect keySet keyed moved
+    event-cell (Card home) octets t k w n hw = absurd (true≢false k)
+    event-cell (Start b manual net code) octets t k w n hw = cell-kept (Start b manual net code) octets t refl refl refl w n hw
+    event-cell (Message b sure draw) octets t k w n hw = message-cell b sure draw octets t w n hw
+    event-cell (Timer number b) octets t k w n hw = timer-cell number b octets t w n hw
+    event-cell Power octets t k w n hw = cycled-cell octets t w n hw
+    event-cell (Key b set) octets t k w n hw = cell-kept (Key b set) octets t refl refl refl w n hw
+    event-cell Unknown octets t k w n hw = absurd (false≢true t)

@@ -6,3 +6,4 @@ pub mod Cells
 pub mod Next
 pub mod Rows
 pub mod Events
+pub mod Demand3

@@ -86,17 +86,17 @@ module _ (r : Record) (e : Event) (octets : List ℕ) where
   abbrev pub effect : Effect
   effect = effectOf (r .hot) e seen (heardOf e octets) octets
 
-  abbrev planned : Plan
+  abbrev pub planned : Plan
   planned = plannedOf (r .hot) e octets (r .e0) (r .e1) (r .roaming) (r .regional)
 
   abbrev pub next : Record
   next = advanceOf r e octets .next
 
-  taken-plan : isTaken answered ≡ true → planned ≡ takenPlan (r .hot) asked seen (heardOf e octets) effect
+  pub taken-plan : isTaken answered ≡ true → planned ≡ takenPlan (r .hot) asked seen (heardOf e octets) effect
   unfolding plannedOf plannedBy planOf decidedBy
   taken-plan t = rw t
 
-  refused-plan : isTaken answered ≡ false → planned ≡ refusedPlan (r .hot) asked seen (heardOf e octets) answered
+  pub refused-plan : isTaken answered ≡ false → planned ≡ refusedPlan (r .hot) asked seen (heardOf e octets) answered
   unfolding plannedOf plannedBy planOf decidedBy
   refused-plan t = rw t
 

@@ -5,6 +5,16 @@ use mathlib.Core.Bool.{Bool, true, false, cond}
 use mathlib.Core.List.{List, [], _∷_, _++_}
 use lib.Dec.{ltb, eqb}
 use lib.ListN.{length, getD, set, take, drop, replicate, length-set, length-replicate, length-append, length-drop}
+use Rattle.record.specs.New.{emptyRecord, newRecord}
+use Rattle.record.specs.Valid.{validOf}
+use Rattle.record.specs.declared.Record.{Record}
+use Rattle.record.specs.declared.Answer.the-variants.{Taken, Range}
+use Rattle.rules.specs.declared.Event.{Event}
+use Rattle.rules.specs.declared.Plan.{Plan}
+use Rattle.rules.specs.Plan.{refusedReply}
+use Rattle.events.specs.declared.Outcome.{Outcome}
+use Rattle.events.specs.Parts.{deedOf, tableAfter, doneOf, carriedOut, plannedOf, partsAfter}
+use Rattle.events.specs.Step.{together, joinedOf, advanceOf, stepOf}
 use Rattle.laws.specs.Upto.{upto}
 use Rattle.entries.specs.declared.Entries.{Entries}
 use Rattle.entries.specs.declared.Deed.{Deed}
@@ -133,3 +143,26 @@ entries-columns k count banlimit n1limit t w =
     others = cond (isBar (k .kind)) (barredBy k n1limit t) rest
 
 
+
+pub record Sized (r : Record) : Type 0 where
+  pub e0 : Columns (r .e0)
+  pub e1 : Columns (r .e1)
+
+pub advance-sized : (r : Record) (e : Event) (octets : List ℕ) → Sized r → Sized (advanceOf r e octets .next)
+unfolding advanceOf joinedOf together partsAfter carriedOut doneOf tableAfter
+advance-sized r e octets s = record {
+  e0 = entries-columns (deedOf p 0) (r .hot .a0 .entries) (r .hot .dev .banlimit) (r .hot .dev .n1limit) (r .e0) (s .e0);
+  e1 = entries-columns (deedOf p 1) (r .hot .a1 .entries) (r .hot .dev .banlimit) (r .hot .dev .n1limit) (r .e1) (s .e1);
+}
+  where
+    p : Plan
+    p = plannedOf (r .hot) e octets (r .e0) (r .e1) (r .roaming) (r .regional)
+
+pub step-sized : (r : Record) (e : Event) (octets : List ℕ) → Sized r → Sized (stepOf r e octets .next)
+unfolding stepOf
+step-sized r e octets s =
+    elim (validOf r) as (λ b. Sized (cond {A = Outcome} b (advanceOf r e octets) (record { reply = refusedReply Range 0; next = r }) .next)) [ true ↦ advance-sized r e octets s | false ↦ s ]
+
+pub new-sized : (cardlimit banlimit n1limit : ℕ) (capability security : List ℕ) → Sized (newRecord cardlimit banlimit n1limit capability security)
+unfolding newRecord emptyRecord
+new-sized cardlimit banlimit n1limit capability security = record { e0 = none-columns; e1 = none-columns }
