@@ -24,7 +24,6 @@ use Rattle.messages.specs.declared.Reading.{Reading}
 use Rattle.messages.specs.declared.Reading.the-variants as reading
 use Rattle.messages.specs.Message.{readingOf}
 use Rattle.turns.specs.declared.Row.{Row}
-use Rattle.turns.specs.declared.Row.the-variants as row
 use Rattle.turns.specs.Access.{moved, pending, keyed, taught}
 use Rattle.turns.specs.Rows.{needsEntry}
 use Rattle.turns.specs.Turns.{started, keySet, t3511Out, t3502Out, renewed}
@@ -43,8 +42,8 @@ use Rattle.history.specs.History as history
 use Rattle.history.proofs.Said.{blank, cellAfter}
 use Rattle.history.proofs.Columns.{grown}
 use Rattle.history.proofs.Cells.{cell-none, cell-swept, cell-cycled, cell-accepted}
-use Rattle.history.proofs.Next.{other-is, left, asked, seen, answered, effect, next, deedOn, taken-home, taken-ban, taken-n1, taken-net, taken-cell}
-use Rattle.history.proofs.Rows.{rowNews, row-news, row-cell, out-net, out-entries, row-net, row-entries, other-net, other-entries}
+use Rattle.history.proofs.Next.{other-is, mine-none, left, asked, seen, answered, effect, next, deedOn, taken-home, taken-ban, taken-n1, taken-net, taken-cell}
+use Rattle.history.proofs.Rows.{few, rowNews, row-news, row-cell, out-net, out-entries, row-net, row-entries, other-net, other-entries}
 use Rattle.history.proofs.Sizes.{Columns}
 
 -- a check that a taken event passed, and the checks behind it
@@ -81,7 +80,7 @@ message-small : (h : Hot) (w sure draw : ℕ) (m : Reading) (s : Seen) → isTak
 unfolding messageAnswer messageRange isTaken
 message-small h w sure draw m s t = flag-small w (first-of (isFlag w) _ (passed _ answer.Range _ refl t))
 
-message-read : (h : Hot) (w sure draw : ℕ) (m : Reading) (s : Seen) → isTaken (messageAnswer h w sure draw m s) ≡ true → isTaken (readAnswer h w sure m s) ≡ true
+pub message-read : (h : Hot) (w sure draw : ℕ) (m : Reading) (s : Seen) → isTaken (messageAnswer h w sure draw m s) ≡ true → isTaken (readAnswer h w sure m s) ≡ true
 unfolding messageAnswer isTaken
 message-read h w sure draw m s t = behind (eqb (accessOf h w .state) 4) answer.State _ refl (behind (messageRange w sure draw) answer.Range _ refl t)
 
@@ -324,10 +323,6 @@ module _ (r : Record) where
       unfolding askOf effectOf heardOf
       message-after t w n hw = taken-cell r event octets t (small r event octets t) w hw n
 
-      mine-none : (d w : ℕ) → leb 4 d ≡ false → eqb b w ≡ false → mineOf d b w ≡ 0
-      unfolding mineOf
-      mine-none d w p q = rw (p, q)
-
       mine-own : (d : ℕ) → mineOf d b b ≡ d
       unfolding mineOf
       mine-own d = rw (eq-eqb b b refl) (elim (leb 4 d) as (λ s. cond (cond s true true) d 0 ≡ d) [ true ↦ refl | false ↦ refl ])
@@ -337,20 +332,8 @@ module _ (r : Record) where
       unfolding cellOf entriesAfter
       other-after x d o hb w n hw q =
           ap (λ (s : Bool). cellIn (cond s (x .mine .access .entries) (x .theirs .access .entries)) (done sight w (mineOf (x .work .deed) b w)) n) q
-          ∙ ap (λ (k : ℕ). cellIn (x .theirs .access .entries) (done sight w k) n) (mine-none (x .work .deed) w d q)
+          ∙ ap (λ (k : ℕ). cellIn (x .theirs .access .entries) (done sight w k) n) (mine-none b (x .work .deed) w d q)
           ∙ ap (λ (c : ℕ). cellIn c (entriesIn r w) n) (o ∙ ap (λ (a : Access). a .entries) (other-is (r .hot) b w hb hw q))
-
-      few : (row : Row) → leb 4 (rowDeed row) ≡ false
-      unfolding rowDeed
-      few row.CardBelow = refl
-      few row.CardLimit = refl
-      few row.CardProtected = refl
-      few row.Away = refl
-      few row.Home = refl
-      few row.Area = refl
-      few row.N1 = refl
-      few row.Protocol = refl
-      few row.Other = refl
 
       other-message : (m : Reading) → b < 2 → (w n : ℕ) → w < 2 → eqb b w ≡ false → after (messageEffect (r .hot) b sure draw m sight) w n ≡ cellOf r w n
       unfolding messageEffect acceptEffect rejectEffect rowWork

@@ -7,3 +7,4 @@ pub mod Next
 pub mod Rows
 pub mod Events
 pub mod Demand3
+pub mod Apart

@@ -16,6 +16,7 @@ use Rattle.entries.specs.declared.Entries.{Entries}
 use Rattle.entries.specs.declared.Seen.{Seen}
 use Rattle.entries.specs.declared.Deed.{Deed}
 use Rattle.entries.specs.Entries.{entriesAfter}
+use Rattle.areas.specs.Areas.{listAfter, countAfter}
 use Rattle.turns.specs.declared.Orders.{Orders}
 use Rattle.turns.specs.Access.{clocked}
 use Rattle.rules.specs.declared.Ask.{Ask}
@@ -25,7 +26,7 @@ use Rattle.rules.specs.declared.Plan.{Plan}
 use Rattle.rules.specs.Hot.{accessOf, otherOf, hotOf}
 use Rattle.rules.specs.Effects.{ticked}
 use Rattle.rules.specs.Plan.{heardOf, askOf, answerOf, effectOf, hotAfter, takenPlan, refusedPlan, decidedBy, planOf}
-use Rattle.events.specs.Parts.{seenOf, listedOf, plannedBy, plannedOf, mineOf, deedOf, tableAfter, listed, doneOf, carriedOut, partsAfter}
+use Rattle.events.specs.Parts.{seenOf, listedOf, plannedBy, plannedOf, mineOf, deedOf, tableAfter, listed, doneOf, carriedOut, partsAfter, gutiAfter, equivalentsAfter, suciAfter, keptAfter}
 use Rattle.events.specs.Step.{together, joinedOf, advanceOf}
 use Rattle.history.specs.Cell.{Cell, cellIn, entriesIn, cellOf}
 
@@ -65,6 +66,11 @@ entries-of : (b : Bool) (o o′ : Orders) (x y : Access) → cond b (clocked o x
 unfolding clocked
 entries-of true o o′ x y = refl
 entries-of false o o′ x y = refl
+
+-- a deed of the event's own access is none on the other
+pub mine-none : (b d w : ℕ) → leb 4 d ≡ false → eqb b w ≡ false → mineOf d b w ≡ 0
+unfolding mineOf
+mine-none b d w p q = rw (p, q)
 
 -- no deed
 pub left : (b w at : ℕ) (found : Bool) (net sure count banlimit n1limit : ℕ) (t : Entries)
@@ -122,12 +128,36 @@ module _ (r : Record) (e : Event) (octets : List ℕ) where
   next-entries (suc zero) h = refl
   next-entries (suc (suc w)) h = absurd (omega arith)
 
+  pub next-guti : (w : ℕ) → w < 2 → cond (eqb w 0) (next .guti0) (next .guti1) ≡ gutiAfter planned w octets (cond (eqb w 0) (r .guti0) (r .guti1))
+  unfolding advanceOf joinedOf together partsAfter carriedOut doneOf keptAfter
+  next-guti zero h = refl
+  next-guti (suc zero) h = refl
+  next-guti (suc (suc w)) h = absurd (omega arith)
+
+  pub next-equivalents : (w : ℕ) → w < 2
+      → cond (eqb w 0) (next .equivalents0) (next .equivalents1) ≡ equivalentsAfter planned w octets (cond (eqb w 0) (r .equivalents0) (r .equivalents1))
+  unfolding advanceOf joinedOf together partsAfter carriedOut doneOf keptAfter
+  next-equivalents zero h = refl
+  next-equivalents (suc zero) h = refl
+  next-equivalents (suc (suc w)) h = absurd (omega arith)
+
+  pub refused-next : isTaken answered ≡ false → next ≡ r
+  unfolding advanceOf partsAfter refusedPlan joinedOf together carriedOut doneOf listed keptAfter gutiAfter equivalentsAfter suciAfter listAfter countAfter tableAfter deedOf
+  refused-next t = ap (λ (p : Plan). joinedOf r octets (carriedOut p (r .hot) (r .e0) (r .e1) (r .roaming) (r .regional)) .next) (refused-plan t) ∙ rw (stays 0 (r .hot .a0 .entries) (r .e0), stays 1 (r .hot .a1 .entries) (r .e1))
+    where
+      stays : (me count : ℕ) (t : Entries) → entriesAfter (record { kind = mineOf 0 (asked .access) me; at = seen .at; found = seen .found; net = asked .net; sure = asked .sure }) count (r .hot .dev .banlimit) (r .hot .dev .n1limit) t ≡ t
+      stays me count t = left (asked .access) me (seen .at) (seen .found) (asked .net) (asked .sure) count (r .hot .dev .banlimit) (r .hot .dev .n1limit) t
+
   -- what is done on access w: the deed, at the place that was seen
   abbrev pub deedOn : ℕ → ℕ → Deed
   deedOn deed w = record { kind = mineOf deed (asked .access) w; at = seen .at; found = seen .found; net = asked .net; sure = asked .sure }
 
-  abbrev doneOn : ℕ → ℕ → Entries
+  abbrev pub doneOn : ℕ → ℕ → Entries
   doneOn deed w = entriesAfter (deedOn deed w) (accessOf (r .hot) w .entries) (r .hot .dev .banlimit) (r .hot .dev .n1limit) (entriesIn r w)
+
+  pub idle-is : (deed w : ℕ) → mineOf deed (asked .access) w ≡ 0 → doneOn deed w ≡ entriesIn r w
+  unfolding entriesAfter
+  idle-is deed w z = rw z
 
   module _ (t : isTaken answered ≡ true) where
     pub taken-home : next .hot .dev .home ≡ effect .dev .home
@@ -142,7 +172,7 @@ module _ (r : Record) (e : Event) (octets : List ℕ) where
     unfolding takenPlan hotAfter ticked
     taken-n1 = next-n1 ∙ ap (λ (p : Plan). p .hot .dev .n1limit) (taken-plan t) ∙ ap (λ (d : Device). d .n1limit) (hot-dev _ (asked .access) _ _)
 
-    taken-entries : (w : ℕ) → w < 2 → entriesIn next w ≡ doneOn (effect .work .deed) w
+    pub taken-entries : (w : ℕ) → w < 2 → entriesIn next w ≡ doneOn (effect .work .deed) w
     unfolding takenPlan deedOf
     taken-entries w hw =
         next-entries w hw

@@ -2,3 +2,4 @@
 pub mod Run
 pub mod Cell
 pub mod History
+pub mod Apart
