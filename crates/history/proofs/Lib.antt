@@ -8,3 +8,4 @@ pub mod Rows
 pub mod Events
 pub mod Demand3
 pub mod Apart
+pub mod Facts

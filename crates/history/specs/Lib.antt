@@ -3,3 +3,4 @@ pub mod Run
 pub mod Cell
 pub mod History
 pub mod Apart
+pub mod Facts
