@@ -1,11 +1,10 @@
 // Messages from the network: the reading of an accept or a reject, and the calls for C firmware.
 ghost use mathlib.Core.Path.{_≡_};
-ghost use Prim.Native.Nat.{_<_, _≤_};
+ghost use Prim.Native.Nat.{_<_};
 ghost use mathlib.Core.Bool.{cond};
-ghost use lib.Dec.{eqb};
-ghost use lib.ListN.{length, getD};
+ghost use lib.ListN.{getD};
 ghost use Rattle.timers.specs.Timer.{spanOf};
-ghost use Rattle.messages.specs.Message.{gutiOf, countOf, tripletsOf, waitOf, timedOf, secondsOf, acceptOf, acceptReading, rejectReading, typeReading, readingOf, numberOf, causeOf, timerOf};
+ghost use Rattle.messages.specs.Message.{gutiOf, countOf, waitOf, timedOf, secondsOf, acceptOf, acceptReading, rejectReading, typeReading, readingOf, numberOf, causeOf, timerOf};
 use octets::Fault;
 use octets::Gathered;
 use octets::Part;
@@ -45,7 +44,7 @@ fn word(x: u8) -> u32
 }
 
 // The octet at a place, 0 past the end.
-fn octet(msg: &[u8], at: usize) -> u8
+pub fn octet(msg: &[u8], at: usize) -> u8
     ensures { λ r. ⌜ r ≡ getD (now (msg .entry)) at 0 ⌝ }
 {
     if at < msg.len() {
@@ -57,24 +56,28 @@ fn octet(msg: &[u8], at: usize) -> u8
 fn guti(msg: &[u8], p: Part) -> Part
     ensures { λ r. ⌜ r ≡ gutiOf (now (msg .entry)) p ⌝ }
 {
-    let start = p.start;
-    if p.held {
-        if 11 <= p.len {
-            if start < msg.len() {
-                if msg[start] == 0xF2 {
-                    return Part {
-                        held: true,
-                        start: start + 1,
-                        len: 10,
-                    };
-                }
-            }
-        }
-    }
-    Part {
+    let absent = Part {
         held: false,
         start: 0,
         len: 0,
+    };
+    let start = p.start;
+    if !p.held {
+        return absent;
+    }
+    if p.len < 11 {
+        return absent;
+    }
+    if msg.len() <= start {
+        return absent;
+    }
+    if msg[start] != 0xF2 {
+        return absent;
+    }
+    Part {
+        held: true,
+        start: start + 1,
+        len: 10,
     }
 }
 

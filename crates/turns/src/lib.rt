@@ -1,6 +1,38 @@
 // What an event makes of one access's numbers and timers: the rows of document 01, each by its own words.
 use record::Access;
-ghost use mathlib.Core.Path.{_≡_};
+
+mod access;
+mod rows;
+mod timers;
+mod turns;
+
+pub use access::clocked;
+pub use rows::needs_entry;
+pub use rows::row_of;
+pub use rows::starts_t3247;
+pub use rows::to_regional;
+pub use rows::to_roaming;
+pub use timers::clocks_of;
+pub use timers::told_of;
+pub use turns::accepted;
+pub use turns::area;
+pub use turns::away;
+pub use turns::card_below;
+pub use turns::card_limit;
+pub use turns::card_protected;
+pub use turns::cycled;
+pub use turns::failed;
+pub use turns::home;
+pub use turns::key_set;
+pub use turns::n1;
+pub use turns::other_turn;
+pub use turns::renewed;
+pub use turns::row_turn;
+pub use turns::started;
+pub use turns::still;
+pub use turns::t3502_out;
+pub use turns::t3510_out;
+pub use turns::t3511_out;
 
 // What an event does to a timer: nothing, stop it, or run it for so many seconds.
 pub enum Order {

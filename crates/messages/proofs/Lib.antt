@@ -1,0 +1,2 @@
+-- What the proofs of messages share.
+pub mod Within

@@ -1,0 +1,18 @@
+-- The joins are those of the definition, in its order. Assumes nothing.
+use Rattle.turns.specs.Rows.{isN1No}
+use borrow.Author.Needs.{needs}
+use Rattle.turns.proofs.rows.is_n1_no.Statement.{statement}
+use Rattle.turns.proofs.rows.is_n1_no.Tie as tie
+
+and2-requires : tie.Need-and2-requires
+and2-requires c κs = search needs
+
+or2-requires : tie.Need-or2-requires
+or2-requires c κs = search needs
+
+returns : tie.Need-returns
+unfolding isN1No
+returns c = cc
+
+pub is-n1-no-spec : {M : Type 1} → statement M
+is-n1-no-spec = tie.close (tie.spec and2-requires or2-requires returns)

@@ -1,0 +1,21 @@
+-- The setters are those of the definition, in its order. Assumes nothing.
+use Rattle.turns.specs.Turns.{accepted}
+use borrow.Author.Needs.{needs}
+use Rattle.turns.proofs.turns.accepted.Statement.{statement}
+use Rattle.turns.proofs.turns.accepted.Tie as tie
+
+moved-requires : tie.Need-moved-requires
+moved-requires c κs = search needs
+
+taught-requires : tie.Need-taught-requires
+taught-requires c κs = search needs
+
+timed-requires : tie.Need-timed-requires
+timed-requires c κs = search needs
+
+returns : tie.Need-returns
+unfolding accepted
+returns c = cc
+
+pub accepted-spec : {M : Type 1} → statement M
+accepted-spec = tie.close (tie.spec moved-requires taught-requires timed-requires returns)

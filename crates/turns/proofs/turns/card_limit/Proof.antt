@@ -1,0 +1,21 @@
+-- The setters are those of the definition, in its order. Assumes nothing.
+use Rattle.turns.specs.Turns.{cardLimit}
+use borrow.Author.Needs.{needs}
+use Rattle.turns.proofs.turns.card_limit.Statement.{statement}
+use Rattle.turns.proofs.turns.card_limit.Tie as tie
+
+barred-requires : tie.Need-barred-requires
+barred-requires c κs = search needs
+
+emptied-requires : tie.Need-emptied-requires
+emptied-requires c κs = search needs
+
+rejected-requires : tie.Need-rejected-requires
+rejected-requires c κs = search needs
+
+returns : tie.Need-returns
+unfolding cardLimit
+returns c = cc
+
+pub card-limit-spec : {M : Type 1} → statement M
+card-limit-spec = tie.close (tie.spec barred-requires emptied-requires rejected-requires returns)

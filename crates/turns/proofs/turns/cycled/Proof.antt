@@ -1,0 +1,21 @@
+-- The setters are those of the definition, in its order. Assumes nothing.
+use Rattle.turns.specs.Turns.{cycled}
+use borrow.Author.Needs.{needs}
+use Rattle.turns.proofs.turns.cycled.Statement.{statement}
+use Rattle.turns.proofs.turns.cycled.Tie as tie
+
+pick-requires : tie.Need-pick-requires
+pick-requires c κs = search needs
+
+moved-requires : tie.Need-moved-requires
+moved-requires c κs = search needs
+
+timed-requires : tie.Need-timed-requires
+timed-requires c κs = search needs
+
+returns : tie.Need-returns
+unfolding cycled
+returns c = cc
+
+pub cycled-spec : {M : Type 1} → statement M
+cycled-spec = tie.close (tie.spec pick-requires moved-requires timed-requires returns)

@@ -1,0 +1,21 @@
+-- The setters are those of the definition, in its order. Assumes nothing.
+use Rattle.turns.specs.Turns.{started}
+use borrow.Author.Needs.{needs}
+use Rattle.turns.proofs.turns.started.Statement.{statement}
+use Rattle.turns.proofs.turns.started.Tie as tie
+
+moved-requires : tie.Need-moved-requires
+moved-requires c κs = search needs
+
+pending-requires : tie.Need-pending-requires
+pending-requires c κs = search needs
+
+timed-requires : tie.Need-timed-requires
+timed-requires c κs = search needs
+
+returns : tie.Need-returns
+unfolding started
+returns c = cc
+
+pub started-spec : {M : Type 1} → statement M
+started-spec = tie.close (tie.spec moved-requires pending-requires timed-requires returns)

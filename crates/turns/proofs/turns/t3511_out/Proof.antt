@@ -1,0 +1,15 @@
+-- The setters are those of the definition, in its order. Assumes nothing.
+use Rattle.turns.specs.Turns.{t3511Out}
+use borrow.Author.Needs.{needs}
+use Rattle.turns.proofs.turns.t3511_out.Statement.{statement}
+use Rattle.turns.proofs.turns.t3511_out.Tie as tie
+
+timed-requires : tie.Need-timed-requires
+timed-requires c κs = search needs
+
+returns : tie.Need-returns
+unfolding t3511Out
+returns c = cc
+
+pub t3511-out-spec : {M : Type 1} → statement M
+t3511-out-spec = tie.close (tie.spec timed-requires returns)

@@ -1,0 +1,173 @@
+// The table of rejects: which row a reject falls under, and what the row says of lists and of T3247.
+use crate::Row;
+ghost use mathlib.Core.Path.{_≡_};
+ghost use mathlib.Core.Bool.{cond, true, false};
+ghost use lib.Dec.{eqb};
+ghost use Rattle.turns.specs.Rows.{isCard, isNetworkNo, isAreaNo, isN1No, isProtocol, rowOf, startsT3247, needsEntry, toRoaming, toRegional};
+ghost use Rattle.turns.specs.declared.Row.the-variants.{CardBelow, CardLimit, CardProtected, Away, Home, Area, N1, Protocol, Other};
+
+fn or2(a: bool, b: bool) -> bool
+    ensures { λ r. ⌜ r ≡ cond a true b ⌝ }
+{
+    if a { true } else { b }
+}
+
+fn and2(a: bool, b: bool) -> bool
+    ensures { λ r. ⌜ r ≡ cond a b false ⌝ }
+{
+    if a { b } else { false }
+}
+
+fn is_card(cause: u8) -> bool
+    ensures { λ r. ⌜ r ≡ isCard cause ⌝ }
+{
+    or2(cause == 3, or2(cause == 6, cause == 7))
+}
+
+fn is_network_no(cause: u8) -> bool
+    ensures { λ r. ⌜ r ≡ isNetworkNo cause ⌝ }
+{
+    or2(cause == 11, cause == 73)
+}
+
+fn is_area_no(cause: u8) -> bool
+    ensures { λ r. ⌜ r ≡ isAreaNo cause ⌝ }
+{
+    or2(cause == 12, or2(cause == 13, cause == 15))
+}
+
+fn is_n1_no(w: u8, cause: u8) -> bool
+    ensures { λ r. ⌜ r ≡ isN1No w cause ⌝ }
+{
+    or2(cause == 27, and2(cause == 72, w == 1))
+}
+
+fn is_protocol(cause: u8) -> bool
+    ensures { λ r. ⌜ r ≡ isProtocol cause ⌝ }
+{
+    let last = or2(cause == 97, or2(cause == 99, cause == 111));
+    or2(cause == 95, or2(cause == 96, last))
+}
+
+fn card_row(bare: bool, below: bool) -> Row
+    ensures { λ r. ⌜ r ≡ cond bare (cond below CardBelow CardLimit) CardProtected ⌝ }
+{
+    if bare {
+        if below {
+            Row::CardBelow
+        } else {
+            Row::CardLimit
+        }
+    } else {
+        Row::CardProtected
+    }
+}
+
+fn network_row(home: bool, bare: bool) -> Row
+    ensures { λ r. ⌜ r ≡ cond home (cond bare Home Other) Away ⌝ }
+{
+    if home {
+        if bare { Row::Home } else { Row::Other }
+    } else {
+        Row::Away
+    }
+}
+
+fn further_row(area: bool, n1: bool, protocol: bool) -> Row
+    ensures { λ r. ⌜ r ≡ cond area Area (cond n1 N1 (cond protocol Protocol Other)) ⌝ }
+{
+    if area {
+        return Row::Area;
+    }
+    if n1 {
+        return Row::N1;
+    }
+    if protocol { Row::Protocol } else { Row::Other }
+}
+
+fn chosen(first: bool, a: Row, second: bool, b: Row, c: Row) -> Row
+    ensures { λ r. ⌜ r ≡ cond first a (cond second b c) ⌝ }
+{
+    if first {
+        return a;
+    }
+    if second { b } else { c }
+}
+
+// The rows after those of the card and of the network.
+fn further(w: u8, cause: u8) -> Row
+    ensures { λ r. ⌜ r ≡ cond (cond (isAreaNo cause) (eqb w 0) false) Area (cond (isN1No w cause) N1 (cond (isProtocol cause) Protocol Other)) ⌝ }
+{
+    let area = and2(is_area_no(cause), w == 0);
+    further_row(area, is_n1_no(w, cause), is_protocol(cause))
+}
+
+pub fn row_of(w: u8, bare: bool, home: bool, below: bool, cause: u8) -> Row
+    ensures { λ r. ⌜ r ≡ rowOf w bare home below cause ⌝ }
+{
+    let card = card_row(bare, below);
+    let network = network_row(home, bare);
+    let rest = further(w, cause);
+    chosen(is_card(cause), card, is_network_no(cause), network, rest)
+}
+
+pub fn starts_t3247(cause: u8) -> bool
+    ensures { λ r. ⌜ r ≡ startsT3247 cause ⌝ }
+{
+    let rest = or2(is_area_no(cause), or2(cause == 27, cause == 72));
+    or2(is_card(cause), or2(is_network_no(cause), rest))
+}
+
+pub fn needs_entry(row: Row) -> bool
+    ensures { λ r. ⌜ r ≡ needsEntry row ⌝ }
+{
+    match row {
+        Row::CardBelow => false,
+        Row::CardLimit => false,
+        Row::CardProtected => false,
+        Row::Away => true,
+        Row::Home => false,
+        Row::Area => false,
+        Row::N1 => true,
+        Row::Protocol => false,
+        Row::Other => false,
+    }
+}
+
+fn not(a: bool) -> bool
+    ensures { λ r. ⌜ r ≡ cond a false true ⌝ }
+{
+    if a { false } else { true }
+}
+
+pub fn to_roaming(w: u8, cause: u8, row: Row) -> bool
+    ensures { λ r. ⌜ r ≡ toRoaming w cause row ⌝ }
+{
+    match row {
+        Row::CardBelow => w == 0,
+        Row::CardLimit => false,
+        Row::CardProtected => false,
+        Row::Away => false,
+        Row::Home => w == 0,
+        Row::Area => not(cause == 12),
+        Row::N1 => false,
+        Row::Protocol => false,
+        Row::Other => false,
+    }
+}
+
+pub fn to_regional(cause: u8, row: Row) -> bool
+    ensures { λ r. ⌜ r ≡ toRegional cause row ⌝ }
+{
+    match row {
+        Row::CardBelow => false,
+        Row::CardLimit => false,
+        Row::CardProtected => false,
+        Row::Away => false,
+        Row::Home => false,
+        Row::Area => cause == 12,
+        Row::N1 => false,
+        Row::Protocol => false,
+        Row::Other => false,
+    }
+}

@@ -1,0 +1,53 @@
+// Timers: whether one runs after an order, and what the caller is told.
+use crate::Clocks;
+use crate::Order;
+use crate::Orders;
+use crate::Told;
+use record::Access;
+ghost use mathlib.Core.Path.{_≡_};
+ghost use mathlib.Core.Bool.{cond};
+ghost use Rattle.turns.specs.Timers.{flagAfter, toldOf, clocksOf};
+ghost use Rattle.turns.specs.declared.Told.the-variants.{Left, Stopped};
+
+pub(crate) fn flag_after(o: Order, flag: u8) -> u8
+    ensures { λ r. ⌜ r ≡ flagAfter o flag ⌝ }
+{
+    match o {
+        Order::Leave => flag,
+        Order::Stop => 0,
+        Order::Run(_) => 1,
+    }
+}
+
+// Stopped only if running.
+fn halted(idle: bool) -> Told
+    ensures { λ r. ⌜ r ≡ cond idle Left Stopped ⌝ }
+{
+    if idle { Told::Left } else { Told::Stopped }
+}
+
+pub fn told_of(o: Order, flag: u8) -> Told
+    ensures { λ r. ⌜ r ≡ toldOf o flag ⌝ }
+{
+    match o {
+        Order::Leave => Told::Left,
+        Order::Stop => halted(flag == 0),
+        Order::Run(s) => Told::Started(s),
+    }
+}
+
+pub fn clocks_of(o: Orders, a: Access) -> Clocks
+    ensures { λ r. ⌜ r ≡ clocksOf o a ⌝ }
+{
+    let x = o.t3510;
+    let y = o.t3511;
+    let z = o.t3502;
+    let p = told_of(x, a.t3510);
+    let q = told_of(y, a.t3511);
+    let r = told_of(z, a.t3502);
+    Clocks {
+        t3510: p,
+        t3511: q,
+        t3502: r,
+    }
+}
