@@ -33,11 +33,16 @@ use Rattle.rules.specs.Effects.{rowWork, rejectEffect}
 use Rattle.rules.specs.Plan.{heardOf, askOf, answerOf, messageEffect, effectOf, takenPlan}
 use Rattle.events.specs.Parts.{gutiAfter, equivalentsAfter}
 use Rattle.events.specs.Step.{advanceOf, stepOf}
+use Rattle.events.specs.declared.Outcome.{Outcome}
+use Rattle.validity.specs.Answered.{seenAt, answeredBy}
+use Rattle.validity.proofs.Refusal.{effectIn, taken-plan, refused}
+use Rattle.validity.proofs.Taken.{message-passed}
+use Rattle.validity.proofs.Next.{other-is}
 use Rattle.history.specs.Cell.{entriesIn}
 use Rattle.history.specs.Apart.{Half, halfOf}
-use Rattle.history.proofs.Next.{other-is, mine-none, seen, answered, effect, planned, next, next-guti, next-equivalents, refused-next, taken-plan, taken-access, taken-entries, idle-is}
+use Rattle.history.proofs.Next.{other-of, next, plan, idle-on, carry-guti, carry-equivalents, taken-access, taken-entries}
 use Rattle.history.proofs.Rows.{few}
-use Rattle.history.proofs.Events.{message-read, small}
+use Rattle.history.proofs.Events.{small}
 
 -- the rows of an unprotected reject leave the other access
 bare-rows : (b c d e f at-home below : Bool) (limit : ℕ) (a : Access)
@@ -61,9 +66,9 @@ guti-stays : (p : Plan) (me : ℕ) (octets guti : List ℕ) → p .work .keep �
 unfolding gutiAfter
 guti-stays p me octets guti z = rw z
 
-equivalents-stay : (p : Plan) (me : ℕ) (octets equivalents : List ℕ) → p .work .keep ≡ 0 → equivalentsAfter p me octets equivalents ≡ equivalents
+kept-networks : (p : Plan) (me : ℕ) (octets equivalents : List ℕ) → p .work .keep ≡ 0 → equivalentsAfter p me octets equivalents ≡ equivalents
 unfolding equivalentsAfter
-equivalents-stay p me octets equivalents z = rw z
+kept-networks p me octets equivalents z = rw z
 
 halves : {a a′ : Access} {t t′ : Entries} {g g′ e e′ : List ℕ} → a ≡ a′ → t ≡ t′ → g ≡ g′ → e ≡ e′
     → _≡_ {A = Half} (record { numbers = a; entries = t; guti = g; equivalents = e }) (record { numbers = a′; entries = t′; guti = g′; equivalents = e′ })
@@ -91,10 +96,10 @@ module _ (r : Record) (b draw : ℕ) (octets : List ℕ) where
   bare (reading.Reject cause) s t = record { theirs = bare-row cause; deed = few (rowNow (r .hot) b 0 cause); keep = refl }
   bare (reading.Bad f at) s t = absurd (false≢true t)
 
-  module _ (t : isTaken (answered r event octets) ≡ true) (w : ℕ) (hw : w < 2) (q : eqb b w ≡ false) where
-    effect-bare : Bare (effect r event octets)
-    unfolding answerOf effectOf heardOf
-    effect-bare = bare (readingOf octets) (seen r event octets) (message-read (r .hot) b 0 draw (readingOf octets) (seen r event octets) t)
+  module _ (t : isTaken (answeredBy r event octets) ≡ true) (w : ℕ) (hw : w < 2) (q : eqb b w ≡ false) where
+    effect-bare : Bare (effectIn r event octets)
+    unfolding answeredBy answerOf effectOf heardOf
+    effect-bare = bare (readingOf octets) (seenAt r event) (message-passed (r .hot) b 0 draw (readingOf octets) (seenAt r event) t .2)
 
     hb : b < 2
     unfolding askOf
@@ -104,32 +109,34 @@ module _ (r : Record) (b draw : ℕ) (octets : List ℕ) where
     unfolding askOf
     numbers-same =
         taken-access r event octets t hb w hw
-        ∙ ap (λ (s : Bool). cond s (clocked (effect r event octets .mine .orders) (effect r event octets .mine .access)) (clocked (effect r event octets .theirs .orders) (effect r event octets .theirs .access))) q
+        ∙ ap (λ (s : Bool). cond s (clocked (effectIn r event octets .mine .orders) (effectIn r event octets .mine .access)) (clocked (effectIn r event octets .theirs .orders) (effectIn r event octets .theirs .access))) q
         ∙ ap (λ (o : Turn). clocked (o .orders) (o .access)) (effect-bare .theirs)
         ∙ still-is (otherOf (r .hot) b)
-        ∙ other-is (r .hot) b w hb hw q
+        ∙ other-of (r .hot) b w hb hw q
 
     entries-same : entriesIn (next r event octets) w ≡ entriesIn r w
     unfolding askOf
-    entries-same = taken-entries r event octets t w hw ∙ idle-is r event octets (effect r event octets .work .deed) w (mine-none b (effect r event octets .work .deed) w (effect-bare .deed) q)
+    entries-same = taken-entries r event octets t w hw ∙ idle-on r event octets (effectIn r event octets .work .deed) w (other-is (effectIn r event octets .work .deed) b w (effect-bare .deed) q)
 
-    planned-keep : planned r event octets .work .keep ≡ 0
+    plan-keep : plan r event octets .work .keep ≡ 0
     unfolding takenPlan
-    planned-keep = ap (λ (p : Plan). p .work .keep) (taken-plan r event octets t) ∙ effect-bare .keep
+    plan-keep = effect-bare .keep
 
     taken-same : halfOf (next r event octets) w ≡ halfOf r w
     unfolding halfOf
     taken-same =
         halves numbers-same entries-same
-        (next-guti r event octets w hw ∙ guti-stays (planned r event octets) w octets (cond (eqb w 0) (r .guti0) (r .guti1)) planned-keep)
-        (next-equivalents r event octets w hw ∙ equivalents-stay (planned r event octets) w octets (cond (eqb w 0) (r .equivalents0) (r .equivalents1)) planned-keep)
+        (ap (λ (o : Outcome). cond (eqb w 0) (o .next .guti0) (o .next .guti1)) (taken-plan r event octets t) ∙ carry-guti r octets (plan r event octets) w hw
+        ∙ guti-stays (plan r event octets) w octets (cond (eqb w 0) (r .guti0) (r .guti1)) plan-keep)
+        (ap (λ (o : Outcome). cond (eqb w 0) (o .next .equivalents0) (o .next .equivalents1)) (taken-plan r event octets t) ∙ carry-equivalents r octets (plan r event octets) w hw
+        ∙ kept-networks (plan r event octets) w octets (cond (eqb w 0) (r .equivalents0) (r .equivalents1)) plan-keep)
 
   -- An unprotected message, taken or refused, leaves the other access's whole record.
   pub apart : (w : ℕ) → w < 2 → eqb b w ≡ false → halfOf (stepOf r event octets .next) w ≡ halfOf r w
   unfolding stepOf
-  apart w hw q = go (validOf r) refl (isTaken (answered r event octets)) refl
+  apart w hw q = go (validOf r) refl (isTaken (answeredBy r event octets)) refl
     where
-      go : (s : Bool) → validOf r ≡ s → (s′ : Bool) → isTaken (answered r event octets) ≡ s′ → halfOf (stepOf r event octets .next) w ≡ halfOf r w
+      go : (s : Bool) → validOf r ≡ s → (s′ : Bool) → isTaken (answeredBy r event octets) ≡ s′ → halfOf (stepOf r event octets .next) w ≡ halfOf r w
       go true v true t = rw v (taken-same t w hw q)
-      go true v false t = rw v (ap (λ (x : Record). halfOf x w) (refused-next r event octets t))
+      go true v false t = rw v (ap (λ (o : Outcome). halfOf (o .next) w) (refused r event octets t))
       go false v s′ t = rw v

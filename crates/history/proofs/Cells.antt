@@ -12,12 +12,13 @@ use Rattle.entries.specs.declared.Entries.{Entries}
 use Rattle.entries.specs.declared.Deed.{Deed}
 use Rattle.entries.specs.Entries.{sizeOf, placeIn, peekAt, liftMark, bumped, putAt, clearUnless, raised, accepted, swept, cycled, none}
 use Rattle.entries.specs.Entries as entries
+use Rattle.validity.specs.Sized.{Columns}
+use Rattle.validity.proofs.Setters.{grown}
 use Rattle.history.specs.Cell.{Cell, columnIn, cellIn}
 use Rattle.history.specs.History.{Limits, banned, barred, ended}
 use Rattle.history.specs.History as history
 use Rattle.history.proofs.Said.{raise, cell, blank, cellAfter}
-use Rattle.history.proofs.Columns.{grown, touched, spared, column-set, column-zero, column-upto, missed, put-in, size-fits}
-use Rattle.history.proofs.Sizes.{Columns}
+use Rattle.history.proofs.Columns.{touched, spared, column-set, column-zero, column-upto, missed, put-in, size-fits}
 
 -- protected or not: the two ways to say it
 raise-is : (limit sure n : ℕ) → bumped limit sure n ≡ raise limit (not (eqb sure 0)) n

@@ -14,50 +14,11 @@ use borrow.Author.Tests.{ltb-true, ltb-false, lt-ltb, le-ltb, eqb-true, eqb-fals
 use Rattle.laws.specs.Upto.{upto, seekTo}
 use Rattle.entries.specs.Entries.{sameNet, sizeOf, placeIn, peekAt, putAt, clearUnless}
 use Rattle.record.specs.New.{zeros}
+use Rattle.validity.proofs.Arrays.{seek-le, seek-found, seek-before}
+use Rattle.validity.proofs.Setters.{grown}
 use Rattle.history.specs.Cell.{columnIn}
 
 module _ (p : ℕ → Bool) where
-  seek-le : (n : ℕ) (xs : List ℕ) → seekTo p n xs ≤ n
-  unfolding seekTo
-  seek-le zero xs = omega arith
-  seek-le (suc n) [] = elim (p 0) as (λ b. cond b 0 (suc (seekTo p n [])) ≤ suc n) [ true ↦ omega arith | false ↦ omega (arith, seek-le n []) ]
-  seek-le (suc n) (x ∷ xs) = elim (p x) as (λ b. cond b 0 (suc (seekTo p n xs)) ≤ suc n) [ true ↦ omega arith | false ↦ omega (arith, seek-le n xs) ]
-
-  -- what is found passes
-  seek-found : (n : ℕ) (xs : List ℕ) → seekTo p n xs < n → p (getD xs (seekTo p n xs) 0) ≡ true
-  unfolding seekTo
-  seek-found zero xs h = absurd (omega arith)
-  seek-found (suc n) [] h = go (p 0) refl h (seek-found n [])
-    where
-      go : (b : Bool) → p 0 ≡ b → cond (p 0) 0 (suc (seekTo p n [])) < suc n → (seekTo p n [] < n → p 0 ≡ true) → p (getD [] (cond (p 0) 0 (suc (seekTo p n []))) 0) ≡ true
-      go true e k ih = e
-      go false e k ih = ih (let q : suc (seekTo p n []) < suc n = rw e at k in omega arith)
-  seek-found (suc n) (x ∷ xs) h = go (p x) refl h (seek-found n xs)
-    where
-      go : (b : Bool) → p x ≡ b → cond (p x) 0 (suc (seekTo p n xs)) < suc n → (seekTo p n xs < n → p (getD xs (seekTo p n xs) 0) ≡ true) → p (getD (x ∷ xs) (cond (p x) 0 (suc (seekTo p n xs))) 0) ≡ true
-      go true e k ih = rw e e
-      go false e k ih = rw e (ih (let q : suc (seekTo p n xs) < suc n = rw e at k in omega arith))
-
-  -- those before it do not
-  seek-before : (n : ℕ) (xs : List ℕ) (k : ℕ) → k < seekTo p n xs → p (getD xs k 0) ≡ false
-  unfolding seekTo
-  seek-before zero xs k h = absurd (omega arith)
-  seek-before (suc n) [] k h = go (p 0) refl h
-    where
-      go : (b : Bool) → p 0 ≡ b → k < cond (p 0) 0 (suc (seekTo p n [])) → p 0 ≡ false
-      go true e j = absurd (let q : k < 0 = rw e at j in omega arith)
-      go false e j = e
-  seek-before (suc n) (x ∷ xs) zero h = go (p x) refl h
-    where
-      go : (b : Bool) → p x ≡ b → 0 < cond (p x) 0 (suc (seekTo p n xs)) → p x ≡ false
-      go true e j = absurd (let q : 0 < 0 = rw e at j in omega arith)
-      go false e j = e
-  seek-before (suc n) (x ∷ xs) (suc k) h = go (p x) refl h (seek-before n xs k)
-    where
-      go : (b : Bool) → p x ≡ b → suc k < cond (p x) 0 (suc (seekTo p n xs)) → (k < seekTo p n xs → p (getD xs k 0) ≡ false) → p (getD xs k 0) ≡ false
-      go true e j ih = absurd (let q : suc k < 0 = rw e at j in omega arith)
-      go false e j ih = ih (let q : suc k < suc (seekTo p n xs) = rw e at j in omega arith)
-
   -- the first that passes, or the count where none does
   seek-is : (n : ℕ) (xs : List ℕ) (i : ℕ) → i ≤ n → ((k : ℕ) → k < i → p (getD xs k 0) ≡ false) → (i < n → p (getD xs i 0) ≡ true) → seekTo p n xs ≡ i
   unfolding seekTo
@@ -112,10 +73,6 @@ peek-out xs at n h = rw (le-ltb at n h)
 pub put-in : (xs : List ℕ) (at v : ℕ) → at < 16 → putAt xs at v ≡ set xs at v
 unfolding putAt
 put-in xs at v h = rw (lt-ltb at 16 h)
-
--- the entries' count after a ban or a bar
-abbrev pub grown : Bool → ℕ → ℕ
-grown found count = cond found count (cond (ltb count 16) (count + 1) count)
 
 module _ (count : ℕ) (nets : List ℕ) where
   -- a column of zeros, a column changed by the one beside it

@@ -17,38 +17,24 @@ use Rattle.record.specs.declared.Answer.the-variants as answer
 use Rattle.rules.specs.declared.Event.{Event}
 use Rattle.rules.specs.declared.Event.the-variants.{Card, Start, Message, Timer, Power, Key, Unknown}
 use Rattle.rules.specs.Hot.{accessOf}
-use Rattle.rules.specs.Plan.{takenReply, refusedReply, takenPlan, refusedPlan}
-use Rattle.rules.specs.declared.Plan.{Plan}
+use Rattle.rules.specs.Plan.{refusedReply}
 use Rattle.events.specs.declared.Outcome.{Outcome}
-use Rattle.events.specs.Parts.{doneOf, carriedOut, partsAfter}
-use Rattle.events.specs.Step.{together, joinedOf, advanceOf, stepOf}
-use Rattle.history.specs.Run.{Heard, runOf, answersOf}
+use Rattle.events.specs.Step.{advanceOf, stepOf}
+use Rattle.validity.specs.Answered.{answeredBy}
+use Rattle.validity.specs.Run.{Heard, runOf}
+use Rattle.validity.specs.Sized.{Sized}
+use Rattle.validity.proofs.Refusal.{refused, answer-told}
+use Rattle.validity.proofs.Sizes.{advance-sized, new-sized}
+use Rattle.history.specs.Run.{answersOf}
 use Rattle.history.specs.Cell.{Cell, cellIn, entriesIn, cellOf}
 use Rattle.history.specs.History.{Limits, News, takenOf, homeAfter, homeOf, pendingAfter, pendingOf, isCardChange, eventNews, newsOf, saidBy, saidOf}
 use Rattle.history.proofs.Said.{blank, cellAfter, said-none, said-step}
 use Rattle.history.proofs.Cells.{cell-none}
-use Rattle.history.proofs.Next.{answered, next, planned, taken-plan, refused-plan, refused-home, refused-ban, refused-n1, refused-access, refused-cell}
+use Rattle.history.proofs.Next.{next}
 use Rattle.history.proofs.Events.{limitsOf, home-step, ban-step, n1-step, net-step, card-cell, event-cell}
-use Rattle.history.proofs.Sizes.{Sized, advance-sized, new-sized}
 
 -- taken is answer 0, and no other is
-is-taken : (a : Answer) → isTaken a ≡ true → a ≡ answer.Taken
-unfolding isTaken
-is-taken answer.Taken t = refl
-is-taken answer.Range t = absurd (false≢true t)
-is-taken answer.Ignored t = absurd (false≢true t)
-is-taken (answer.Malformed f at) t = absurd (false≢true t)
-is-taken answer.Full t = absurd (false≢true t)
-is-taken answer.NoCard t = absurd (false≢true t)
-is-taken answer.State t = absurd (false≢true t)
-is-taken answer.Same t = absurd (false≢true t)
-is-taken answer.Listed t = absurd (false≢true t)
-is-taken answer.Area t = absurd (false≢true t)
-is-taken answer.Bare t = absurd (false≢true t)
-is-taken answer.Idle t = absurd (false≢true t)
-is-taken answer.Short t = absurd (false≢true t)
-
-pub taken-zero : (a : Answer) → eqb (numberOf a) 0 ≡ isTaken a
+taken-zero : (a : Answer) → eqb (numberOf a) 0 ≡ isTaken a
 unfolding numberOf isTaken
 taken-zero answer.Taken = refl
 taken-zero answer.Range = refl
@@ -63,15 +49,6 @@ taken-zero answer.Area = refl
 taken-zero answer.Bare = refl
 taken-zero answer.Idle = refl
 taken-zero answer.Short = refl
-
--- the answer of an event on a record that is not tested
-pub reply-is : (r : Record) (e : Event) (octets : List ℕ) → advanceOf r e octets .reply .answer ≡ answered r e octets
-unfolding advanceOf joinedOf together partsAfter carriedOut doneOf takenPlan refusedPlan takenReply refusedReply
-reply-is r e octets = go (isTaken (answered r e octets)) refl
-  where
-    go : (b : Bool) → isTaken (answered r e octets) ≡ b → planned r e octets .reply .answer ≡ answered r e octets
-    go true q = ap (λ (p : Plan). p .reply .answer) (taken-plan r e octets q) ∙ sym (is-taken (answered r e octets) q)
-    go false q = ap (λ (p : Plan). p .reply .answer) (refused-plan r e octets q)
 
 -- the record agrees with the taken events, the latest first
 record Agrees (l : Limits) (r : Record) (t : List Heard) : Type 0 where
@@ -94,7 +71,7 @@ module _ (l : Limits) (r : Record) (t : List Heard) (g : Agrees l r t) (x : Hear
   limits-are = rw (g .ban, g .n1)
 
   -- a taken event's cell
-  taken-cells : isTaken (answered r e (x .octets)) ≡ true → (w n : ℕ) → w < 2 → cellOf (next r e (x .octets)) w n ≡ saidBy l (newsOf (x ∷ t) w n)
+  taken-cells : isTaken (answeredBy r e (x .octets)) ≡ true → (w n : ℕ) → w < 2 → cellOf (next r e (x .octets)) w n ≡ saidBy l (newsOf (x ∷ t) w n)
   unfolding newsOf isCardChange
   taken-cells k w n hw = go (isCardChange e) refl
     where
@@ -102,7 +79,7 @@ module _ (l : Limits) (r : Record) (t : List Heard) (g : Agrees l r t) (x : Hear
           ≡ saidBy l (cond (isCardChange e) [] (eventNews (homeOf t) (pendingOf t w) w n e (x .octets) ∷ newsOf t w n))
       go true q = rw q (card e q k)
         where
-          card : (d : Event) → isCardChange d ≡ true → isTaken (answered r d (x .octets)) ≡ true → cellOf (next r d (x .octets)) w n ≡ saidBy l []
+          card : (d : Event) → isCardChange d ≡ true → isTaken (answeredBy r d (x .octets)) ≡ true → cellOf (next r d (x .octets)) w n ≡ saidBy l []
           card (Card home) c k = card-cell r home (x .octets) k w n hw ∙ sym (said-none l)
           card (Start b manual net code) c k = absurd (false≢true c)
           card (Message b sure draw) c k = absurd (false≢true c)
@@ -115,7 +92,7 @@ module _ (l : Limits) (r : Record) (t : List Heard) (g : Agrees l r t) (x : Hear
           ∙ alike limits-are (g .home) (g .pending w hw) (g .cells w n hw) w n e (x .octets)
           ∙ sym (said-step l (eventNews (homeOf t) (pendingOf t w) w n e (x .octets)) (newsOf t w n)))
 
-  agrees-taken : isTaken (answered r e (x .octets)) ≡ true → Sized (next r e (x .octets)) → Agrees l (next r e (x .octets)) (x ∷ t)
+  agrees-taken : isTaken (answeredBy r e (x .octets)) ≡ true → Sized (next r e (x .octets)) → Agrees l (next r e (x .octets)) (x ∷ t)
   unfolding homeOf pendingOf
   agrees-taken k z = record {
     sized = z;
@@ -126,31 +103,21 @@ module _ (l : Limits) (r : Record) (t : List Heard) (g : Agrees l r t) (x : Hear
     cells = taken-cells k;
   }
 
-  agrees-refused : isTaken (answered r e (x .octets)) ≡ false → Sized (next r e (x .octets)) → Agrees l (next r e (x .octets)) t
-  agrees-refused k z = record {
-    sized = z;
-    ban = refused-ban r e (x .octets) k ∙ g .ban;
-    n1 = refused-n1 r e (x .octets) k ∙ g .n1;
-    home = refused-home r e (x .octets) k ∙ g .home;
-    pending = λ w hw. ap (λ (a : Access). a .net) (refused-access r e (x .octets) k w) ∙ g .pending w hw;
-    cells = λ w n hw. refused-cell r e (x .octets) k w hw n ∙ g .cells w n hw;
-  }
-
   -- a step, by its answer's number
   agrees-step : Agrees l (stepOf r e (x .octets) .next) (cond (eqb (numberOf (stepOf r e (x .octets) .reply .answer)) 0) (x ∷ t) t)
   unfolding stepOf numberOf refusedReply
-  agrees-step = go (validOf r) refl (isTaken (answered r e (x .octets))) refl
+  agrees-step = go (validOf r) refl (isTaken (answeredBy r e (x .octets))) refl
     where
       z : Sized (next r e (x .octets))
       z = advance-sized r e (x .octets) (g .sized)
 
-      number : eqb (numberOf (advanceOf r e (x .octets) .reply .answer)) 0 ≡ isTaken (answered r e (x .octets))
-      number = taken-zero (advanceOf r e (x .octets) .reply .answer) ∙ ap isTaken (reply-is r e (x .octets))
+      number : eqb (numberOf (advanceOf r e (x .octets) .reply .answer)) 0 ≡ isTaken (answeredBy r e (x .octets))
+      number = taken-zero (advanceOf r e (x .octets) .reply .answer) ∙ ap isTaken (answer-told r e (x .octets))
 
-      go : (b : Bool) → validOf r ≡ b → (b′ : Bool) → isTaken (answered r e (x .octets)) ≡ b′
+      go : (b : Bool) → validOf r ≡ b → (b′ : Bool) → isTaken (answeredBy r e (x .octets)) ≡ b′
           → Agrees l (stepOf r e (x .octets) .next) (cond (eqb (numberOf (stepOf r e (x .octets) .reply .answer)) 0) (x ∷ t) t)
       go true q true q′ = rw (q, number, q′) (agrees-taken q′ z)
-      go true q false q′ = rw (q, number, q′) (agrees-refused q′ z)
+      go true q false q′ = rw (q, number, q′) (rw (ap (λ (o : Outcome). o .next) (refused r e (x .octets) q′)) g)
       go false q b′ q′ = rw q g
 
 agrees-run : (l : Limits) (xs : List Heard) (r : Record) (t : List Heard) → Agrees l r t → Agrees l (runOf r xs) (reverseAux (takenOf xs (answersOf r xs)) t)

@@ -36,91 +36,43 @@ use Rattle.rules.specs.Answers.{check, isFull, isIgnored, rowNow, rejectAnswer,
 use Rattle.rules.specs.Effects.{carded, cardEffect, startEffect, keyEffect, acceptEffect, clockEffect, t3247Effect, timerEffect, powerEffect, rejectEffect, rowDeed, rowWork}
 use Rattle.rules.specs.Plan.{heardOf, askOf, answerOf, messageEffect, effectOf}
 use Rattle.events.specs.Parts.{seenBy, seenOf, mineOf}
+use Rattle.validity.specs.Sized.{Columns}
+use Rattle.validity.specs.Answered.{askIn, seenAt, answeredBy}
+use Rattle.validity.proofs.Refusal.{effectIn}
+use Rattle.validity.proofs.Setters.{grown}
+use Rattle.validity.proofs.Taken.{start-passed, message-passed, reject-passed, timer-passed, key-passed}
+use Rattle.validity.proofs.Next.{mine-is, other-is}
 use Rattle.history.specs.Cell.{Cell, cellIn, entriesIn, cellOf}
 use Rattle.history.specs.History.{Limits, News, nothing, ended, homeAfter, pendingAfter, isCardChange, causeNews, messageNews, eventNews}
 use Rattle.history.specs.History as history
 use Rattle.history.proofs.Said.{blank, cellAfter}
-use Rattle.history.proofs.Columns.{grown}
 use Rattle.history.proofs.Cells.{cell-none, cell-swept, cell-cycled, cell-accepted}
-use Rattle.history.proofs.Next.{other-is, mine-none, left, asked, seen, answered, effect, next, deedOn, taken-home, taken-ban, taken-n1, taken-net, taken-cell}
+use Rattle.history.proofs.Next.{other-of, next, deedOn, idle-on, taken-home, taken-ban, taken-n1, taken-net, taken-cell}
 use Rattle.history.proofs.Rows.{few, rowNews, row-news, row-cell, out-net, out-entries, row-net, row-entries, other-net, other-entries}
-use Rattle.history.proofs.Sizes.{Columns}
 
--- a check that a taken event passed, and the checks behind it
-passed : (b : Bool) (n rest : Answer) → isTaken n ≡ false → isTaken (check b n rest) ≡ true → b ≡ true
-passed true n rest f t = refl
-passed false n rest f t = absurd (false≢true (sym f ∙ t))
-
-behind : (b : Bool) (n rest : Answer) → isTaken n ≡ false → isTaken (check b n rest) ≡ true → isTaken rest ≡ true
-behind true n rest f t = t
-behind false n rest f t = absurd (false≢true (sym f ∙ t))
-
-first-of : (a b : Bool) → both a b ≡ true → a ≡ true
-first-of true b h = refl
-first-of false b h = absurd (false≢true h)
-
-second-of : (a b : Bool) → both a b ≡ true → b ≡ true
-second-of true b h = h
-second-of false b h = absurd (false≢true h)
-
-unflip : (a : Bool) → flip a ≡ true → a ≡ false
-unflip true h = absurd (false≢true h)
-unflip false h = refl
+-- T3247 is named with access 0
+t3247-zero : (h : Hot) (number w : ℕ) → isTaken (timerAnswer h number w) ≡ true → eqb number 4 ≡ true → w ≡ 0
+t3247-zero h number w t q = eqb-true w 0 (rw (eqb-true number 4 q) at (timer-passed h number w t .1))
 
 flag-small : (w : ℕ) → isFlag w ≡ true → w < 2
 flag-small w h = omega (arith, leb-true w 1 h)
 
--- The access of a taken event is 0 or 1.
-
-start-small : (h : Hot) (w manual net code : ℕ) (s : Seen) (l : Bool) → isTaken (startAnswer h w manual net code s l) ≡ true → w < 2
-unfolding startAnswer startRange isTaken
-start-small h w manual net code s l t = flag-small w (first-of (isFlag w) _ (passed _ answer.Range _ refl t))
-
-message-small : (h : Hot) (w sure draw : ℕ) (m : Reading) (s : Seen) → isTaken (messageAnswer h w sure draw m s) ≡ true → w < 2
-unfolding messageAnswer messageRange isTaken
-message-small h w sure draw m s t = flag-small w (first-of (isFlag w) _ (passed _ answer.Range _ refl t))
-
-pub message-read : (h : Hot) (w sure draw : ℕ) (m : Reading) (s : Seen) → isTaken (messageAnswer h w sure draw m s) ≡ true → isTaken (readAnswer h w sure m s) ≡ true
-unfolding messageAnswer isTaken
-message-read h w sure draw m s t = behind (eqb (accessOf h w .state) 4) answer.State _ refl (behind (messageRange w sure draw) answer.Range _ refl t)
-
-reject-room : (h : Hot) (w sure cause : ℕ) (s : Seen) → isTaken (rejectAnswer h w sure cause s) ≡ true → isFull (rowNow h w sure cause) s ≡ false
-unfolding rejectAnswer isTaken
-reject-room h w sure cause s t =
-    unflip (isFull (rowNow h w sure cause) s) (passed _ answer.Full answer.Taken refl (behind (flip (isIgnored sure cause (otherOf h w))) answer.Ignored _ refl t))
-
-key-small : (h : Hot) (w set : ℕ) → isTaken (keyAnswer h w set) ≡ true → w < 2
-unfolding keyAnswer isTaken
-key-small h w set t = flag-small w (first-of (isFlag w) _ (passed _ answer.Range _ refl t))
-
-timer-range : (h : Hot) (number w : ℕ) → isTaken (timerAnswer h number w) ≡ true → timerRange number w ≡ true
-unfolding timerAnswer isTaken
-timer-range h number w t = passed (timerRange number w) answer.Range _ refl t
-
-timer-small : (h : Hot) (number w : ℕ) → isTaken (timerAnswer h number w) ≡ true → w < 2
-unfolding timerRange
-timer-small h number w t = flag-small w (first-of (isFlag w) _ (second-of (within 1 4 number) _ (timer-range h number w t)))
-
--- T3247 is named with access 0
-t3247-zero : (h : Hot) (number w : ℕ) → isTaken (timerAnswer h number w) ≡ true → eqb number 4 ≡ true → w ≡ 0
-unfolding timerRange
-t3247-zero h number w t q =
-    eqb-true w 0 (go (second-of (isFlag w) (either (ltb number 4) (eqb w 0)) (second-of (within 1 4 number) _ (timer-range h number w t))))
-  where
-    go : either (ltb number 4) (eqb w 0) ≡ true → eqb w 0 ≡ true
-    go h = rw (eqb-true number 4 q) at h
-
-pub small : (r : Record) (e : Event) (octets : List ℕ) → isTaken (answered r e octets) ≡ true → asked r e octets .access < 2
-unfolding askOf answerOf
+-- the access of a taken event is 0 or 1
+pub small : (r : Record) (e : Event) (octets : List ℕ) → isTaken (answeredBy r e octets) ≡ true → askIn r e .access < 2
+unfolding askOf answeredBy answerOf
 small r (Card home) octets t = omega arith
-small r (Start w manual net code) octets t = start-small (r .hot) w manual net code _ _ t
-small r (Message w sure draw) octets t = message-small (r .hot) w sure draw _ _ t
-small r (Timer number w) octets t = timer-small (r .hot) number w t
+small r (Start w manual net code) octets t = flag-small w (start-passed (r .hot) w manual net code _ _ t .0)
+small r (Message w sure draw) octets t = flag-small w (message-passed (r .hot) w sure draw _ _ t .0)
+small r (Timer number w) octets t = flag-small w (timer-passed (r .hot) number w t .0)
 small r Power octets t = omega arith
-small r (Key w set) octets t = key-small (r .hot) w set t
+small r (Key w set) octets t = flag-small w (key-passed (r .hot) w set t .0)
 small r Unknown octets t = omega arith
 
 -- What stays.
+
+idle-mine : (b w : ℕ) → mineOf 0 b w ≡ 0
+unfolding mineOf
+idle-mine b w = elim (eqb b w) as (λ s. cond {A = ℕ} s 0 0 ≡ 0) [ true ↦ refl | false ↦ refl ]
 
 module _ (h : Hot) where
   -- both accesses' numbers, read from the event's own and the other
@@ -129,7 +81,7 @@ module _ (h : Hot) where
     where
       go : (s : Bool) → eqb b w ≡ s → cond (eqb b w) (f (accessOf h b)) (f (otherOf h b)) ≡ f (accessOf h w)
       go true q = rw q (ap (λ (z : ℕ). f (accessOf h z)) (eqb-true b w q))
-      go false q = rw q (ap f (other-is h b w hb hw q))
+      go false q = rw q (ap f (other-of h b w hb hw q))
 
   -- the same, from access 0's and access 1's
   pub each-kept : (f : Access → ℕ) (w : ℕ) → w < 2 → cond (eqb 0 w) (f (h .a0)) (f (h .a1)) ≡ f (accessOf h w)
@@ -193,8 +145,8 @@ module _ (h : Hot) where
   message-keeps b sure draw (reading.Bad f at) s = record { dev = refl; net = refl; others = refl }
 
 module _ (r : Record) where
-  event-home : (e : Event) (octets : List ℕ) → isTaken (answered r e octets) ≡ true → effect r e octets .dev .home ≡ homeAfter e (r .hot .dev .home)
-  unfolding answerOf effectOf homeAfter cardEffect carded startEffect keyEffect powerEffect
+  event-home : (e : Event) (octets : List ℕ) → isTaken (answeredBy r e octets) ≡ true → effectIn r e octets .dev .home ≡ homeAfter e (r .hot .dev .home)
+  unfolding answeredBy answerOf effectOf homeAfter cardEffect carded startEffect keyEffect powerEffect
   event-home (Card home) octets t = refl
   event-home (Start b manual net code) octets t = refl
   event-home (Message b sure draw) octets t = ap (λ (d : Device). d .home) (message-keeps (r .hot) b sure draw _ _ .dev)
@@ -203,8 +155,8 @@ module _ (r : Record) where
   event-home (Key b set) octets t = refl
   event-home Unknown octets t = refl
 
-  event-ban : (e : Event) (octets : List ℕ) → isTaken (answered r e octets) ≡ true → effect r e octets .dev .banlimit ≡ r .hot .dev .banlimit
-  unfolding answerOf effectOf cardEffect carded startEffect keyEffect powerEffect
+  event-ban : (e : Event) (octets : List ℕ) → isTaken (answeredBy r e octets) ≡ true → effectIn r e octets .dev .banlimit ≡ r .hot .dev .banlimit
+  unfolding answeredBy answerOf effectOf cardEffect carded startEffect keyEffect powerEffect
   event-ban (Card home) octets t = refl
   event-ban (Start b manual net code) octets t = refl
   event-ban (Message b sure draw) octets t = ap (λ (d : Device). d .banlimit) (message-keeps (r .hot) b sure draw _ _ .dev)
@@ -213,8 +165,8 @@ module _ (r : Record) where
   event-ban (Key b set) octets t = refl
   event-ban Unknown octets t = refl
 
-  event-n1 : (e : Event) (octets : List ℕ) → isTaken (answered r e octets) ≡ true → effect r e octets .dev .n1limit ≡ r .hot .dev .n1limit
-  unfolding answerOf effectOf cardEffect carded startEffect keyEffect powerEffect
+  event-n1 : (e : Event) (octets : List ℕ) → isTaken (answeredBy r e octets) ≡ true → effectIn r e octets .dev .n1limit ≡ r .hot .dev .n1limit
+  unfolding answeredBy answerOf effectOf cardEffect carded startEffect keyEffect powerEffect
   event-n1 (Card home) octets t = refl
   event-n1 (Start b manual net code) octets t = refl
   event-n1 (Message b sure draw) octets t = ap (λ (d : Device). d .n1limit) (message-keeps (r .hot) b sure draw _ _ .dev)
@@ -223,25 +175,25 @@ module _ (r : Record) where
   event-n1 (Key b set) octets t = refl
   event-n1 Unknown octets t = refl
 
-  pub home-step : (e : Event) (octets : List ℕ) → isTaken (answered r e octets) ≡ true → next r e octets .hot .dev .home ≡ homeAfter e (r .hot .dev .home)
+  pub home-step : (e : Event) (octets : List ℕ) → isTaken (answeredBy r e octets) ≡ true → next r e octets .hot .dev .home ≡ homeAfter e (r .hot .dev .home)
   home-step e octets t = taken-home r e octets t ∙ event-home e octets t
 
-  pub ban-step : (e : Event) (octets : List ℕ) → isTaken (answered r e octets) ≡ true → next r e octets .hot .dev .banlimit ≡ r .hot .dev .banlimit
+  pub ban-step : (e : Event) (octets : List ℕ) → isTaken (answeredBy r e octets) ≡ true → next r e octets .hot .dev .banlimit ≡ r .hot .dev .banlimit
   ban-step e octets t = taken-ban r e octets t ∙ event-ban e octets t
 
-  pub n1-step : (e : Event) (octets : List ℕ) → isTaken (answered r e octets) ≡ true → next r e octets .hot .dev .n1limit ≡ r .hot .dev .n1limit
+  pub n1-step : (e : Event) (octets : List ℕ) → isTaken (answeredBy r e octets) ≡ true → next r e octets .hot .dev .n1limit ≡ r .hot .dev .n1limit
   n1-step e octets t = taken-n1 r e octets t ∙ event-n1 e octets t
 
   -- the pending network after an event that keeps it
-  net-kept : (e : Event) (octets : List ℕ) (t : isTaken (answered r e octets) ≡ true) → Keeps (r .hot) (asked r e octets .access) (effect r e octets) → (w : ℕ) → w < 2
+  net-kept : (e : Event) (octets : List ℕ) (t : isTaken (answeredBy r e octets) ≡ true) → Keeps (r .hot) (askIn r e .access) (effectIn r e octets) → (w : ℕ) → w < 2
       → accessOf (next r e octets .hot) w .net ≡ accessOf (r .hot) w .net
   net-kept e octets t k w hw =
       taken-net r e octets t (small r e octets t) w hw
-      ∙ rw (k .net, k .others) (both-kept (r .hot) (λ (a : Access). a .net) (asked r e octets .access) w (small r e octets t) hw)
+      ∙ rw (k .net, k .others) (both-kept (r .hot) (λ (a : Access). a .net) (askIn r e .access) w (small r e octets t) hw)
 
-  pub net-step : (e : Event) (octets : List ℕ) (t : isTaken (answered r e octets) ≡ true) (w : ℕ) → w < 2
+  pub net-step : (e : Event) (octets : List ℕ) (t : isTaken (answeredBy r e octets) ≡ true) (w : ℕ) → w < 2
       → accessOf (next r e octets .hot) w .net ≡ pendingAfter w e (accessOf (r .hot) w .net)
-  unfolding askOf answerOf effectOf pendingAfter cardEffect renewed newAccess startEffect started pending keyEffect keySet keyed powerEffect turns.cycled moved accessOf otherOf
+  unfolding askOf answeredBy answerOf effectOf pendingAfter cardEffect renewed newAccess startEffect started pending keyEffect keySet keyed powerEffect turns.cycled moved accessOf otherOf
   net-step (Card home) octets t w hw =
       taken-net r (Card home) octets t (small r (Card home) octets t) w hw ∙ elim (eqb 0 w) as (λ s. cond {A = ℕ} s 0 0 ≡ 0) [ true ↦ refl | false ↦ refl ]
   net-step (Start b manual net code) octets t w hw = go (eqb b w) refl
@@ -251,7 +203,7 @@ module _ (r : Record) where
 
       go : (s : Bool) → eqb b w ≡ s → accessOf (next r (Start b manual net code) octets .hot) w .net ≡ cond (eqb b w) net (accessOf (r .hot) w .net)
       go true q = taken-net r (Start b manual net code) octets t hb w hw ∙ rw q
-      go false q = taken-net r (Start b manual net code) octets t hb w hw ∙ rw q (ap (λ (a : Access). a .net) (other-is (r .hot) b w hb hw q))
+      go false q = taken-net r (Start b manual net code) octets t hb w hw ∙ rw q (ap (λ (a : Access). a .net) (other-of (r .hot) b w hb hw q))
   net-step (Message b sure draw) octets t w hw = net-kept (Message b sure draw) octets t (message-keeps (r .hot) b sure draw _ _) w hw
   net-step (Timer number b) octets t w hw = net-kept (Timer number b) octets t (timer-keeps (r .hot) number b t) w hw
   net-step Power octets t w hw = net-kept Power octets t (record { dev = refl; net = refl; others = refl }) w hw
@@ -263,19 +215,19 @@ module _ (r : Record) where
   limitsOf = record { ban = r .hot .dev .banlimit; n1 = r .hot .dev .n1limit }
 
   -- an effect without a deed that leaves the counts of entries
-  cell-kept : (e : Event) (octets : List ℕ) (t : isTaken (answered r e octets) ≡ true)
-      → effect r e octets .mine .access .entries ≡ accessOf (r .hot) (asked r e octets .access) .entries
-      → effect r e octets .theirs .access .entries ≡ otherOf (r .hot) (asked r e octets .access) .entries
-      → effect r e octets .work .deed ≡ 0
+  cell-kept : (e : Event) (octets : List ℕ) (t : isTaken (answeredBy r e octets) ≡ true)
+      → effectIn r e octets .mine .access .entries ≡ accessOf (r .hot) (askIn r e .access) .entries
+      → effectIn r e octets .theirs .access .entries ≡ otherOf (r .hot) (askIn r e .access) .entries
+      → effectIn r e octets .work .deed ≡ 0
       → (w n : ℕ) → w < 2 → cellOf (next r e octets) w n ≡ cellOf r w n
   unfolding cellOf
   cell-kept e octets t mine theirs deed w n hw =
       taken-cell r e octets t (small r e octets t) w hw n
       ∙ rw (mine, theirs, deed,
-        both-kept (r .hot) (λ (a : Access). a .entries) (asked r e octets .access) w (small r e octets t) hw,
-        left (asked r e octets .access) w (seen r e octets .at) (seen r e octets .found) (asked r e octets .net) (asked r e octets .sure) (accessOf (r .hot) w .entries) (r .hot .dev .banlimit) (r .hot .dev .n1limit) (entriesIn r w))
+        both-kept (r .hot) (λ (a : Access). a .entries) (askIn r e .access) w (small r e octets t) hw,
+        idle-on r e octets 0 w (idle-mine (askIn r e .access) w))
 
-  pub card-cell : (home : ℕ) (octets : List ℕ) → isTaken (answered r (Card home) octets) ≡ true → (w n : ℕ) → w < 2 → cellOf (next r (Card home) octets) w n ≡ blank
+  pub card-cell : (home : ℕ) (octets : List ℕ) → isTaken (answeredBy r (Card home) octets) ≡ true → (w n : ℕ) → w < 2 → cellOf (next r (Card home) octets) w n ≡ blank
   unfolding askOf effectOf cardEffect mineOf entriesAfter
   card-cell home octets t w n hw = taken-cell r (Card home) octets t (small r (Card home) octets t) w hw n ∙ cell-none _ n
 
@@ -285,9 +237,9 @@ module _ (r : Record) where
     columns w = elim (eqb w 0) as (λ s. Columns (cond s (r .e0) (r .e1))) [ true ↦ c0 | false ↦ c1 ]
 
     -- T3247 out
-    ended-cell : (number b : ℕ) (octets : List ℕ) → isTaken (answered r (Timer number b) octets) ≡ true → eqb number 4 ≡ true → (w n : ℕ) → w < 2
+    ended-cell : (number b : ℕ) (octets : List ℕ) → isTaken (answeredBy r (Timer number b) octets) ≡ true → eqb number 4 ≡ true → (w n : ℕ) → w < 2
         → cellOf (next r (Timer number b) octets) w n ≡ cellAfter limitsOf ended (cellOf r w n)
-    unfolding askOf answerOf effectOf t3247Effect mineOf entriesAfter cellOf
+    unfolding askOf answeredBy answerOf effectOf t3247Effect mineOf entriesAfter cellOf
     ended-cell number b octets t q w n hw =
         taken-cell r (Timer number b) octets t (small r (Timer number b) octets t) w hw n
         ∙ ap (λ (x : Effect). cellIn (cond (eqb b w) (x .mine .access .entries) (x .theirs .access .entries)) (entriesAfter (deedOn r (Timer number b) octets (x .work .deed) w) (accessOf (r .hot) w .entries) (r .hot .dev .banlimit) (r .hot .dev .n1limit) (entriesIn r w)) n) (out-effect (r .hot) number b q)
@@ -295,7 +247,7 @@ module _ (r : Record) where
         (ap (λ (z : ℕ). cond (eqb z w) (r .hot .a0 .entries) (r .hot .a1 .entries)) (t3247-zero (r .hot) number b t q) ∙ each-kept (r .hot) (λ (a : Access). a .entries) w hw)
         ∙ cell-swept limitsOf (accessOf (r .hot) w .entries) (entriesIn r w) (columns w) n
 
-    cycled-cell : (octets : List ℕ) → isTaken (answered r Power octets) ≡ true → (w n : ℕ) → w < 2 → cellOf (next r Power octets) w n ≡ cellAfter limitsOf history.cycled (cellOf r w n)
+    cycled-cell : (octets : List ℕ) → isTaken (answeredBy r Power octets) ≡ true → (w n : ℕ) → w < 2 → cellOf (next r Power octets) w n ≡ cellAfter limitsOf history.cycled (cellOf r w n)
     unfolding askOf effectOf powerEffect turns.cycled moved mineOf entriesAfter cellOf
     cycled-cell octets t w n hw =
         taken-cell r Power octets t (small r Power octets t) w hw n
@@ -308,7 +260,7 @@ module _ (r : Record) where
       event = Message b sure draw
 
       abbrev sight : Seen
-      sight = seen r event octets
+      sight = seenAt r event
 
       abbrev done : Seen → ℕ → ℕ → Entries
       done s w k =
@@ -318,22 +270,18 @@ module _ (r : Record) where
       abbrev after : Effect → ℕ → ℕ → Cell
       after x w n = cellIn (cond (eqb b w) (x .mine .access .entries) (x .theirs .access .entries)) (done sight w (mineOf (x .work .deed) b w)) n
 
-      message-after : isTaken (answered r event octets) ≡ true → (w n : ℕ) → w < 2
+      message-after : isTaken (answeredBy r event octets) ≡ true → (w n : ℕ) → w < 2
           → cellOf (next r event octets) w n ≡ after (messageEffect (r .hot) b sure draw (readingOf octets) sight) w n
       unfolding askOf effectOf heardOf
       message-after t w n hw = taken-cell r event octets t (small r event octets t) w hw n
-
-      mine-own : (d : ℕ) → mineOf d b b ≡ d
-      unfolding mineOf
-      mine-own d = rw (eq-eqb b b refl) (elim (leb 4 d) as (λ s. cond (cond s true true) d 0 ≡ d) [ true ↦ refl | false ↦ refl ])
 
       other-after : (x : Effect) → leb 4 (x .work .deed) ≡ false → x .theirs .access .entries ≡ otherOf (r .hot) b .entries
           → b < 2 → (w n : ℕ) → w < 2 → eqb b w ≡ false → after x w n ≡ cellOf r w n
       unfolding cellOf entriesAfter
       other-after x d o hb w n hw q =
           ap (λ (s : Bool). cellIn (cond s (x .mine .access .entries) (x .theirs .access .entries)) (done sight w (mineOf (x .work .deed) b w)) n) q
-          ∙ ap (λ (k : ℕ). cellIn (x .theirs .access .entries) (done sight w k) n) (mine-none b (x .work .deed) w d q)
-          ∙ ap (λ (c : ℕ). cellIn c (entriesIn r w) n) (o ∙ ap (λ (a : Access). a .entries) (other-is (r .hot) b w hb hw q))
+          ∙ ap (λ (k : ℕ). cellIn (x .theirs .access .entries) (done sight w k) n) (other-is (x .work .deed) b w d q)
+          ∙ ap (λ (c : ℕ). cellIn c (entriesIn r w) n) (o ∙ ap (λ (a : Access). a .entries) (other-of (r .hot) b w hb hw q))
 
       other-message : (m : Reading) → b < 2 → (w n : ℕ) → w < 2 → eqb b w ≡ false → after (messageEffect (r .hot) b sure draw m sight) w n ≡ cellOf r w n
       unfolding messageEffect acceptEffect rejectEffect rowWork
@@ -370,7 +318,7 @@ module _ (r : Record) where
       own-after : (x : Effect) (n : ℕ) → after x b n ≡ cellIn (x .mine .access .entries) (done sight b (x .work .deed)) n
       own-after x n =
           ap (λ (s : Bool). cellIn (cond s (x .mine .access .entries) (x .theirs .access .entries)) (done sight b (mineOf (x .work .deed) b b)) n) (eq-eqb b b refl)
-          ∙ ap (λ (k : ℕ). cellIn (x .mine .access .entries) (done sight b k) n) (mine-own (x .work .deed))
+          ∙ ap (λ (k : ℕ). cellIn (x .mine .access .entries) (done sight b k) n) (mine-is (x .work .deed) b b (eq-eqb b b refl))
 
       abbrev protected : Bool
       protected = not (eqb sure 0)
@@ -388,9 +336,9 @@ module _ (r : Record) where
       abbrev here : ℕ → Row
       here cause = rowNow (r .hot) b sure cause
 
-      room-for : b < 2 → (cause : ℕ) → isTaken (rejectAnswer (r .hot) b sure cause sight) ≡ true → both (needsEntry (here cause)) (flip (ltb (placeIn count net (table .nets)) 16)) ≡ false
-      unfolding isFull seenIn
-      room-for hb cause t = rw (seen-is hb) at (reject-room (r .hot) b sure cause sight t)
+      room-for : b < 2 → (cause : ℕ) → isTaken (rejectAnswer (r .hot) b sure cause sight) ≡ true → needsEntry (here cause) ≡ true → ltb (placeIn count net (table .nets)) 16 ≡ true
+      unfolding seenIn
+      room-for hb cause t need = ap (λ (s : Seen). ltb (s .at) 16) (sym (seen-is hb)) ∙ reject-passed (r .hot) b sure cause sight t need
 
       own-reject : b < 2 → (cause : ℕ) → isTaken (rejectAnswer (r .hot) b sure cause sight) ≡ true → (n : ℕ)
           → after (rejectEffect (r .hot) b sure draw (sight .found) cause (here cause)) b n
@@ -427,9 +375,9 @@ module _ (r : Record) where
           ≡ cellAfter limitsOf (cond (eqb (accessOf (r .hot) w .net) n) (messageNews (eqb n (r .hot .dev .home)) w protected (readingOf octets)) nothing) (cellIn (accessOf (r .hot) w .entries) (entriesIn r w) n)
       own-at hb t w n e = rw (sym e) (own-message hb (readingOf octets) t n)
 
-      message-cell : isTaken (answered r event octets) ≡ true → (w n : ℕ) → w < 2
+      message-cell : isTaken (answeredBy r event octets) ≡ true → (w n : ℕ) → w < 2
           → cellOf (next r event octets) w n ≡ cellAfter limitsOf (eventNews (r .hot .dev .home) (accessOf (r .hot) w .net) w n event octets) (cellOf r w n)
-      unfolding answerOf heardOf askOf eventNews cellAfter cellOf
+      unfolding answeredBy answerOf heardOf askOf eventNews cellAfter cellOf
       message-cell t w n hw = message-after t w n hw ∙ go (eqb b w) refl
         where
           hb : b < 2
@@ -438,12 +386,12 @@ module _ (r : Record) where
           go : (s : Bool) → eqb b w ≡ s
               → after (messageEffect (r .hot) b sure draw (readingOf octets) sight) w n
               ≡ cellAfter limitsOf (cond (eqb b w && eqb (accessOf (r .hot) w .net) n) (messageNews (eqb n (r .hot .dev .home)) w protected (readingOf octets)) nothing) (cellIn (accessOf (r .hot) w .entries) (entriesIn r w) n)
-          go true q = own-at hb (message-read (r .hot) b sure draw (readingOf octets) sight t) w n (eqb-true b w q) ∙ rw q
+          go true q = own-at hb (message-passed (r .hot) b sure draw (readingOf octets) sight t .2) w n (eqb-true b w q) ∙ rw q
           go false q = other-message (readingOf octets) hb w n hw q ∙ rw q
 
-    timer-cell : (number b : ℕ) (octets : List ℕ) → isTaken (answered r (Timer number b) octets) ≡ true → (w n : ℕ) → w < 2
+    timer-cell : (number b : ℕ) (octets : List ℕ) → isTaken (answeredBy r (Timer number b) octets) ≡ true → (w n : ℕ) → w < 2
         → cellOf (next r (Timer number b) octets) w n ≡ cellAfter limitsOf (cond (eqb number 4) ended nothing) (cellOf r w n)
-    unfolding answerOf effectOf timerEffect askOf cellAfter
+    unfolding answeredBy answerOf effectOf timerEffect askOf cellAfter
     timer-cell number b octets t w n hw = go (eqb number 4) refl
       where
         go : (s : Bool) → eqb number 4 ≡ s → cellOf (next r (Timer number b) octets) w n ≡ cellAfter limitsOf (cond (eqb number 4) ended nothing) (cellOf r w n)
@@ -452,9 +400,9 @@ module _ (r : Record) where
             rw q (cell-kept (Timer number b) octets t (rw q (clock-entries (r .hot) number b)) (rw q (clock-others (r .hot) number b .0)) (rw q (clock-others (r .hot) number b .1)) w n hw)
 
     -- the cell of network n on access w after a taken event
-    pub event-cell : (e : Event) (octets : List ℕ) → isTaken (answered r e octets) ≡ true → isCardChange e ≡ false → (w n : ℕ) → w < 2
+    pub event-cell : (e : Event) (octets : List ℕ) → isTaken (answeredBy r e octets) ≡ true → isCardChange e ≡ false → (w n : ℕ) → w < 2
         → cellOf (next r e octets) w n ≡ cellAfter limitsOf (eventNews (r .hot .dev .home) (accessOf (r .hot) w .net) w n e octets) (cellOf r w n)
-    unfolding answerOf effectOf askOf isCardChange isTaken eventNews cellAfter startEffect started pending keyEffect keySet keyed moved
+    unfolding answeredBy answerOf effectOf askOf isCardChange isTaken eventNews cellAfter startEffect started pending keyEffect keySet keyed moved
     event-cell (Card home) octets t k w n hw = absurd (true≢false k)
     event-cell (Start b manual net code) octets t k w n hw = cell-kept (Start b manual net code) octets t refl refl refl w n hw
     event-cell (Message b sure draw) octets t k w n hw = message-cell b sure draw octets t w n hw

@@ -1,5 +1,4 @@
 -- What the history says is what the record holds.
-pub mod Sizes
 pub mod Said
 pub mod Columns
 pub mod Cells

@@ -15,12 +15,12 @@ use Rattle.turns.specs.Access.{moved, forgotten, emptied, counted, entered}
 use Rattle.turns.specs.Rows.{isCard, isNetworkNo, isAreaNo, isN1No, isProtocol, rowOf, needsEntry}
 use Rattle.turns.specs.Turns.{tried, failed, t3510Out, cardBelow, cardLimit, cardProtected, away, home, area, n1, rowTurn, otherTurn, oneMore}
 use Rattle.rules.specs.Effects.{rowDeed}
+use Rattle.validity.specs.Sized.{Columns}
+use Rattle.validity.proofs.Setters.{grown}
 use Rattle.history.specs.Cell.{cellIn}
 use Rattle.history.specs.History.{Limits, News, banned, barred, nothing, causeNews}
 use Rattle.history.proofs.Said.{cellAfter}
-use Rattle.history.proofs.Columns.{grown}
 use Rattle.history.proofs.Cells.{deedAt, cell-banned, cell-barred}
-use Rattle.history.proofs.Sizes.{Columns}
 
 -- what a row is for the network
 abbrev pub rowNews : Row → Bool → News
@@ -85,16 +85,9 @@ unfolding cellAfter
 same l true count t n = refl
 same l false count t n = refl
 
-room-in : (at : ℕ) → both true (flip (ltb at 16)) ≡ false → at < 16
-room-in at h = go (ltb at 16) refl h
-  where
-    go : (s : Bool) → ltb at 16 ≡ s → flip (ltb at 16) ≡ false → at < 16
-    go true q g = ltb-true at 16 q
-    go false q g = absurd (true≢false (rw q at g))
-
 -- the cell of network n after a row, where the entry that it needs is there or can be made
 pub row-cell : (l : Limits) (row : Row) (count net sure : ℕ) (t : Entries) (w : Columns t)
-    → both (needsEntry row) (flip (ltb (placeIn count net (t .nets)) 16)) ≡ false → (n : ℕ)
+    → (needsEntry row ≡ true → ltb (placeIn count net (t .nets)) 16 ≡ true) → (n : ℕ)
     → cellIn (cond (needsEntry row) (grown (ltb (placeIn count net (t .nets)) (sizeOf count)) count) count)
     (entriesAfter (deedAt l count net sure t w (rowDeed row)) count (l .ban) (l .n1) t) n
     ≡ cellAfter l (cond (eqb net n) (rowNews row (not (eqb sure 0))) nothing) (cellIn count t n)
@@ -102,10 +95,10 @@ unfolding needsEntry rowDeed entriesAfter
 row-cell l CardBelow count net sure t w h n = same l (eqb net n) count t n
 row-cell l CardLimit count net sure t w h n = same l (eqb net n) count t n
 row-cell l CardProtected count net sure t w h n = same l (eqb net n) count t n
-row-cell l Away count net sure t w h n = cell-banned l count net sure t w (room-in (placeIn count net (t .nets)) h) 1 n
+row-cell l Away count net sure t w h n = cell-banned l count net sure t w (ltb-true (placeIn count net (t .nets)) 16 (h refl)) 1 n
 row-cell l Home count net sure t w h n = same l (eqb net n) count t n
 row-cell l Area count net sure t w h n = same l (eqb net n) count t n
-row-cell l N1 count net sure t w h n = cell-barred l count net sure t w (room-in (placeIn count net (t .nets)) h) 2 n
+row-cell l N1 count net sure t w h n = cell-barred l count net sure t w (ltb-true (placeIn count net (t .nets)) 16 (h refl)) 2 n
 row-cell l Protocol count net sure t w h n = same l (eqb net n) count t n
 row-cell l Other count net sure t w h n = same l (eqb net n) count t n
 
