@@ -6,9 +6,10 @@ use mathlib.Core.Bool.{Bool, true, false, cond, true≢false, false≢true}
 use mathlib.Core.List.{List, [], _∷_, reverseAux, reverse}
 use native.Mathlib.Omega.{arith}
 use lib.Dec.{eqb}
+use lib.ListN.{length}
 use Rattle.entries.specs.Entries.{none}
 use Rattle.record.specs.Answers.{numberOf, isTaken}
-use Rattle.record.specs.New.{newDevice, newAccess, emptyRecord, newRecord}
+use Rattle.record.specs.New.{newDevice, newAccess, emptyRecord, newRecord, mayMake, madeOf}
 use Rattle.record.specs.Valid.{validOf}
 use Rattle.record.specs.declared.Access.{Access}
 use Rattle.record.specs.declared.Record.{Record}
@@ -156,3 +157,10 @@ module _ (cardlimit banlimit n1limit : ℕ) (capability security : List ℕ) whe
   pub demand3 : (xs : List Heard) (w n : ℕ) → w < 2 → cellOf (runOf made xs) w n ≡ saidOf limits xs (answersOf made xs) w n
   unfolding saidOf
   demand3 xs w n hw = agrees-run limits xs made [] agrees-new .cells w n hw
+
+  -- the same of what the public call makes, with limits each 1 to 10
+  pub demand3-made : mayMake cardlimit banlimit n1limit (length capability) (length security) ≡ true → (xs : List Heard) (w n : ℕ) → w < 2
+      → cellOf (runOf (madeOf cardlimit banlimit n1limit capability security .made) xs) w n
+      ≡ saidOf limits xs (answersOf (madeOf cardlimit banlimit n1limit capability security .made) xs) w n
+  unfolding madeOf
+  demand3-made ok xs w n hw = rw ok (demand3 xs w n hw)

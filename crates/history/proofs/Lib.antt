@@ -8,3 +8,4 @@ pub mod Events
 pub mod Demand3
 pub mod Apart
 pub mod Facts
+pub mod Refusals
