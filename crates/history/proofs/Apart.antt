@@ -1,23 +1,20 @@
 -- An unprotected message changes nothing on the other access: no row of an unprotected reject reaches it, an unprotected accept is refused. Assumes nothing.
-use Prim.Native.Nat.{ℕ, zero, suc, _<_}
-use mathlib.Core.Path.{_≡_, refl, sym, _∙_, ap}
-use mathlib.Core.Bool.{Bool, true, false, cond, true≢false, false≢true}
+use Prim.Native.Nat.{ℕ, _<_}
+use mathlib.Core.Path.{_≡_, refl, _∙_, ap}
+use mathlib.Core.Bool.{Bool, true, false, cond, false≢true}
 use mathlib.Core.List.{List}
-use native.Mathlib.Omega.{arith}
 use lib.Dec.{leb, ltb, eqb}
-use Rattle.record.specs.Tests.{both, either, flip}
+use Rattle.record.specs.Tests.{both}
 use Rattle.record.specs.Answers.{isTaken}
 use Rattle.record.specs.Valid.{validOf}
 use Rattle.record.specs.declared.Access.{Access}
 use Rattle.record.specs.declared.Record.{Record}
-use Rattle.record.specs.declared.Answer.the-variants as answer
 use Rattle.entries.specs.declared.Entries.{Entries}
 use Rattle.entries.specs.declared.Seen.{Seen}
 use Rattle.messages.specs.declared.Reading.{Reading}
 use Rattle.messages.specs.declared.Reading.the-variants as reading
 use Rattle.messages.specs.Message.{readingOf}
-use Rattle.turns.specs.declared.Row.{Row}
-use Rattle.turns.specs.declared.Row.the-variants.{CardBelow, CardLimit, CardProtected, Away, Home, Area, N1, Protocol, Other}
+use Rattle.turns.specs.declared.Row.the-variants.{CardBelow, CardLimit, Away, Home, Area, N1, Protocol, Other}
 use Rattle.turns.specs.declared.Turn.{Turn}
 use Rattle.turns.specs.Timers.{flagAfter}
 use Rattle.turns.specs.Access.{clocked}
@@ -32,7 +29,7 @@ use Rattle.rules.specs.Answers.{readAnswer, rowNow}
 use Rattle.rules.specs.Effects.{rowWork, rejectEffect}
 use Rattle.rules.specs.Plan.{heardOf, askOf, answerOf, messageEffect, effectOf, takenPlan}
 use Rattle.events.specs.Parts.{gutiAfter, equivalentsAfter}
-use Rattle.events.specs.Step.{advanceOf, stepOf}
+use Rattle.events.specs.Step.{stepOf}
 use Rattle.events.specs.declared.Outcome.{Outcome}
 use Rattle.validity.specs.Answered.{seenAt, answeredBy}
 use Rattle.validity.proofs.Refusal.{effectIn, taken-plan, refused}

@@ -1,20 +1,18 @@
 -- What each deed on an access's entries makes of the cell of each network: column by column. Assumes nothing.
-use Prim.Native.Nat.{ℕ, zero, suc, _+_, _≤_, _<_}
-use mathlib.Core.Path.{_≡_, refl, sym, _∙_, ap}
-use mathlib.Core.Bool.{Bool, true, false, cond, not, _&&_}
+use Prim.Native.Nat.{ℕ, _+_, _<_}
+use mathlib.Core.Path.{_≡_, refl, _∙_, ap}
+use mathlib.Core.Bool.{Bool, true, false, cond, not}
 use mathlib.Core.List.{List}
 use native.Mathlib.Omega.{arith}
 use lib.Dec.{ltb, eqb}
-use lib.ListN.{length, getD, set}
 use borrow.Author.Tests.{ltb-true, ltb-false, eqb-true}
-use Rattle.laws.specs.Upto.{upto}
 use Rattle.entries.specs.declared.Entries.{Entries}
 use Rattle.entries.specs.declared.Deed.{Deed}
 use Rattle.entries.specs.Entries.{sizeOf, placeIn, peekAt, liftMark, bumped, putAt, clearUnless, raised, accepted, swept, cycled, none}
 use Rattle.entries.specs.Entries as entries
 use Rattle.validity.specs.Sized.{Columns}
 use Rattle.validity.proofs.Setters.{grown}
-use Rattle.history.specs.Cell.{Cell, columnIn, cellIn}
+use Rattle.history.specs.Cell.{columnIn, cellIn}
 use Rattle.history.specs.History.{Limits, banned, barred, ended}
 use Rattle.history.specs.History as history
 use Rattle.history.proofs.Said.{raise, cell, blank, cellAfter}

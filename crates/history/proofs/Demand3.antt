@@ -1,17 +1,15 @@
 -- Demand 3: what the record holds of a network is what the history says. By induction on the events: a refused one changes neither,
 -- a taken one changes both alike. Assumes nothing.
-use Prim.Native.Nat.{ℕ, zero, suc, _≤_, _<_}
+use Prim.Native.Nat.{ℕ, _<_}
 use mathlib.Core.Path.{_≡_, refl, sym, _∙_, ap}
-use mathlib.Core.Bool.{Bool, true, false, cond, true≢false, false≢true}
-use mathlib.Core.List.{List, [], _∷_, reverseAux, reverse}
-use native.Mathlib.Omega.{arith}
+use mathlib.Core.Bool.{Bool, true, false, cond, false≢true}
+use mathlib.Core.List.{List, [], _∷_, reverseAux}
 use lib.Dec.{eqb}
 use lib.ListN.{length}
 use Rattle.entries.specs.Entries.{none}
 use Rattle.record.specs.Answers.{numberOf, isTaken}
 use Rattle.record.specs.New.{newDevice, newAccess, emptyRecord, newRecord, mayMake, madeOf}
 use Rattle.record.specs.Valid.{validOf}
-use Rattle.record.specs.declared.Access.{Access}
 use Rattle.record.specs.declared.Record.{Record}
 use Rattle.record.specs.declared.Answer.{Answer}
 use Rattle.record.specs.declared.Answer.the-variants as answer
@@ -28,8 +26,8 @@ use Rattle.validity.proofs.Refusal.{refused, answer-told}
 use Rattle.validity.proofs.Sizes.{advance-sized, new-sized}
 use Rattle.history.specs.Run.{answersOf}
 use Rattle.history.specs.Cell.{Cell, cellIn, entriesIn, cellOf}
-use Rattle.history.specs.History.{Limits, News, takenOf, homeAfter, homeOf, pendingAfter, pendingOf, isCardChange, eventNews, newsOf, saidBy, saidOf}
-use Rattle.history.proofs.Said.{blank, cellAfter, said-none, said-step}
+use Rattle.history.specs.History.{Limits, takenOf, homeAfter, homeOf, pendingAfter, pendingOf, isCardChange, eventNews, newsOf, saidBy, saidOf}
+use Rattle.history.proofs.Said.{cellAfter, said-none, said-step}
 use Rattle.history.proofs.Cells.{cell-none}
 use Rattle.history.proofs.Next.{next}
 use Rattle.history.proofs.Events.{limitsOf, home-step, ban-step, n1-step, net-step, card-cell, event-cell}

@@ -1,24 +1,22 @@
 -- What a taken event makes of the limits, of home and the pending networks, and of the cell of each network: event by event,
 -- by its effect. Assumes nothing.
-use Prim.Native.Nat.{ℕ, zero, suc, _+_, _≤_, _<_}
+use Prim.Native.Nat.{ℕ, zero, suc, _<_}
 use mathlib.Core.Path.{_≡_, refl, sym, _∙_, ap}
 use mathlib.Core.Bool.{Bool, true, false, cond, not, true≢false, false≢true, _&&_}
 use mathlib.Core.List.{List}
 use native.Mathlib.Omega.{arith}
 use lib.Dec.{ltb, leb, eqb}
-use borrow.Author.Tests.{leb-true, ltb-true, ltb-false, lt-ltb, eqb-true, eq-eqb}
-use Rattle.record.specs.Tests.{both, either, flip, within, isFlag}
+use borrow.Author.Tests.{leb-true, eqb-true, eq-eqb}
+use Rattle.record.specs.Tests.{isFlag}
 use Rattle.record.specs.Answers.{isTaken}
 use Rattle.record.specs.New.{newAccess}
 use Rattle.record.specs.declared.Access.{Access}
 use Rattle.record.specs.declared.Device.{Device}
 use Rattle.record.specs.declared.Hot.{Hot}
 use Rattle.record.specs.declared.Record.{Record}
-use Rattle.record.specs.declared.Answer.{Answer}
-use Rattle.record.specs.declared.Answer.the-variants as answer
 use Rattle.entries.specs.declared.Entries.{Entries}
 use Rattle.entries.specs.declared.Seen.{Seen}
-use Rattle.entries.specs.Entries.{seenIn, placeIn, sizeOf, accepted, swept, cycled, entriesAfter}
+use Rattle.entries.specs.Entries.{seenIn, placeIn, accepted, swept, cycled, entriesAfter}
 use Rattle.messages.specs.declared.Accept.{Accept}
 use Rattle.messages.specs.declared.Reading.{Reading}
 use Rattle.messages.specs.declared.Reading.the-variants as reading
@@ -32,7 +30,7 @@ use Rattle.rules.specs.declared.Effect.{Effect}
 use Rattle.rules.specs.declared.Event.{Event}
 use Rattle.rules.specs.declared.Event.the-variants.{Card, Start, Message, Timer, Power, Key, Unknown}
 use Rattle.rules.specs.Hot.{accessOf, otherOf}
-use Rattle.rules.specs.Answers.{check, isFull, isIgnored, rowNow, rejectAnswer, readAnswer, messageRange, messageAnswer, timerRange, timerAnswer, startRange, startAnswer, keyAnswer, cardAnswer, runs}
+use Rattle.rules.specs.Answers.{rowNow, rejectAnswer, readAnswer, timerAnswer}
 use Rattle.rules.specs.Effects.{carded, cardEffect, startEffect, keyEffect, acceptEffect, clockEffect, t3247Effect, timerEffect, powerEffect, rejectEffect, rowDeed, rowWork}
 use Rattle.rules.specs.Plan.{heardOf, askOf, answerOf, messageEffect, effectOf}
 use Rattle.events.specs.Parts.{seenBy, seenOf, mineOf}

@@ -1,5 +1,5 @@
 -- The ten marked facts, computed from the meaning itself. Assumes nothing.
-use mathlib.Core.Path.{_≡_, refl}
+use mathlib.Core.Path.{refl}
 use Rattle.laws.specs.Upto as lawsUpto
 use Rattle.octets.specs.Element as octetsElement
 use Rattle.timers.specs.Timer as timersTimer

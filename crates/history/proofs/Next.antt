@@ -25,7 +25,7 @@ use Rattle.events.specs.Parts.{mineOf, deedOf, tableAfter, listed, doneOf, carr
 use Rattle.events.specs.Step.{together, joinedOf, advanceOf}
 use Rattle.validity.specs.Answered.{askIn, seenAt, answeredBy}
 use Rattle.validity.proofs.Refusal.{carry, effectIn, taken-plan}
-use Rattle.history.specs.Cell.{Cell, cellIn, entriesIn, cellOf}
+use Rattle.history.specs.Cell.{cellIn, entriesIn, cellOf}
 
 -- access w of two
 access-of : (d : Device) (b : ℕ) (mine theirs : Access) (w : ℕ) → b < 2 → w < 2 → accessOf (hotOf d b mine theirs) w ≡ cond (eqb b w) mine theirs

@@ -1,6 +1,6 @@
 -- What a record holds of one network on one access. Assumes nothing.
 use Prim.Native.Nat.{ℕ}
-use mathlib.Core.Bool.{Bool, true, false, cond}
+use mathlib.Core.Bool.{cond}
 use mathlib.Core.List.{List}
 use lib.Dec.{eqb}
 use Rattle.entries.specs.declared.Entries.{Entries}
