@@ -49,7 +49,7 @@ size-fits count = go (ltb count 16) refl
     go true q = rw q (omega (arith, ltb-true count 16 q))
     go false q = rw q (omega arith)
 
-pub size-is : (count : ℕ) → count < 16 → sizeOf count ≡ count
+size-is : (count : ℕ) → count < 16 → sizeOf count ≡ count
 unfolding sizeOf
 size-is count h = rw (lt-ltb count 16 h)
 
@@ -61,11 +61,11 @@ below count h = go (ltb count 16) refl h
     go true q j = ltb-true count 16 q
     go false q j = absurd (let g : 16 < 16 = rw q at j in omega arith)
 
-pub peek-in : (xs : List ℕ) (at n : ℕ) → at < n → peekAt xs at n ≡ getD xs at 0
+peek-in : (xs : List ℕ) (at n : ℕ) → at < n → peekAt xs at n ≡ getD xs at 0
 unfolding peekAt
 peek-in xs at n h = rw (lt-ltb at n h)
 
-pub peek-out : (xs : List ℕ) (at n : ℕ) → n ≤ at → peekAt xs at n ≡ 0
+peek-out : (xs : List ℕ) (at n : ℕ) → n ≤ at → peekAt xs at n ≡ 0
 unfolding peekAt
 peek-out xs at n h = rw (le-ltb at n h)
 
@@ -78,8 +78,9 @@ module _ (count : ℕ) (nets : List ℕ) where
   pub column-zero : (m : ℕ) → columnIn count nets (zeros 16) m ≡ 0
   unfolding peekAt
   column-zero m = elim (ltb (placeIn count m nets) (sizeOf count)) as (λ b. cond b (getD (zeros 16) (placeIn count m nets) 0) 0 ≡ 0) [
-    true ↦ zero-at 16 (placeIn count m nets)
-    | false ↦ refl ]
+    | true ↦ zero-at 16 (placeIn count m nets)
+    | false ↦ refl
+  ]
 
   pub column-upto : (f : ℕ → ℕ → ℕ) → f 0 0 ≡ 0 → (xs ys : List ℕ) → length ys ≡ 16 → (m : ℕ)
       → columnIn count nets (upto f (sizeOf count) xs ys) m ≡ f (columnIn count nets xs m) (columnIn count nets ys m)

@@ -147,8 +147,9 @@ module _ (cardlimit banlimit n1limit : ℕ) (capability security : List ℕ) whe
     home = refl;
     pending = λ w hw. elim (eqb w 0) as (λ b. cond b (newAccess 0) (newAccess 0) .net ≡ 0) [ true ↦ refl | false ↦ refl ];
     cells = λ w n hw. elim (eqb w 0) as (λ b. cellIn (cond b (newAccess 0) (newAccess 0) .entries) (cond b none none) n ≡ saidBy limits []) [
-      true ↦ cell-none 0 n ∙ sym (said-none limits)
-      | false ↦ cell-none 0 n ∙ sym (said-none limits) ];
+      | true ↦ cell-none 0 n ∙ sym (said-none limits)
+      | false ↦ cell-none 0 n ∙ sym (said-none limits)
+    ];
   }
 
   -- From a new record, whatever its limits, after any events: each network's counters and marks on each access are what the history says.

@@ -1,5 +1,4 @@
--- What a taken event makes of the limits, of home and the pending networks, and of the cell of each network: event by event,
--- by its effect. Assumes nothing.
+-- What a taken event makes of the limits, of home and the pending networks, and of the cell of each network: event by event, by its effect. Assumes nothing.
 use Prim.Native.Nat.{ℕ, zero, suc, _<_}
 use mathlib.Core.Path.{_≡_, refl, sym, _∙_, ap}
 use mathlib.Core.Bool.{Bool, true, false, cond, not, true≢false, false≢true, _&&_}
@@ -74,7 +73,7 @@ idle-mine b w = elim (eqb b w) as (λ s. cond {A = ℕ} s 0 0 ≡ 0) [ true ↦ 
 
 module _ (h : Hot) where
   -- both accesses' numbers, read from the event's own and the other
-  pub both-kept : (f : Access → ℕ) (b w : ℕ) → b < 2 → w < 2 → cond (eqb b w) (f (accessOf h b)) (f (otherOf h b)) ≡ f (accessOf h w)
+  both-kept : (f : Access → ℕ) (b w : ℕ) → b < 2 → w < 2 → cond (eqb b w) (f (accessOf h b)) (f (otherOf h b)) ≡ f (accessOf h w)
   both-kept f b w hb hw = go (eqb b w) refl
     where
       go : (s : Bool) → eqb b w ≡ s → cond (eqb b w) (f (accessOf h b)) (f (otherOf h b)) ≡ f (accessOf h w)
@@ -82,19 +81,19 @@ module _ (h : Hot) where
       go false q = rw q (ap f (other-of h b w hb hw q))
 
   -- the same, from access 0's and access 1's
-  pub each-kept : (f : Access → ℕ) (w : ℕ) → w < 2 → cond (eqb 0 w) (f (h .a0)) (f (h .a1)) ≡ f (accessOf h w)
+  each-kept : (f : Access → ℕ) (w : ℕ) → w < 2 → cond (eqb 0 w) (f (h .a0)) (f (h .a1)) ≡ f (accessOf h w)
   unfolding accessOf otherOf
   each-kept f w hw = both-kept f 0 w (omega arith) hw
 
-  pub out-effect : (number b : ℕ) → eqb number 4 ≡ true → timerEffect h number b ≡ t3247Effect h
+  out-effect : (number b : ℕ) → eqb number 4 ≡ true → timerEffect h number b ≡ t3247Effect h
   unfolding timerEffect
   out-effect number b q = rw q
 
-  -- an effect that leaves the device's numbers, the pending networks and the counts of entries
-  pub record Keeps (b : ℕ) (e : Effect) : Type 0 where
-    pub dev : e .dev ≡ h .dev
-    pub net : e .mine .access .net ≡ accessOf h b .net
-    pub others : e .theirs .access .net ≡ otherOf h b .net
+  -- an effect that leaves the device's numbers and the pending networks
+  record Keeps (b : ℕ) (e : Effect) : Type 0 where
+    dev : e .dev ≡ h .dev
+    net : e .mine .access .net ≡ accessOf h b .net
+    others : e .theirs .access .net ≡ otherOf h b .net
 
   clock-keeps : (number b : ℕ) → Keeps b (clockEffect h number b)
   unfolding clockEffect t3511Out t3502Out moved
@@ -208,7 +207,7 @@ module _ (r : Record) where
   net-step (Key b set) octets t w hw = net-kept (Key b set) octets t (record { dev = refl; net = refl; others = refl }) w hw
   net-step Unknown octets t w hw = net-kept Unknown octets t (record { dev = refl; net = refl; others = refl }) w hw
 
-  -- the new record's limits
+  -- the limits of the network counters
   abbrev pub limitsOf : Limits
   limitsOf = record { ban = r .hot .dev .banlimit; n1 = r .hot .dev .n1limit }
 
@@ -221,9 +220,13 @@ module _ (r : Record) where
   unfolding cellOf
   cell-kept e octets t mine theirs deed w n hw =
       taken-cell r e octets t (small r e octets t) w hw n
-      ∙ rw (mine, theirs, deed,
+      ∙ rw (
+        mine,
+        theirs,
+        deed,
         both-kept (r .hot) (λ (a : Access). a .entries) (askIn r e .access) w (small r e octets t) hw,
-        idle-on r e octets 0 w (idle-mine (askIn r e .access) w))
+        idle-on r e octets 0 w (idle-mine (askIn r e .access) w),
+      )
 
   pub card-cell : (home : ℕ) (octets : List ℕ) → isTaken (answeredBy r (Card home) octets) ≡ true → (w n : ℕ) → w < 2 → cellOf (next r (Card home) octets) w n ≡ blank
   unfolding askOf effectOf cardEffect mineOf entriesAfter

@@ -53,8 +53,9 @@ dev-of : (d : Device) (b : ℕ) (mine theirs : Access) → hotOf d b mine theirs
 unfolding hotOf
 dev-of d b mine theirs =
     elim (eqb b 0) as (λ s. cond {A = Hot} s (record { dev = d; a0 = mine; a1 = theirs }) (record { dev = d; a0 = theirs; a1 = mine }) .dev ≡ d) [
-      true ↦ refl
-      | false ↦ refl ]
+      | true ↦ refl
+      | false ↦ refl
+    ]
 
 net-of : (b : Bool) (o o′ : Orders) (x y : Access) → cond b (clocked o x) (clocked o′ y) .net ≡ cond b (x .net) (y .net)
 unfolding clocked
