@@ -6,6 +6,8 @@ use mathlib.Core.Bool.{Bool, true, false, cond, false≢true}
 use mathlib.Core.List.{List, [], _∷_, reverseAux}
 use lib.Dec.{eqb}
 use lib.ListN.{length}
+use Rattle.octets.specs.declared.Fault.{Fault}
+use Rattle.octets.specs.declared.Fault.the-variants.{Cut, First, Second, Kind, Past, Strange}
 use Rattle.entries.specs.Entries.{none}
 use Rattle.record.specs.Answers.{numberOf, isTaken}
 use Rattle.record.specs.New.{newDevice, newAccess, emptyRecord, newRecord, mayMake, madeOf}
@@ -32,13 +34,23 @@ use Rattle.history.proofs.Cells.{cell-none}
 use Rattle.history.proofs.Next.{next}
 use Rattle.history.proofs.Events.{limitsOf, home-step, ban-step, n1-step, net-step, card-cell, event-cell}
 
+-- no fault is answer 0
+fault-number : (f : Fault) (at : ℕ) → eqb (numberOf (answer.Malformed f at)) 0 ≡ false
+unfolding numberOf
+fault-number Cut at = refl
+fault-number First at = refl
+fault-number Second at = refl
+fault-number Kind at = refl
+fault-number Past at = refl
+fault-number Strange at = refl
+
 -- taken is answer 0, and no other is
 taken-zero : (a : Answer) → eqb (numberOf a) 0 ≡ isTaken a
 unfolding numberOf isTaken
 taken-zero answer.Taken = refl
 taken-zero answer.Range = refl
 taken-zero answer.Ignored = refl
-taken-zero (answer.Malformed f at) = refl
+taken-zero (answer.Malformed f at) = fault-number f at
 taken-zero answer.Full = refl
 taken-zero answer.NoCard = refl
 taken-zero answer.State = refl
