@@ -1,28 +1,28 @@
--- The ten marked facts, computed from the meaning itself. Assumes nothing.
+-- The ten marked facts, computed from the meaning itself: each event is stepped by the definitions, so all of them unfold here. Assumes nothing.
 use mathlib.Core.Path.{refl}
-use Rattle.laws.specs.Upto as lawsUpto
-use Rattle.octets.specs.Element as octetsElement
-use Rattle.timers.specs.Timer as timersTimer
-use Rattle.messages.specs.Message as messagesMessage
-use Rattle.entries.specs.Entries as entriesEntries
-use Rattle.areas.specs.Areas as areasAreas
-use Rattle.record.specs.Network as recordNetwork
-use Rattle.record.specs.New as recordNew
-use Rattle.record.specs.Valid as recordValid
-use Rattle.record.specs.Answers as recordAnswers
-use Rattle.turns.specs.Timers as turnsTimers
-use Rattle.turns.specs.Access as turnsAccess
-use Rattle.turns.specs.Rows as turnsRows
-use Rattle.turns.specs.Turns as turnsTurns
-use Rattle.rules.specs.Hot as rulesHot
-use Rattle.rules.specs.Answers as rulesAnswers
-use Rattle.rules.specs.Effects as rulesEffects
-use Rattle.rules.specs.Plan as rulesPlan
-use Rattle.events.specs.Parts as eventsParts
-use Rattle.events.specs.Step as eventsStep
+use Rattle.laws.specs.Upto as upto
+use Rattle.octets.specs.Element as octets
+use Rattle.timers.specs.Timer as timers
+use Rattle.messages.specs.Message as messages
+use Rattle.entries.specs.Entries as entries
+use Rattle.areas.specs.Areas as areas
+use Rattle.record.specs.Network as network
+use Rattle.record.specs.New as new
+use Rattle.record.specs.Valid as valid
+use Rattle.record.specs.Answers as answers
+use Rattle.turns.specs.Timers as clocks
+use Rattle.turns.specs.Access as access
+use Rattle.turns.specs.Rows as rows
+use Rattle.turns.specs.Turns as turns
+use Rattle.rules.specs.Hot as hot
+use Rattle.rules.specs.Answers as checks
+use Rattle.rules.specs.Effects as effects
+use Rattle.rules.specs.Plan as plan
+use Rattle.events.specs.Parts as parts
+use Rattle.events.specs.Step as step
 use Rattle.history.specs.Cell.{cellIn, entriesIn, cellOf}
 use Rattle.history.specs.Facts.{lineOf, linesOf, rejected, seen, facts, AllHold}
 
 pub shown : AllHold facts
-unfolding facts lineOf linesOf rejected seen cellIn entriesIn cellOf lawsUpto.upto lawsUpto.copied lawsUpto.seekTo lawsUpto.allTo lawsUpto.distinctTo octetsElement.formatOf octetsElement.leadOf octetsElement.contentsOf octetsElement.sizeOf octetsElement.elementOf octetsElement.elementAt octetsElement.afterOf octetsElement.joined octetsElement.elementsOf octetsElement.keptOf octetsElement.gatheredOf octetsElement.gatherOf timersTimer.unitOf timersTimer.spanOf messagesMessage.gutiOf messagesMessage.countOf messagesMessage.tripletsOf messagesMessage.waitOf messagesMessage.acceptOf messagesMessage.acceptedOf messagesMessage.acceptReading messagesMessage.rejectedOf messagesMessage.rejectReading messagesMessage.typeReading messagesMessage.openedBy messagesMessage.readingOf messagesMessage.causeOf entriesEntries.sizeOf entriesEntries.placeIn entriesEntries.peekAt entriesEntries.seenIn entriesEntries.liftMark entriesEntries.bumped entriesEntries.putAt entriesEntries.clearUnless entriesEntries.raised entriesEntries.banned entriesEntries.barredBy entriesEntries.accepted entriesEntries.swept entriesEntries.cycled entriesEntries.none entriesEntries.entriesAfter areasAreas.sizeOf areasAreas.placeIn areasAreas.listedIn areasAreas.placed areasAreas.placedCount areasAreas.kept areasAreas.stayed areasAreas.sweptList areasAreas.listAfter areasAreas.countAfter recordNetwork.isNetwork recordNew.newDevice recordNew.newAccess recordNew.emptyRecord recordNew.newRecord recordNew.mayMake recordNew.madeOf recordValid.deviceRanges recordValid.modeRanges recordValid.identityRanges recordValid.heldRanges recordValid.accessRanges recordValid.rangesOf recordValid.countersOf recordValid.cardOf recordValid.suciOf recordValid.codesOf recordValid.clockOf recordValid.onceOf recordValid.validOf recordAnswers.numberOf recordAnswers.isTaken turnsTimers.flagAfter turnsTimers.toldOf turnsTimers.clocksOf turnsAccess.moved turnsAccess.forgotten turnsAccess.emptied turnsAccess.counted turnsAccess.pending turnsAccess.keyed turnsAccess.taught turnsAccess.entered turnsAccess.clocked turnsRows.isCard turnsRows.isNetworkNo turnsRows.isAreaNo turnsRows.isN1No turnsRows.isProtocol turnsRows.rowOf turnsRows.startsT3247 turnsRows.needsEntry turnsRows.toRoaming turnsRows.toRegional turnsTurns.started turnsTurns.keySet turnsTurns.accepted turnsTurns.tried turnsTurns.failed turnsTurns.t3510Out turnsTurns.t3511Out turnsTurns.t3502Out turnsTurns.cycled turnsTurns.renewed turnsTurns.oneMore turnsTurns.cardBelow turnsTurns.cardLimit turnsTurns.cardProtected turnsTurns.away turnsTurns.home turnsTurns.area turnsTurns.n1 turnsTurns.rowTurn turnsTurns.otherTurn rulesHot.accessOf rulesHot.otherOf rulesHot.hotOf rulesAnswers.mayStart rulesAnswers.isSame rulesAnswers.isFree rulesAnswers.startRange rulesAnswers.startAnswer rulesAnswers.rowNow rulesAnswers.isIgnored rulesAnswers.isFull rulesAnswers.rejectAnswer rulesAnswers.readAnswer rulesAnswers.messageRange rulesAnswers.messageAnswer rulesAnswers.timerRange rulesAnswers.runs rulesAnswers.timerAnswer rulesAnswers.keyAnswer rulesAnswers.cardAnswer rulesEffects.ticked rulesEffects.carded rulesEffects.cardEffect rulesEffects.startEffect rulesEffects.keyEffect rulesEffects.acceptEffect rulesEffects.clockEffect rulesEffects.t3247Effect rulesEffects.timerEffect rulesEffects.powerEffect rulesEffects.rejectT3247 rulesEffects.rowDeed rulesEffects.rowWork rulesEffects.rejectEffect rulesPlan.heardOf rulesPlan.askOf rulesPlan.answerOf rulesPlan.messageEffect rulesPlan.effectOf rulesPlan.hotAfter rulesPlan.takenReply rulesPlan.isIgnoring rulesPlan.refusedReply rulesPlan.giftOf rulesPlan.takenPlan rulesPlan.refusedPlan rulesPlan.decidedBy rulesPlan.planOf eventsParts.seenBy eventsParts.seenOf eventsParts.listedOf eventsParts.plannedBy eventsParts.plannedOf eventsParts.mineOf eventsParts.deedOf eventsParts.tableAfter eventsParts.listed eventsParts.doneOf eventsParts.carriedOut eventsParts.partsAfter eventsParts.networksOf eventsParts.gutiAfter eventsParts.equivalentsAfter eventsParts.suciAfter eventsParts.keptAfter eventsStep.together eventsStep.joinedOf eventsStep.advanceOf eventsStep.stepOf
+unfolding facts lineOf linesOf rejected seen cellIn entriesIn cellOf upto.upto upto.copied upto.seekTo upto.allTo upto.distinctTo octets.formatOf octets.leadOf octets.contentsOf octets.sizeOf octets.elementOf octets.joined octets.elementsOf octets.keptOf octets.gatheredOf octets.gatherOf timers.unitOf timers.spanOf messages.gutiOf messages.countOf messages.tripletsOf messages.waitOf messages.acceptOf messages.acceptedOf messages.acceptReading messages.rejectedOf messages.rejectReading messages.typeReading messages.openedBy messages.readingOf entries.sizeOf entries.placeIn entries.peekAt entries.seenIn entries.liftMark entries.bumped entries.putAt entries.clearUnless entries.raised entries.banned entries.barredBy entries.accepted entries.swept entries.cycled entries.none entries.entriesAfter areas.sizeOf areas.placeIn areas.listedIn areas.placed areas.placedCount areas.kept areas.stayed areas.sweptList areas.listAfter areas.countAfter network.isNetwork new.newDevice new.newAccess new.emptyRecord new.newRecord valid.deviceRanges valid.modeRanges valid.identityRanges valid.heldRanges valid.accessRanges valid.rangesOf valid.countersOf valid.cardOf valid.suciOf valid.codesOf valid.clockOf valid.onceOf valid.validOf answers.numberOf answers.isTaken clocks.flagAfter clocks.toldOf clocks.clocksOf access.moved access.forgotten access.emptied access.counted access.pending access.keyed access.taught access.entered access.clocked rows.isCard rows.isNetworkNo rows.isAreaNo rows.isN1No rows.isProtocol rows.rowOf rows.startsT3247 rows.needsEntry rows.toRoaming rows.toRegional turns.started turns.keySet turns.accepted turns.tried turns.failed turns.t3510Out turns.t3511Out turns.t3502Out turns.cycled turns.renewed turns.oneMore turns.cardBelow turns.cardLimit turns.cardProtected turns.away turns.home turns.area turns.n1 turns.rowTurn turns.otherTurn hot.accessOf hot.otherOf hot.hotOf checks.mayStart checks.isSame checks.isFree checks.startRange checks.startAnswer checks.rowNow checks.isIgnored checks.isFull checks.rejectAnswer checks.readAnswer checks.messageRange checks.messageAnswer checks.timerRange checks.runs checks.timerAnswer checks.keyAnswer checks.cardAnswer effects.ticked effects.carded effects.cardEffect effects.startEffect effects.keyEffect effects.acceptEffect effects.clockEffect effects.t3247Effect effects.timerEffect effects.powerEffect effects.rejectT3247 effects.rowDeed effects.rowWork effects.rejectEffect plan.heardOf plan.askOf plan.answerOf plan.messageEffect plan.effectOf plan.hotAfter plan.takenReply plan.isIgnoring plan.refusedReply plan.giftOf plan.takenPlan plan.refusedPlan plan.decidedBy plan.planOf parts.seenBy parts.seenOf parts.listedOf parts.plannedBy parts.plannedOf parts.mineOf parts.deedOf parts.tableAfter parts.listed parts.doneOf parts.carriedOut parts.partsAfter parts.networksOf parts.gutiAfter parts.equivalentsAfter parts.suciAfter parts.keptAfter step.together step.joinedOf step.advanceOf step.stepOf
 shown = (refl, (refl, (refl, (refl, (refl, (refl, (refl, (refl, (refl, (refl, (refl, (refl, tt))))))))))))
