@@ -1,7 +1,21 @@
 // The registration record: what document 01 holds, as numbers and arrays of numbers, so that any octets lent are a record.
 use entries::Entries;
 use octets::Fault;
-ghost use mathlib.Core.Path.{_≡_};
+
+mod answers;
+mod code;
+mod columns;
+mod joins;
+mod new;
+mod tests;
+
+pub use answers::number;
+pub use answers::taken;
+pub use code::network;
+pub use new::empty;
+pub use new::fresh;
+pub use new::new_access;
+pub use tests::valid;
 
 // The device's numbers. A flag is 0 or 1; lengths and counts say how much of an array is in use.
 pub struct Device {

@@ -1,0 +1,30 @@
+// The reply numbers.
+use crate::Answer;
+ghost use mathlib.Core.Path.{_≡_};
+ghost use Rattle.record.specs.Answers.{numberOf, isTaken};
+
+pub fn number(a: Answer) -> u8
+    ensures { λ r. ⌜ r ≡ numberOf a ⌝ }
+{
+    match a {
+        Answer::Taken => 0,
+        Answer::Range => 1,
+        Answer::Ignored => 2,
+        Answer::Malformed(_, _) => 3,
+        Answer::Full => 4,
+        Answer::NoCard => 5,
+        Answer::State => 6,
+        Answer::Same => 7,
+        Answer::Listed => 8,
+        Answer::Area => 9,
+        Answer::Bare => 10,
+        Answer::Idle => 11,
+        Answer::Short => 12,
+    }
+}
+
+pub fn taken(a: Answer) -> bool
+    ensures { λ r. ⌜ r ≡ isTaken a ⌝ }
+{
+    number(a) == 0
+}
