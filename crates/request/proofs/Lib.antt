@@ -1,0 +1,3 @@
+-- Laws of the layout and its reading.
+pub mod Parts
+pub mod RoundTrip

@@ -1,0 +1,5 @@
+-- The registration request, as document 01 has it in its section Messages.
+pub mod Identity
+pub mod Layout
+pub mod Reading
+pub mod Writing
