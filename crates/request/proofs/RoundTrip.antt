@@ -8,7 +8,7 @@ use native.Mathlib.Omega.{arith}
 use lib.ListN.{length, getD, take, drop, length-append}
 use lib.Seq.{take-at, drop-at}
 use lib.Dec.{ltb, leb, eqb}
-use borrow.Author.Tests.{le-ltb, le-leb, eq-eqb}
+use borrow.Author.Tests.{lt-ltb, le-ltb, le-leb, eq-eqb}
 use Rattle.octets.specs.declared.Part.{Part}
 use Rattle.octets.specs.declared.Gathered.the-variants.{Whole}
 use Rattle.octets.specs.Element.{gatherOf}
@@ -22,7 +22,8 @@ use Rattle.request.proofs.Parts.{heldAt, gathers, cut-lengthed, cut-bar
 -- behind 7E 00 41 and octet 4 stands the identity's length
 headed : (o hi lo : ℕ) (t : List ℕ) (n : ℕ) → hi * 256 + lo ≡ n → askingOf (0x7E ∷ 0x00 ∷ 0x41 ∷ o ∷ hi ∷ lo ∷ t) ≡ partsReading (0x7E ∷ 0x00 ∷ 0x41 ∷ o ∷ hi ∷ lo ∷ t) n
 unfolding askingOf openedBy typeReading restReading
-headed o hi lo t n e = rw e
+headed o hi lo t n e =
+    rw (lt-ltb 0 (suc (suc (suc (suc (suc (suc (length t))))))) (omega arith), lt-ltb 1 (suc (suc (suc (suc (suc (suc (length t))))))) (omega arith), lt-ltb 2 (suc (suc (suc (suc (suc (suc (length t))))))) (omega arith), le-ltb (suc (suc (suc (suc (suc (suc (length t))))))) 6 (omega arith), e)
 
 fourth : (ksi kind : ℕ) → kind ≡ 1 → ksi ≤ 7 → isFourth (ksi * 16 + kind) ≡ true
 unfolding isFourth

@@ -2,4 +2,5 @@
 pub mod Identity
 pub mod Layout
 pub mod Reading
+pub mod Steps
 pub mod Writing

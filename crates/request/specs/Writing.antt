@@ -31,16 +31,17 @@ octets3 n = (n / 65536 % 256) ∷ (n / 256 % 256) ∷ (n % 256) ∷ []
 unfoldable pub lastOf : Access → List ℕ
 lastOf a = cond (eqb (a .visited) 0) [] (octets3 (a .lastnet) ++ octets3 (a .lastcode))
 
+-- what an access says with this identity and these capabilities
+unfoldable pub sayingOf : Access → List ℕ → List ℕ → List ℕ → Fields
+sayingOf a identity capability security = record { kind = 1; ksi = a .ksi; identity = identity; capability = capability; security = security; last = lastOf a }
+
 -- what a record says in the request over an access, a of the access's numbers and its equivalents
 unfoldable pub saysOf : Record → ℕ → Access → List ℕ → Fields
-saysOf r access a equivalents = record {
-  kind = 1;
-  ksi = a .ksi;
-  identity = identityOf (gutisOf (r .guti0) (r .guti1)) (take (r .hot .dev .suci) (r .suci)) access (r .hot .a0 .guti) (r .hot .a1 .guti) (a .net) equivalents (a .equivalents);
-  capability = take (r .hot .dev .capability) (r .capability);
-  security = take (r .hot .dev .security) (r .security);
-  last = lastOf a;
-}
+saysOf r access a equivalents =
+    sayingOf a
+    (identityOf (gutisOf (r .guti0) (r .guti1)) (take (r .hot .dev .suci) (r .suci)) access (r .hot .a0 .guti) (r .hot .a1 .guti) (a .net) equivalents (a .equivalents))
+    (take (r .hot .dev .capability) (r .capability))
+    (take (r .hot .dev .security) (r .security))
 
 unfoldable pub fieldsOf : Record → ℕ → Fields
 fieldsOf r access = saysOf r access (accessOf access (r .hot)) (cond (eqb access 0) (r .equivalents0) (r .equivalents1))

@@ -5,8 +5,10 @@ use record::Answer;
 mod identity;
 mod joins;
 mod reading;
+mod writing;
 pub use identity::choose;
 pub use reading::read;
+pub use writing::write;
 ghost use mathlib.Core.Path.{_≡_};
 
 // What a request says, each part as an offset and a length in its octets.
