@@ -1,4 +1,6 @@
 -- Laws of the layout and its reading.
+pub mod Answers
 pub mod Parts
 pub mod Pieces
+pub mod Ranges
 pub mod RoundTrip

@@ -178,6 +178,11 @@ fn may(r: Record, access: u8) -> bool
     if access <= 1 { record::valid(r) } else { false }
 }
 
+// An array of a record brings no length: a copy of it does, and the copy is gone when compiled.
+fn known(suci: [u8; 64], capability: [u8; 13], security: [u8; 8])
+    ensures { λ _. ⌜ (length suci ≡ 64) × ((length capability ≡ 13) × (length security ≡ 8)) ⌝ }
+{}
+
 // The identity is a part of the GUTIs or the SUCI, and is written from there.
 fn compose(r: Record, access: u8, own: Access, nets: &[u32; 15], buffer: &mut [u8]) -> Written
     requires { ⌜ (r .hot .dev .suci ≤ 64) × ((r .hot .dev .capability ≤ 13) × ((r .hot .dev .security ≤ 8) × (own .ksi ≤ 7))) ⌝ }
@@ -192,6 +197,7 @@ fn compose(r: Record, access: u8, own: Access, nets: &[u32; 15], buffer: &mut [u
     let suci = r.suci;
     let capability = r.capability;
     let security = r.security;
+    known(suci, capability, security);
     let n = wide(d.suci);
     let part = choose(&gutis, &suci[..n], access, h.a0.guti, h.a1.guti, own.net, nets, own.equivalents);
     send(buffer, own, d, part, &capability, &security)
