@@ -19,6 +19,17 @@ use Rattle.request.specs.Writing.{accessOf, saysOf, fieldsOf, requestOf,
 use Rattle.request.specs.Steps.{sentOf, sentOver}
 use Rattle.request.proofs.Ranges.{Ready, ready}
 
+-- an answer and a length picked at once, or each for itself
+told : (x : Bool) (k : ℕ) → _≡_ {A = Written} (cond x (record { answer = Taken; len = k }) (record { answer = Short; len = 0 })) (record { answer = cond x Taken Short; len = cond (isTaken (cond x Taken Short)) k 0 })
+unfolding isTaken
+told true k = refl
+told false k = refl
+
+left : (x : Bool) (o b : List ℕ) → cond x o b ≡ cond (isTaken (cond x Taken Short)) o b
+unfolding isTaken
+left true o b = refl
+left false o b = refl
+
 abbrev tested : Record → ℕ → Bool
 tested r access = both (leb access 1) (validOf r)
 
@@ -59,10 +70,7 @@ module _ (r : Record) (access : ℕ) (t : Bool) (own : Access) (e : t ≡ tested
     pub written : (nets b d : List ℕ) (w : Written) → nets ≡ cond (eqb access 0) (r .equivalents0) (r .equivalents1)
         → w ≡ sentOf (layout (saysOf r access own nets)) (length b) → d ≡ sentOver (layout (saysOf r access own nets)) b
         → (w ≡ writtenOf r access (length b)) × (d ≡ bufferOf r access b)
-    unfolding writtenOf bufferOf
-    written nets b d w f g k = (g ∙ ap (λ (x : List ℕ). sentOf x (length b)) request ∙ rw answered (told (leb (length (requestOf r access)) (length b))), k ∙ ap (λ (x : List ℕ). sentOver x b) request ∙ rw answered ?)
-      where
-        request : layout (saysOf r access own nets) ≡ requestOf r access
-        request = ?
-        told : (x : Bool) → cond x (record { answer = Taken; len = length (requestOf r access) }) (record { answer = Short; len = 0 }) ≡ (record { answer = cond x Taken Short; len = cond (isTaken (cond x Taken Short)) (length (requestOf r access)) 0 })
-        told = ?
+    unfolding writtenOf bufferOf sentOf sentOver requestOf fieldsOf
+    written nets b d w f g k =
+        (g ∙ rw (answered (length b), same, f) (told (leb (length (requestOf r access)) (length b)) (length (requestOf r access))),
+        k ∙ rw (answered (length b), same, f) (left (leb (length (requestOf r access)) (length b)) (over (requestOf r access) b) b))

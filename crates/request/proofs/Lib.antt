@@ -3,4 +3,5 @@ pub mod Answers
 pub mod Parts
 pub mod Pieces
 pub mod Ranges
+pub mod Recorded
 pub mod RoundTrip

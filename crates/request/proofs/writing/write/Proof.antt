@@ -1,44 +1,32 @@
+-- Each return is that of its answer.
+use Rattle.request.proofs.Answers.{out-of-range, out-of-state, allowed, written}
 use borrow.Author.Needs.{needs}
 use Rattle.request.proofs.writing.write.Statement.{statement}
 use Rattle.request.proofs.writing.write.Tie as tie
-use Rattle.request.proofs.writing.write.Reads as reads
-use Rattle.request.proofs.writing.write.Lts as lts
-use Rattle.request.proofs.writing.compose.Reads as compose-reads
-use Rattle.request.proofs.writing.may.Reads as may-reads
-use Rattle.request.proofs.writing.nets.Reads as nets-reads
-use Rattle.request.proofs.writing.own.Reads as own-reads
 
--- src/writing.rt:204:9
 may-requires : tie.Need-may-requires
 may-requires c κs = search needs
 
--- src/writing.rt:205:9
 returns : tie.Need-returns
-returns c = ?
+returns c = out-of-range (c .before .before .before .args .r) (c .before .before .before .args .access) _ (c .before .before .before .args .buffer .now) (c .before .may .ensures) (c .if1 .taken)
 
--- src/writing.rt:211:9
 own-requires : tie.Need-own-requires
 own-requires c κs = search needs
 
--- src/writing.rt:213:9
 returns-2 : tie.Need-returns-2
-returns-2 c = ?
+returns-2 c = out-of-state (c .before .before .before .before .before .before .before .args .r) (c .before .before .before .before .before .before .before .args .access) _ _ (c .before .before .before .before .before .may .ensures) (c .before .before .before .before .if1 .left) (c .before .before .own .ensures) (c .before .before .before .before .before .before .before .args .buffer .now) (c .if2 .taken)
 
--- src/writing.rt:220:16
 nets-requires : tie.Need-nets-requires
 nets-requires c κs = search needs
 
--- src/writing.rt:221:5
 compose-requires : tie.Need-compose-requires
-compose-requires c κs = ?
+compose-requires c κs = allowed (c .before .before .before .before .before .before .before .before .before .before .before .before .args .r) (c .before .before .before .before .before .before .before .before .before .before .before .before .args .access) _ _ (c .before .before .before .before .before .before .before .before .before .before .may .ensures) (c .before .before .before .before .before .before .before .before .before .if1 .left) (c .before .before .before .before .before .before .before .own .ensures) (c .before .before .before .before .before .if2 .left)
 
--- src/writing.rt:200:1
 same-length : tie.Need-same-length
 same-length c = search needs
 
--- src/writing.rt:200:1
 returns-3 : tie.Need-returns-3
-returns-3 c = ?
+returns-3 c = written (c .before .before .before .before .before .before .before .before .before .before .before .before .before .before .before .args .r) (c .before .before .before .before .before .before .before .before .before .before .before .before .before .before .before .args .access) _ _ (c .before .before .before .before .before .before .before .before .before .before .before .before .before .may .ensures) (c .before .before .before .before .before .before .before .before .before .before .before .before .if1 .left) (c .before .before .before .before .before .before .before .before .before .before .own .ensures) (c .before .before .before .before .before .before .before .before .if2 .left) _ (c .before .before .before .before .before .before .before .before .before .before .before .before .before .before .before .args .buffer .now) _ _ (c .before .before .before .before .before .nets .ensures) (c .before .before .compose .ensures .0) (c .before .before .compose .ensures .1)
 
 pub write-spec : {M : Type 1} → statement M
 write-spec =
