@@ -1,5 +1,5 @@
 -- The round trip of a record: reading what the writer writes gives what the record says. Assumes nothing.
-use Prim.Native.Nat.{ℕ, suc, _+_, _*_, _<_, _≤_}
+use Prim.Native.Nat.{ℕ, zero, suc, _+_, _*_, _<_, _≤_}
 use mathlib.Core.Path.{_≡_, refl, sym, _∙_, ap}
 use mathlib.Core.Bool.{Bool, true, false, cond}
 use mathlib.Core.Logic.{_⊎_, inl, inr}
@@ -8,15 +8,19 @@ use native.Mathlib.Omega.{arith}
 use lib.ListN.{length, getD, take, drop, length-append}
 use lib.Seq.{length-take-le, take-at, drop-at, take-all}
 use lib.Dec.{ltb, leb, eqb}
-use borrow.Author.Tests.{ltb-true}
+use borrow.Author.Tests.{ltb-true, eqb-true}
 use Rattle.record.specs.declared.Access.{Access}
 use Rattle.record.specs.declared.Record.{Record}
+use Rattle.record.specs.declared.Answer.the-variants.{Taken, Range, State, Short}
+use Rattle.record.specs.Answers.{isTaken}
+use Rattle.record.specs.Tests.{both}
 use Rattle.record.specs.Valid.{validOf}
+use Rattle.record.proofs.Bounds.{rest}
 use Rattle.request.specs.Identity.{slotOf, partOf, identityOf}
 use Rattle.request.specs.Layout.{Fields, Fit, shown, layout}
 use Rattle.request.specs.Reading.{askingOf, toldBy}
 use Rattle.request.specs.Reading.Said.{says}
-use Rattle.request.specs.Writing.{accessOf, gutisOf, lastOf, sayingOf, saysOf, fieldsOf, requestOf, over, bufferOf, answerOf}
+use Rattle.request.specs.Writing.{accessOf, gutisOf, lastOf, sayingOf, saysOf, fieldsOf, requestOf, answerOf, writtenOf, over, bufferOf}
 use Rattle.request.proofs.Ranges.{Ready, ready}
 use Rattle.request.proofs.RoundTrip.{round-layout}
 
@@ -35,13 +39,15 @@ Known i = ((getD i 0 0 ≡ 0xF2) × (length i ≡ 11)) ⊎ ((getD i 0 0 ≡ 0x01
 -- the two GUTIs, each by its slot
 slot-known : (k : ℕ) (a b : List ℕ) → length a ≡ 10 → length b ≡ 10 → k < 2 → (getD (take 11 (drop (k * 11) (gutisOf a b))) 0 0 ≡ 0xF2) × (length (take 11 (drop (k * 11) (gutisOf a b))) ≡ 11)
 unfolding gutisOf
-slot-known 0 a b ha hb h =
+slot-known zero a b ha hb h =
     let e : take 11 ((0xF2 ∷ a) ++ (0xF2 ∷ b)) ≡ 0xF2 ∷ a = take-at (0xF2 ∷ a) (0xF2 ∷ b) 11 (omega arith) in
-    (rw e, rw e (omega arith))
-slot-known 1 a b ha hb h =
+    let n : length (0xF2 ∷ a) ≡ 11 = omega arith in
+    (ap (λ (l : List ℕ). getD l 0 0) e, ap length e ∙ n)
+slot-known (suc zero) a b ha hb h =
     let d : drop 11 ((0xF2 ∷ a) ++ (0xF2 ∷ b)) ≡ 0xF2 ∷ b = drop-at (0xF2 ∷ a) (0xF2 ∷ b) 11 (omega arith) in
-    let e : take 11 (0xF2 ∷ b) ≡ 0xF2 ∷ b = take-all 11 (0xF2 ∷ b) (omega arith) in
-    (rw (d, e), rw (d, e) (omega arith))
+    let e : take 11 (drop 11 ((0xF2 ∷ a) ++ (0xF2 ∷ b))) ≡ 0xF2 ∷ b = ap (take 11) d ∙ take-all 11 (0xF2 ∷ b) (omega arith) in
+    let n : length (0xF2 ∷ b) ≡ 11 = omega arith in
+    (ap (λ (l : List ℕ). getD l 0 0) e, ap length e ∙ n)
 slot-known (suc (suc k)) a b ha hb h = absurd (omega arith)
 
 either : (x : Bool) (g s : List ℕ) → (x ≡ true → Known g) → Known s → Known (cond x g s)
@@ -50,8 +56,9 @@ either false g s h k = k
 
 -- the SUCI's used octets
 leads : (n : ℕ) (l : List ℕ) → 9 ≤ n → getD (take n l) 0 0 ≡ getD l 0 0
-leads n [] h = ?
-leads n (o ∷ l) h = ?
+leads zero l h = absurd (omega arith)
+leads (suc n) [] h = refl
+leads (suc n) (o ∷ l) h = refl
 
 known : (a b s : List ℕ) (access held0 held1 net : ℕ) (nets : List ℕ) (count : ℕ) → length a ≡ 10 → length b ≡ 10 → Known s
     → Known (identityOf (gutisOf a b) s access held0 held1 net nets count)
@@ -94,3 +101,26 @@ module _ (r : Record) (access : ℕ) (whole : Whole r) (valid : validOf r ≡ tr
   pub recorded : toldBy (requestOf r access) (askingOf (requestOf r access)) ≡ says (shown (fieldsOf r access))
   unfolding requestOf
   recorded = round-layout (fieldsOf r access) fits
+
+-- only a valid record in state 4 is taken
+passed : (x y z : Bool) → cond x (cond y (cond z Taken Short) State) Range ≡ Taken → (x ≡ true) × (y ≡ true)
+passed true true z e = (refl, refl)
+passed true false z e = let n : _≡_ {A = ℕ} 0 1 = cc in absurd (omega arith)
+passed false y z e = let n : _≡_ {A = ℕ} 0 1 = cc in absurd (omega arith)
+
+module _ (r : Record) (access : ℕ) (b : List ℕ) (whole : Whole r) (taken : answerOf r access (length b) ≡ Taken) where
+  tests : (both (leb access 1) (validOf r) ≡ true) × (eqb (accessOf access (r .hot) .state) 4 ≡ true)
+  unfolding answerOf
+  tests = passed _ _ (leb (length (requestOf r access)) (length b)) taken
+
+  -- what the writer has written
+  abbrev pub sent : List ℕ
+  sent = take (writtenOf r access (length b) .len) (bufferOf r access b)
+
+  same : sent ≡ requestOf r access
+  unfolding writtenOf bufferOf over isTaken
+  same = rw taken (take-at (requestOf r access) (drop (length (requestOf r access)) b) (length (requestOf r access)) refl)
+
+  -- the round trip: reading what the writer has written gives what the record says
+  pub read-back : toldBy sent (askingOf sent) ≡ says (shown (fieldsOf r access))
+  read-back = rw same (recorded r access whole (rest (leb access 1) _ (tests .0)) (eqb-true _ 4 (tests .1)))
