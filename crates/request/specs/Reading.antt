@@ -98,7 +98,7 @@ toldBy s (asking.Bad f at) = nothing
 toldBy s asking.Unfit = nothing
 
 -- this paper's number for each case: 3 for all that is refused
-unfoldable pub askingNumber : Asking → ℕ
+abbrev pub askingNumber : Asking → ℕ
 askingNumber (asking.Request q) = 0
 askingNumber (asking.Bad f at) = 3
 askingNumber asking.Unfit = 3

@@ -7,6 +7,7 @@ mod joins;
 mod reading;
 mod writing;
 pub use identity::choose;
+pub use reading::number;
 pub use reading::read;
 pub use writing::write;
 ghost use mathlib.Core.Path.{_≡_};

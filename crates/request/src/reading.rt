@@ -10,7 +10,7 @@ use crate::joins::or;
 use crate::joins::wide;
 ghost use mathlib.Core.Path.{_≡_};
 ghost use Prim.Native.Nat.{_<_};
-ghost use Rattle.request.specs.Reading.{isFourth, isIdentity, isSecurity, isCapability, isRequest, capabilityOf, saidOf, judgedOf, partsReading, restReading, typeReading, askingOf};
+ghost use Rattle.request.specs.Reading.{isFourth, isIdentity, isSecurity, isCapability, isRequest, capabilityOf, saidOf, judgedOf, partsReading, restReading, typeReading, askingOf, askingNumber};
 
 fn fourth(o: u8) -> bool
     ensures { λ r. ⌜ r ≡ isFourth o ⌝ }
@@ -141,4 +141,15 @@ pub fn read(msg: &[u8]) -> Asking
         return Asking::Bad(Fault::Second, 1);
     }
     read_type(msg)
+}
+
+// The number that document 01 has for a reading.
+pub fn number(a: Asking) -> u8
+    ensures { λ r. ⌜ r ≡ askingNumber a ⌝ }
+{
+    match a {
+        Asking::Request(_) => 0,
+        Asking::Bad(_, _) => 3,
+        Asking::Unfit => 3,
+    }
 }
