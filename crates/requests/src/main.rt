@@ -3,6 +3,7 @@ use libc::STDOUT_FILENO;
 use octets::Fault;
 use octets::Part;
 use record::Access;
+use record::Hot;
 use record::Record;
 use request::Asking;
 use request::Request;
@@ -20,9 +21,9 @@ struct Shape {
     ksi: u8,
 }
 
-fn access(s: Shape, guti: u8, t3510: u8) -> Access {
+fn access(s: Shape, guti: u8) -> Access {
     let mut a = record::new_access(4);
-    a.t3510 = t3510;
+    a.t3510 = 1;
     a.net = s.net;
     a.guti = guti;
     a.visited = s.visited;
@@ -31,6 +32,30 @@ fn access(s: Shape, guti: u8, t3510: u8) -> Access {
     a.ksi = s.ksi;
     a.equivalents = s.equivalents;
     a
+}
+
+// A record with no card, in state 0.
+fn fresh() -> Record {
+    let capability = [0u8; 1];
+    let security = [0u8; 2];
+    let m = record::fresh(3, 3, 3, &capability, &security);
+    m.made
+}
+
+fn numbers(s: Shape) -> Hot {
+    let r = fresh();
+    let mut h = r.hot;
+    let mut d = h.dev;
+    d.card = 1;
+    d.suci = s.suci;
+    d.capability = s.capability;
+    d.security = s.security;
+    h.dev = d;
+    let a0 = access(s, s.guti0);
+    let a1 = access(s, s.guti1);
+    h.a0 = a0;
+    h.a1 = a1;
+    h
 }
 
 fn suci() -> [u8; 64] {
@@ -42,23 +67,18 @@ fn suci() -> [u8; 64] {
 
 // The GUTIs are of the networks 00 F1 10 and 00 F2 20; each access's equivalent is the other's.
 fn made(s: Shape) -> Record {
-    let least = [0u8; 2];
-    let mut r = record::fresh(3, 3, 3, &least, &least).made;
-    let mut h = r.hot;
-    h.dev.card = 1;
-    h.dev.suci = s.suci;
-    h.dev.capability = s.capability;
-    h.dev.security = s.security;
-    h.a0 = access(s, s.guti0, 1);
-    h.a1 = access(s, s.guti1, 1);
-    r.hot = h;
-    r.suci = suci();
-    r.capability = [0x00, 0x01, 0x02, 0x03, 0x04, 0x05, 0x06, 0x07, 0x08, 0x09, 0x0A, 0x0B, 0x0C];
-    r.security = [0xF0, 0xF0, 0x01, 0x02, 0x03, 0x04, 0x05, 0x06];
-    r.guti0 = [0x00, 0xF1, 0x10, 0x80, 0x01, 0xC5, 0xD1, 0xC2, 0xB3, 0xA4];
-    r.guti1 = [0x00, 0xF2, 0x20, 0x11, 0x22, 0x83, 0x0A, 0x0B, 0x0C, 0x0D];
-    r.equivalents0 = [0x00F220; 15];
-    r.equivalents1 = [0x00F110; 15];
+    let capability = [0x00, 0x01, 0x02, 0x03, 0x04, 0x05, 0x06, 0x07, 0x08, 0x09, 0x0A, 0x0B, 0x0C];
+    let security = [0xF0, 0xF0, 0x01, 0x02, 0x03, 0x04, 0x05, 0x06];
+    let suci = suci();
+    let mut r = record::empty(numbers(s), suci, capability, security);
+    let guti0 = [0x00, 0xF1, 0x10, 0x80, 0x01, 0xC5, 0xD1, 0xC2, 0xB3, 0xA4];
+    let guti1 = [0x00, 0xF2, 0x20, 0x11, 0x22, 0x83, 0x0A, 0x0B, 0x0C, 0x0D];
+    let equivalents0 = [0x00F220u32; 15];
+    let equivalents1 = [0x00F110u32; 15];
+    r.guti0 = guti0;
+    r.guti1 = guti1;
+    r.equivalents0 = equivalents0;
+    r.equivalents1 = equivalents1;
     r
 }
 
@@ -138,7 +158,10 @@ fn tell(msg: &[u8]) {
 // The answer and the length, the whole buffer, and what reading the written octets says.
 fn send(r: Record, access: u8, buffer: &mut [u8]) {
     let w = request::write(r, access, buffer);
-    number(record::number(w.answer) as u64);
+    let answer = w.answer;
+    say(b"answer");
+    number(record::number(answer) as u64);
+    say(b" length");
     number(w.len as u64);
     say(b":");
     octets(buffer);
@@ -217,8 +240,7 @@ fn refusals() {
     sent(made(s), 2, 19);
     s.ksi = 8;
     sent(made(s), 0, 19);
-    let r = record::fresh(3, 3, 3, &[0u8; 1], &[0u8; 2]).made;
-    sent(r, 0, 19);
+    sent(fresh(), 0, 19);
 }
 
 fn orders() {
