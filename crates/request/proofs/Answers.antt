@@ -71,6 +71,7 @@ module _ (r : Record) (access : ℕ) (t : Bool) (own : Access) (e : t ≡ tested
         → w ≡ sentOf (layout (saysOf r access own nets)) (length b) → d ≡ sentOver (layout (saysOf r access own nets)) b
         → (w ≡ writtenOf r access (length b)) × (d ≡ bufferOf r access b)
     unfolding writtenOf bufferOf sentOf sentOver requestOf fieldsOf
-    written nets b d w f g k =
-        (g ∙ rw (answered (length b), same, f) (told (leb (length (requestOf r access)) (length b)) (length (requestOf r access))),
-        k ∙ rw (answered (length b), same, f) (left (leb (length (requestOf r access)) (length b)) (over (requestOf r access) b) b))
+    written nets b d w f g k = (
+      g ∙ rw (answered (length b), same, f) (told (leb (length (requestOf r access)) (length b)) (length (requestOf r access))),
+      k ∙ rw (answered (length b), same, f) (left (leb (length (requestOf r access)) (length b)) (over (requestOf r access) b) b),
+    )

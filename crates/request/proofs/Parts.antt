@@ -38,11 +38,12 @@ sized : (i at : ℕ) (c rest : List ℕ) → leadOf true i ≡ 2 → contentsOf 
 sized i at c rest e f g =
     begun i at 2 (length c) (length c ∷ (c ++ rest)) e f g (simp length-append (omega arith)) (omega arith)
     ∙ ap (λ (l : List ℕ). element i (at + 2) (length c) (elementsOf true 0 (at + (2 + length c)) l)) behind
-    where
-      one : 2 + length c - 1 ≡ suc (length c)
-      one = omega arith
-      behind : drop (2 + length c - 1) (length c ∷ (c ++ rest)) ≡ rest
-      behind = rw one (drop-at c rest (length c) refl)
+  where
+    one : 2 + length c - 1 ≡ suc (length c)
+    one = omega arith
+
+    behind : drop (2 + length c - 1) (length c ∷ (c ++ rest)) ≡ rest
+    behind = rw one (drop-at c rest (length c) refl)
 
 -- the part of contents that may be none, behind k octets at a place
 unfoldable pub heldAt : ℕ → ℕ → List ℕ → Part
@@ -144,10 +145,13 @@ gathers at c s l h =
   where
     p : Part
     p = heldAt 2 at c
+
     one : ℕ
     one = at + length (lengthed 0x10 c)
+
     q : Part
     q = heldAt 2 one s
+
     two : ℕ
     two = one + length (lengthed 0x2E s)
 

@@ -79,7 +79,15 @@ fn first(here: bool, there: bool, own: usize, next: usize) -> usize
     next
 }
 
-fn order(gutis: &[u8], own: usize, here: u8, there: u8, net: u32, nets: &[u32; 15], count: u8) -> usize
+fn order(
+    gutis: &[u8],
+    own: usize,
+    here: u8,
+    there: u8,
+    net: u32,
+    nets: &[u32; 15],
+    count: u8,
+) -> usize
     requires { ⌜ (length (now gutis) ≡ 22) × (own ≤ 1) ⌝ }
     ensures { λ r. ⌜ r ≡ orderOf (now (gutis .entry)) own here there net (now (nets .entry)) count ⌝ }
 {
@@ -93,7 +101,15 @@ fn order(gutis: &[u8], own: usize, here: u8, there: u8, net: u32, nets: &[u32; 1
     first(p, q, own, alike)
 }
 
-fn slot(gutis: &[u8], access: u8, held0: u8, held1: u8, net: u32, nets: &[u32; 15], count: u8) -> usize
+fn slot(
+    gutis: &[u8],
+    access: u8,
+    held0: u8,
+    held1: u8,
+    net: u32,
+    nets: &[u32; 15],
+    count: u8,
+) -> usize
     ensures { λ r. ⌜ r ≡ slotOf (now (gutis .entry)) access held0 held1 net (now (nets .entry)) count ⌝ }
 {
     if gutis.len() == 22 {
@@ -106,7 +122,16 @@ fn slot(gutis: &[u8], access: u8, held0: u8, held1: u8, net: u32, nets: &[u32; 1
 }
 
 // The GUTIs are F2 and ten octets for access 0, then for access 1. A slot below 2 is only found where all 22 are there.
-pub fn choose<'a>(gutis: &'a [u8], suci: &'a [u8], access: u8, held0: u8, held1: u8, net: u32, equivalents: &[u32; 15], count: u8) -> &'a [u8]
+pub fn choose<'a>(
+    gutis: &'a [u8],
+    suci: &'a [u8],
+    access: u8,
+    held0: u8,
+    held1: u8,
+    net: u32,
+    equivalents: &[u32; 15],
+    count: u8,
+) -> &'a [u8]
     ensures octets { λ r. ⌜ now r ≡ identityOf (now (gutis .entry)) (now (suci .entry)) access held0 held1 net (now (equivalents .entry)) count ⌝ }
     ensures place { λ r. ⌜ ptr r ≡ partAt (ptr (gutis .entry)) (ptr (suci .entry)) (slotOf (now (gutis .entry)) access held0 held1 net (now (equivalents .entry)) count) ⌝ }
 {

@@ -2,10 +2,12 @@
 use octets::Fault;
 use octets::Part;
 use record::Answer;
+
 mod identity;
 mod joins;
 mod reading;
 mod writing;
+
 pub use identity::choose;
 pub use reading::number;
 pub use reading::read;

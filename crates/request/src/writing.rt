@@ -1,12 +1,12 @@
 // The writing of a request, piece behind piece, into a lent buffer.
-use record::Access;
-use record::Answer;
-use record::Device;
-use record::Record;
 use crate::Written;
 use crate::identity::choose;
 use crate::joins::and;
 use crate::joins::wide;
+use record::Access;
+use record::Answer;
+use record::Device;
+use record::Record;
 ghost use mathlib.Core.Path.{_≡_};
 ghost use mathlib.Core.Bool.{cond};
 ghost use mathlib.Core.List.{_++_};
@@ -56,7 +56,16 @@ fn element(buffer: &mut [u8], at: usize, id: u8, src: &[u8], n: usize) -> usize
 }
 
 // The elements behind the identity: 10, 2E and 52.
-fn elements(buffer: &mut [u8], at: usize, capability: &[u8], c: usize, security: &[u8], s: usize, area: &[u8], l: usize) -> usize
+fn elements(
+    buffer: &mut [u8],
+    at: usize,
+    capability: &[u8],
+    c: usize,
+    security: &[u8],
+    s: usize,
+    area: &[u8],
+    l: usize,
+) -> usize
     requires { ⌜ (at + (sizedOf c + (sizedOf s + l)) ≤ length (now buffer)) × ((c ≤ length (now capability)) × ((s ≤ length (now security)) × ((l ≤ length (now area)) × ((c < 256) × (s < 256))))) ⌝ }
     ensures { λ r. ⌜ now (buffer .exit) ≡ spliced (now (buffer .entry)) at (lengthed 0x10 (take c (now (capability .entry))) ++ (lengthed 0x2E (take s (now (security .entry))) ++ take l (now (area .entry)))) ⌝ }
 {
@@ -66,7 +75,17 @@ fn elements(buffer: &mut [u8], at: usize, capability: &[u8], c: usize, security:
 }
 
 // All pieces, from the buffer's first octet on.
-fn fill(buffer: &mut [u8], head: &[u8], part: &[u8], capability: &[u8], c: usize, security: &[u8], s: usize, area: &[u8], l: usize) -> usize
+fn fill(
+    buffer: &mut [u8],
+    head: &[u8],
+    part: &[u8],
+    capability: &[u8],
+    c: usize,
+    security: &[u8],
+    s: usize,
+    area: &[u8],
+    l: usize,
+) -> usize
     requires { ⌜ (length (now head) ≡ 6) × ((6 + (length (now part) + (sizedOf c + (sizedOf s + l))) ≤ length (now buffer)) × ((c ≤ length (now capability)) × ((s ≤ length (now security)) × ((l ≤ length (now area)) × ((c < 256) × (s < 256)))))) ⌝ }
     ensures { λ r. ⌜ now (buffer .exit) ≡ over (pieces (now (head .entry)) (now (part .entry)) (take c (now (capability .entry))) (take s (now (security .entry))) (take l (now (area .entry)))) (now (buffer .entry)) ⌝ }
 {
@@ -79,7 +98,14 @@ fn head(ksi: u8, n: usize) -> [u8; 6]
     requires { ⌜ (ksi ≤ 7) × (n ≤ 64) ⌝ }
     ensures { λ r. ⌜ r ≡ headOf 1 ksi n ⌝ }
 {
-    [0x7E, 0x00, 0x41, ksi * 16 + 1, (n / 256) as u8, (n % 256) as u8]
+    [
+        0x7E,
+        0x00,
+        0x41,
+        ksi * 16 + 1,
+        (n / 256) as u8,
+        (n % 256) as u8,
+    ]
 }
 
 fn low(n: u32) -> u8
@@ -125,7 +151,14 @@ fn size(n: usize, c: usize, s: usize, l: usize) -> usize
 }
 
 // The request of an access with this identity, if the buffer has room for it.
-fn send(buffer: &mut [u8], own: Access, dev: Device, part: &[u8], capability: &[u8], security: &[u8]) -> Written
+fn send(
+    buffer: &mut [u8],
+    own: Access,
+    dev: Device,
+    part: &[u8],
+    capability: &[u8],
+    security: &[u8],
+) -> Written
     requires { ⌜ (length (now part) ≤ 64) × ((length (now capability) ≡ 13) × ((length (now security) ≡ 8) × ((dev .capability ≤ 13) × ((dev .security ≤ 8) × (own .ksi ≤ 7))))) ⌝ }
     ensures { λ r. ⌜ r ≡ sentOf (layout (sayingOf own (now (part .entry)) (take (dev .capability) (now (capability .entry))) (take (dev .security) (now (security .entry))))) (length (now (buffer .entry))) ⌝ }
     ensures { λ r. ⌜ now (buffer .exit) ≡ sentOver (layout (sayingOf own (now (part .entry)) (take (dev .capability) (now (capability .entry))) (take (dev .security) (now (security .entry))))) (now (buffer .entry)) ⌝ }
@@ -199,7 +232,16 @@ fn compose(r: Record, access: u8, own: Access, nets: &[u32; 15], buffer: &mut [u
     let security = r.security;
     known(suci, capability, security);
     let n = wide(d.suci);
-    let part = choose(&gutis, &suci[..n], access, h.a0.guti, h.a1.guti, own.net, nets, own.equivalents);
+    let part = choose(
+        &gutis,
+        &suci[..n],
+        access,
+        h.a0.guti,
+        h.a1.guti,
+        own.net,
+        nets,
+        own.equivalents,
+    );
     send(buffer, own, d, part, &capability, &security)
 }
 

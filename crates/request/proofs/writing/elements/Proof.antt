@@ -20,7 +20,7 @@ same-length : tie.Need-same-length
 same-length c = search needs
 
 returns : tie.Need-returns
-returns c = 
+returns c =
     let room : c .before .before .before .before .before .before .before .before .before .before .before .before .before .before .before .before .args .at ≤ length (c .before .before .before .before .before .before .before .before .before .before .before .before .before .before .before .before .args .buffer .now) = omega arith in
     three _ _ _ _ _ _ _ _ _ _ _ _ room (c .before .before .before .before .before .before .before .before .before .before .element .ensures .0) (sizes-take _ _ _ (c .before .before .before .before .before .before .before .before .before .before .before .before .before .before .before .before .pre .1 .0)) (c .before .before .before .before .before .before .element2 .ensures .0) (sizes-take _ _ _ (c .before .before .before .before .before .before .before .before .before .before .before .before .before .before .before .before .pre .1 .1 .0)) (c .before .before .before .before .before .before .before .before .before .before .element .ensures .1) (c .before .before .before .before .before .before .element2 .ensures .1) (c .before .before .put .ensures .1)
 

@@ -34,7 +34,7 @@ loop-less : tie.Need-loop-less Inv-loop μ-loop
 loop-less c = omega arith
 
 loop-again : tie.Need-loop-again Inv-loop μ-loop
-loop-again c = 
+loop-again c =
     let room : c .before .before .before .args .at + c .before .before .loop .i < length (c .before .before .before .args .buffer .now) = omega arith in
     let more : c .before .before .loop .i < length (c .before .before .before .args .src .now) = omega arith in
     (search needs, (turn (c .before .before .before .args .buffer .now) (c .before .before .loop .buffer) (c .before .before .before .args .src .now) (c .before .before .before .args .at) (c .before .before .loop .i) (c .before .before .loop .inv .1 .0) room more, length-set (c .before .before .loop .buffer) _ _ ∙ c .before .before .loop .inv .1 .1))
@@ -46,7 +46,7 @@ same-length : tie.Need-same-length Inv-loop μ-loop
 same-length c = c .before .loop .inv .1 .1
 
 returns : tie.Need-returns Inv-loop μ-loop
-returns c = 
+returns c =
     let whole : c .before .loop .i ≡ c .before .before .args .n = omega arith in
     (search needs, c .before .loop .inv .1 .0 ∙ ap (λ (k : ℕ). spliced (c .before .before .args .buffer .now) (c .before .before .args .at) (take k (c .before .before .args .src .now))) whole)
 
