@@ -1,6 +1,6 @@
 -- The writer's returns, one for each answer: the checks in their order, and a refusal leaves the buffer. Assumes nothing.
 use Prim.Native.Nat.{ℕ, _≤_}
-use mathlib.Core.Path.{_≡_, refl, sym, _∙_, ap}
+use mathlib.Core.Path.{_≡_, refl, sym, _∙_}
 use mathlib.Core.Bool.{Bool, true, false, cond, not}
 use mathlib.Core.List.{List}
 use lib.ListN.{length}
@@ -17,7 +17,7 @@ use Rattle.request.specs.declared.Written.{Written}
 use Rattle.request.specs.Layout.{layout}
 use Rattle.request.specs.Writing.{accessOf, saysOf, fieldsOf, requestOf, answerOf, writtenOf, over, bufferOf}
 use Rattle.request.specs.Steps.{sentOf, sentOver}
-use Rattle.request.proofs.Ranges.{Ready, ready}
+use Rattle.request.proofs.Ranges.{ready}
 
 -- an answer and a length picked at once, or each for itself
 told : (x : Bool) (k : ℕ) → _≡_ {A = Written} (cond x (record { answer = Taken; len = k }) (record { answer = Short; len = 0 })) (record { answer = cond x Taken Short; len = cond (isTaken (cond x Taken Short)) k 0 })

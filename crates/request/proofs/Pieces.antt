@@ -6,16 +6,15 @@ use mathlib.Core.List.{List, [], _∷_, _++_, append-nil, append-assoc}
 use native.Mathlib.Omega.{arith}
 use native.Mathlib.Nat.{add-zero, zero-add}
 use native.Mathlib.Numerals.{add-one}
-use Rattle.request.specs.declared.Written.{Written}
 use lib.ListN.{length, getD, take, drop, set, replicate, length-append, drop-of-length-le}
-use lib.Seq.{take-at, drop-at, drop-append-add, drop-drop, length-take-le, paste, paste-zero, paste-suc, take-length, take-all}
-use lib.Dec.{ltb, leb, eqb}
+use lib.Seq.{take-at, drop-append-add, drop-drop, length-take-le, paste-zero, paste-suc, take-length, take-all}
+use lib.Dec.{ltb, eqb}
 use borrow.Author.Tests.{ne-eqb, le-leb, lt-leb}
 use Rattle.record.specs.declared.Access.{Access}
 use Rattle.record.specs.declared.Answer.the-variants.{Taken, Short}
 use Rattle.request.specs.Identity.{slotOf, partOf, identityOf}
 use Rattle.request.specs.Layout.{headOf, lengthed, bare, opening, elements, octetsOf, shown, layout}
-use Rattle.request.specs.Writing.{octets3, lastOf, sayingOf, over, gutisOf}
+use Rattle.request.specs.Writing.{lastOf, sayingOf, over, gutisOf}
 use Rattle.request.specs.Steps.{spliced, sizedOf, areaOf, shownCount, areaCount, pieces, sentOf, sentOver}
 
 module _ (b : List ℕ) (at : ℕ) (s t : List ℕ) (h : at ≤ length b) where

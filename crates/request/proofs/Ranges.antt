@@ -1,9 +1,8 @@
 -- What a valid record in state 4 holds: a card with its SUCI, and the ranges of what a request is made of. Assumes nothing.
 use Prim.Native.Nat.{ℕ, _≤_}
-use mathlib.Core.Path.{_≡_, refl, sym, _∙_}
+use mathlib.Core.Path.{_≡_, refl, sym}
 use mathlib.Core.Bool.{Bool, true, false, cond, true≢false}
 use mathlib.Core.Logic.{_⊎_, inl, inr}
-use mathlib.Core.List.{List}
 use native.Mathlib.Omega.{arith}
 use lib.ListN.{getD}
 use lib.Dec.{leb, eqb}
@@ -13,7 +12,7 @@ use Rattle.record.specs.declared.Access.{Access}
 use Rattle.record.specs.declared.Hot.{Hot}
 use Rattle.record.specs.declared.Record.{Record}
 use Rattle.record.specs.Tests.{both, either, within, upTo, isFlag, isShort}
-use Rattle.record.specs.Valid.{deviceRanges, modeRanges, identityRanges, heldRanges, accessRanges, rangesOf, countersOf, cardOf, suciOf, validOf}
+use Rattle.record.specs.Valid.{deviceRanges, modeRanges, identityRanges, accessRanges, rangesOf, countersOf, cardOf, suciOf, validOf}
 use Rattle.record.proofs.Bounds.{one, rest, most}
 use Rattle.request.specs.Writing.{accessOf}
 

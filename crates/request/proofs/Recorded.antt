@@ -1,11 +1,11 @@
 -- The round trip of a record: reading what the writer writes gives what the record says. Assumes nothing.
 use Prim.Native.Nat.{ℕ, zero, suc, _+_, _*_, _<_, _≤_}
-use mathlib.Core.Path.{_≡_, refl, sym, _∙_, ap}
+use mathlib.Core.Path.{_≡_, refl, _∙_, ap}
 use mathlib.Core.Bool.{Bool, true, false, cond}
 use mathlib.Core.Logic.{_⊎_, inl, inr}
 use mathlib.Core.List.{List, [], _∷_, _++_}
 use native.Mathlib.Omega.{arith}
-use lib.ListN.{length, getD, take, drop, length-append}
+use lib.ListN.{length, getD, take, drop}
 use lib.Seq.{length-take-le, take-at, drop-at, take-all}
 use lib.Dec.{ltb, leb, eqb}
 use borrow.Author.Tests.{ltb-true, eqb-true}
@@ -17,7 +17,7 @@ use Rattle.record.specs.Tests.{both}
 use Rattle.record.specs.Valid.{validOf}
 use Rattle.record.proofs.Bounds.{rest}
 use Rattle.request.specs.Identity.{slotOf, partOf, identityOf}
-use Rattle.request.specs.Layout.{Fields, Fit, shown, layout}
+use Rattle.request.specs.Layout.{Fit, shown}
 use Rattle.request.specs.Reading.{askingOf, toldBy}
 use Rattle.request.specs.Reading.Said.{says}
 use Rattle.request.specs.Writing.{accessOf, gutisOf, lastOf, sayingOf, saysOf, fieldsOf, requestOf, answerOf, writtenOf, over, bufferOf}

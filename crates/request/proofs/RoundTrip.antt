@@ -5,17 +5,16 @@ use mathlib.Core.Bool.{Bool, true, false, cond}
 use mathlib.Core.Logic.{_⊎_, inl, inr}
 use mathlib.Core.List.{List, [], _∷_, _++_, append-assoc, append-nil}
 use native.Mathlib.Omega.{arith}
-use lib.ListN.{length, getD, take, drop, length-append}
+use lib.ListN.{length, getD, length-append}
 use lib.Seq.{take-at, drop-at}
-use lib.Dec.{ltb, leb, eqb}
+use lib.Dec.{eqb}
 use borrow.Author.Tests.{lt-ltb, le-ltb, le-leb, eq-eqb}
 use Rattle.octets.specs.declared.Part.{Part}
 use Rattle.octets.specs.declared.Gathered.the-variants.{Whole}
 use Rattle.octets.specs.Element.{gatherOf}
 use Rattle.request.specs.Layout.{Fields, Fit, headOf, lengthed, bare, opening, elements, octetsOf, shown, layout}
-use Rattle.request.specs.Reading.{isFourth, isIdentity, isCapability, isSecurity, isRequest, capabilityOf, saidOf, judgedOf, askedOf, partsReading, restReading, openedBy, typeReading, askingOf, cutOf, Said, toldBy}
+use Rattle.request.specs.Reading.{isFourth, isIdentity, isRequest, capabilityOf, saidOf, judgedOf, askedOf, partsReading, restReading, openedBy, typeReading, askingOf, cutOf, toldBy}
 use Rattle.request.specs.Reading.Said.{says}
-use Rattle.request.specs.declared.Asking.{Asking}
 use Rattle.request.specs.declared.Asking.the-variants as asking
 use Rattle.request.proofs.Parts.{heldAt, gathers, cut-lengthed, cut-bare, capable, secure, kept}
 

@@ -1,8 +1,8 @@
 -- "Identity: a GUTI of the pending network, else of an equivalent one (this access's list), else any, else SUCI; within each, this access's first."
 -- Assumes nothing.
 use Prim.Native.Nat.{ℕ, _+_, _-_, _*_}
-use mathlib.Core.Bool.{Bool, true, false, cond, not}
-use mathlib.Core.List.{List, _∷_, _++_}
+use mathlib.Core.Bool.{Bool, cond, not}
+use mathlib.Core.List.{List}
 use lib.ListN.{length, getD, take, drop}
 use lib.Dec.{ltb, eqb}
 use Rattle.laws.specs.Upto.{seekTo}

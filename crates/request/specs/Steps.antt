@@ -1,11 +1,11 @@
 -- What the parts of the writer do: pieces put one behind the other. Assumes nothing.
 use Prim.Native.Nat.{ℕ, _+_}
-use mathlib.Core.Bool.{Bool, true, false, cond}
-use mathlib.Core.List.{List, [], _∷_, _++_}
+use mathlib.Core.Bool.{cond}
+use mathlib.Core.List.{List, _∷_, _++_}
 use lib.ListN.{length, take, drop}
 use lib.Dec.{leb, eqb}
 use Rattle.record.specs.declared.Answer.the-variants.{Taken, Short}
-use Rattle.request.specs.Layout.{headOf, lengthed}
+use Rattle.request.specs.Layout.{lengthed}
 use Rattle.request.specs.Writing.{octets3, over}
 use Rattle.request.specs.declared.Written.{Written}
 

@@ -7,7 +7,7 @@ ghost use lib.ListN.{length};
 ghost use lib.Dec.{eqb};
 ghost use denote.Ref.{ptr};
 ghost use Rattle.laws.specs.Upto.{seekTo};
-ghost use Rattle.request.specs.Identity.{gutiNet, isPending, sizeOf, isAmong, isEquivalent, firstOf, orderOf, slotOf, partOf, partAt, identityOf};
+ghost use Rattle.request.specs.Identity.{gutiNet, isPending, sizeOf, isAmong, isEquivalent, firstOf, orderOf, slotOf, partAt, identityOf};
 
 // The network of the GUTI of an access: three octets behind its F2.
 fn net(gutis: &[u8], slot: usize) -> u32

@@ -12,7 +12,6 @@ pub use identity::choose;
 pub use reading::number;
 pub use reading::read;
 pub use writing::write;
-ghost use mathlib.Core.Path.{_≡_};
 
 // What a request says, each part as an offset and a length in its octets.
 pub struct Request {

@@ -1,7 +1,6 @@
 // The writing of a request, piece behind piece, into a lent buffer.
 use crate::Written;
 use crate::identity::choose;
-use crate::joins::and;
 use crate::joins::wide;
 use record::Access;
 use record::Answer;
