@@ -290,37 +290,48 @@ fn text_of(held: &[u8]) -> String {
     }
 }
 
-fn to_text(log: &[u8]) -> Parsed<String> {
+/// The record at an offset, kind and body; none where the log is cut or the length below 2.
+fn record_at(log: &[u8], at: usize) -> Option<&[u8]> {
+    let length = log.get(at..at + 2)?;
+    let length = u16::from_le_bytes([length[0], length[1]]) as usize;
+    log.get(at + 2..at + 2 + length).filter(|held| held.len() >= 2)
+}
+
+/// The text, up to a bad record if there is one.
+fn to_text(log: &[u8]) -> (String, Parsed<()>) {
     let mut text = String::new();
     let mut at = 0;
     while at < log.len() {
-        let bad = || format!("bad log at {at}");
-        let length = log.get(at..at + 2).ok_or_else(bad)?;
-        let length = u16::from_le_bytes([length[0], length[1]]) as usize;
-        let held = log.get(at + 2..at + 2 + length).ok_or_else(bad)?;
-        if length < 2 {
-            return Err(bad());
-        }
+        let Some(held) = record_at(log, at) else {
+            return (text, Err(format!("bad log at {at}")));
+        };
         text.push_str(&text_of(held));
         text.push('\n');
-        at += 2 + length;
+        at += 2 + held.len();
     }
-    Ok(text)
+    (text, Ok(()))
 }
 
-fn job() -> Parsed<Vec<u8>> {
+fn job() -> Parsed<()> {
     let mut input = Vec::new();
     io::stdin().read_to_end(&mut input).map_err(|error| error.to_string())?;
-    match std::env::args().nth(1).as_deref() {
-        Some("to-log") => to_log(&String::from_utf8(input).map_err(|_| "the text is not UTF-8")?),
-        Some("to-text") => to_text(&input).map(String::into_bytes),
-        _ => Err("say to-log or to-text; the log or the text comes on standard input".into()),
-    }
+    let (output, ended) = match std::env::args().nth(1).as_deref() {
+        Some("to-log") => {
+            let text = String::from_utf8(input).map_err(|_| "the text is not UTF-8")?;
+            (to_log(&text)?, Ok(()))
+        }
+        Some("to-text") => {
+            let (text, ended) = to_text(&input);
+            (text.into_bytes(), ended)
+        }
+        _ => return Err("say to-log or to-text; the log or the text comes on standard input".into()),
+    };
+    io::stdout().write_all(&output).map_err(|error| error.to_string())?;
+    ended
 }
 
 fn main() -> ExitCode {
-    let written = job().and_then(|output| io::stdout().write_all(&output).map_err(|error| error.to_string()));
-    match written {
+    match job() {
         Ok(()) => ExitCode::SUCCESS,
         Err(error) => {
             eprintln!("scenario: {error}");

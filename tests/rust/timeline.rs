@@ -32,7 +32,7 @@ const ANSWERS: [&str; 13] = [
 const ROW: usize = 26;
 const TOP: usize = 96;
 const EVENT: usize = 470;
-const LANE: usize = 150;
+const LANE: usize = 172;
 
 /// A network's entry on an access after an event.
 struct Entry {
