@@ -46,7 +46,8 @@ fn reaches(crates: &Graph, from: &str, to: &str) -> bool {
 fn lines(crates: &Graph) -> Vec<(String, String)> {
     let mut drawn = Vec::new();
     for (name, used) in crates {
-        let own: BTreeSet<&String> = used.iter().filter(|used| crates.contains_key(*used)).collect();
+        let own: BTreeSet<&String> =
+            used.iter().filter(|used| crates.contains_key(*used)).collect();
         for low in &own {
             if !own.iter().any(|high| high != low && reaches(crates, high, low)) {
                 drawn.push((name.clone(), low.to_string()));
@@ -94,8 +95,10 @@ impl Layout {
             [a, b] if b == name => Some(a),
             _ => None,
         });
-        let places: Vec<usize> = near.filter_map(|near| other.iter().position(|held| held == near)).collect();
-        let sum: usize = places.iter().map(|place| (2 * place + 1) * 1000 / (2 * other.len())).sum();
+        let places: Vec<usize> =
+            near.filter_map(|near| other.iter().position(|held| held == near)).collect();
+        let sum: usize =
+            places.iter().map(|place| (2 * place + 1) * 1000 / (2 * other.len())).sum();
         (!places.is_empty()).then(|| sum / places.len())
     }
 
@@ -104,7 +107,11 @@ impl Layout {
         for round in 0..8 {
             let count = self.rows.len();
             for step in 1..count {
-                let (row, other) = if round % 2 == 0 { (step, step - 1) } else { (count - 1 - step, count - step) };
+                let (row, other) = if round % 2 == 0 {
+                    (step, step - 1)
+                } else {
+                    (count - 1 - step, count - step)
+                };
                 let size = self.rows[row].len();
                 let mut keyed: Vec<(usize, String)> = Vec::new();
                 for (place, name) in self.rows[row].iter().enumerate() {
@@ -119,7 +126,12 @@ impl Layout {
 
     fn place(&self, name: &String) -> (usize, usize) {
         let widest = self.rows.iter().map(Vec::len).max().unwrap_or(1);
-        let (layer, row) = self.rows.iter().enumerate().find(|(_, row)| row.contains(name)).unwrap_or((0, &self.rows[0]));
+        let (layer, row) = self
+            .rows
+            .iter()
+            .enumerate()
+            .find(|(_, row)| row.contains(name))
+            .unwrap_or((0, &self.rows[0]));
         let at = row.iter().position(|held| held == name).unwrap_or(0);
         let x = (2 * at + 1) * widest * STEP / (2 * row.len());
         (x, 40 + (self.rows.len() - 1 - layer) * LAYER)
@@ -134,7 +146,10 @@ fn draw(crates: &Graph) -> String {
     let mut svg = format!(
         "<svg xmlns=\"http://www.w3.org/2000/svg\" width=\"{width}\" height=\"{height}\" font-family=\"sans-serif\" font-size=\"14\">\n<rect width=\"100%\" height=\"100%\" fill=\"white\"/>\n"
     );
-    let _ = writeln!(svg, r##"<text x="8" y="20" font-size="12" fill="#555">Each crate above what it stands on (from crates.txt)</text>"##);
+    let _ = writeln!(
+        svg,
+        r##"<text x="8" y="20" font-size="12" fill="#555">Each crate above what it stands on (from crates.txt)</text>"##
+    );
     for path in &layout.paths {
         let points: Vec<(usize, usize)> = path.iter().map(|name| layout.place(name)).collect();
         let mut line = format!("M{} {}", points[0].0, points[0].1 + HIGH);
@@ -146,14 +161,24 @@ fn draw(crates: &Graph) -> String {
     }
     for (name, used) in crates {
         let (x, y) = layout.place(name);
-        let kit: Vec<&str> = used.iter().filter(|used| !crates.contains_key(*used)).map(String::as_str).collect();
+        let kit: Vec<&str> =
+            used.iter().filter(|used| !crates.contains_key(*used)).map(String::as_str).collect();
         let (round, fill) = if kit.is_empty() { (2, "#e8f0fe") } else { (18, "#fff2cc") };
         let left = x - WIDE / 2;
-        let _ = writeln!(svg, r##"<rect x="{left}" y="{y}" width="{WIDE}" height="{HIGH}" rx="{round}" fill="{fill}" stroke="#444"/>"##);
+        let _ = writeln!(
+            svg,
+            r##"<rect x="{left}" y="{y}" width="{WIDE}" height="{HIGH}" rx="{round}" fill="{fill}" stroke="#444"/>"##
+        );
         let down = if kit.is_empty() { 25 } else { 18 };
-        let _ = writeln!(svg, r#"<text x="{x}" y="{}" text-anchor="middle">{name}</text>"#, y + down);
+        let _ =
+            writeln!(svg, r#"<text x="{x}" y="{}" text-anchor="middle">{name}</text>"#, y + down);
         if !kit.is_empty() {
-            let _ = writeln!(svg, r##"<text x="{x}" y="{}" text-anchor="middle" font-size="10" fill="#555">{}</text>"##, y + 33, kit.join(" "));
+            let _ = writeln!(
+                svg,
+                r##"<text x="{x}" y="{}" text-anchor="middle" font-size="10" fill="#555">{}</text>"##,
+                y + 33,
+                kit.join(" ")
+            );
         }
     }
     svg.push_str("</svg>\n");

@@ -54,7 +54,8 @@ fn number<T: std::str::FromStr>(word: &str, what: &str) -> Parsed<T> {
 /// Three octets: MCC2 MCC1, MNC3 MCC3, MNC2 MNC1, the third MNC digit F where there is none.
 fn network(word: &str) -> Parsed<Vec<u8>> {
     let Some((mcc, mnc)) = word.split_once('-') else {
-        return sized(word, 3).map_err(|_| format!("`{word}` is no network: 001-01 or six hex digits"));
+        return sized(word, 3)
+            .map_err(|_| format!("`{word}` is no network: 001-01 or six hex digits"));
     };
     let digits: Vec<u8> = mcc.bytes().chain(mnc.bytes()).collect();
     if mcc.len() != 3 || !(2..=3).contains(&mnc.len()) || !digits.iter().all(u8::is_ascii_digit) {
@@ -173,7 +174,8 @@ fn record(words: &mut Words) -> Parsed<Vec<u8>> {
         "timer" => {
             let name = words.next("the timer")?;
             let place = TIMERS.iter().position(|timer| *timer == name);
-            let place = place.ok_or_else(|| format!("`{name}` is no timer: {}", TIMERS.join(", ")))?;
+            let place =
+                place.ok_or_else(|| format!("`{name}` is no timer: {}", TIMERS.join(", ")))?;
             let access = if place == 3 && words.0.is_empty() { 0 } else { words.access()? };
             Ok(vec![4, 0, place as u8 + 1, access])
         }
@@ -283,7 +285,9 @@ fn text_of(held: &[u8]) -> String {
             message_text(*access, *protected, u16::from_le_bytes([*low, *high]), message)
         }
         [4, 0, 4, 0] => "timer T3247".into(),
-        [4, 0, number @ 1..=4, access] => format!("timer {} {access}", TIMERS[*number as usize - 1]),
+        [4, 0, number @ 1..=4, access] => {
+            format!("timer {} {access}", TIMERS[*number as usize - 1])
+        }
         [5, 0] => "power".into(),
         [6, 0, access, set] => format!("key {access} {set}"),
         _ => format!("raw {}", hex(held)),
@@ -324,7 +328,9 @@ fn job() -> Parsed<()> {
             let (text, ended) = to_text(&input);
             (text.into_bytes(), ended)
         }
-        _ => return Err("say to-log or to-text; the log or the text comes on standard input".into()),
+        _ => {
+            return Err("say to-log or to-text; the log or the text comes on standard input".into())
+        }
     };
     io::stdout().write_all(&output).map_err(|error| error.to_string())?;
     ended

@@ -25,8 +25,19 @@ const STATES: [(&str, &str); 7] = [
 ];
 
 const ANSWERS: [&str; 13] = [
-    "taken", "out of range", "ignored", "malformed", "table full", "no card", "wrong state",
-    "same network", "listed", "area listed", "unprotected accept", "not running", "short buffer",
+    "taken",
+    "out of range",
+    "ignored",
+    "malformed",
+    "table full",
+    "no card",
+    "wrong state",
+    "same network",
+    "listed",
+    "area listed",
+    "unprotected accept",
+    "not running",
+    "short buffer",
 ];
 
 const ROW: usize = 26;
@@ -91,7 +102,11 @@ fn entry(text: &str) -> Parsed<(String, Entry)> {
 fn access(part: &[&str]) -> Parsed<Access> {
     let state = after(part, "state")?;
     Ok(Access {
-        state: state.parse().ok().filter(|state| *state < STATES.len()).ok_or(format!("state {state}"))?,
+        state: state
+            .parse()
+            .ok()
+            .filter(|state| *state < STATES.len())
+            .ok_or(format!("state {state}"))?,
         attempts: after(part, "attempts")?.into(),
         cards: after(part, "cards")?.into(),
         entries: listed(after(part, "entries")?).map(entry).collect::<Parsed<_>>()?,
@@ -104,7 +119,8 @@ fn told(part: &[&str]) -> Parsed<String> {
     for (name, count) in [("T3510", 2), ("T3511", 2), ("T3502", 2), ("T3247", 1)] {
         let at = part.iter().position(|word| *word == name).ok_or(format!("no `{name}`"))?;
         for change in part.iter().skip(at + 1).take(count).filter(|change| **change != "left") {
-            let seconds = change.strip_prefix("started:").map(|seconds| format!("{name} runs {seconds} s"));
+            let seconds =
+                change.strip_prefix("started:").map(|seconds| format!("{name} runs {seconds} s"));
             text.push(seconds.unwrap_or(format!("{name} stops")));
         }
     }
@@ -118,26 +134,37 @@ fn told(part: &[&str]) -> Parsed<String> {
 }
 
 fn step(line: &str) -> Parsed<Step> {
-    let parts: Vec<Vec<&str>> = line.split('|').map(|part| part.split_whitespace().collect()).collect();
+    let parts: Vec<Vec<&str>> =
+        line.split('|').map(|part| part.split_whitespace().collect()).collect();
     let [reply, device, zero, one] = &parts[..] else {
         return Err("four parts are expected".into());
     };
     let answer = after(reply, "=")?;
     let at = device.iter().position(|word| *word == "limits").ok_or("no `limits`")?;
-    let limit = |place| device.get(at + place).map_or(String::new(), |word: &&str| word.to_string());
+    let limit =
+        |place| device.get(at + place).map_or(String::new(), |word: &&str| word.to_string());
     Ok(Step {
-        answer: answer.parse().ok().filter(|n| *n < ANSWERS.len()).ok_or(format!("answer {answer}"))?,
+        answer: answer
+            .parse()
+            .ok()
+            .filter(|n| *n < ANSWERS.len())
+            .ok_or(format!("answer {answer}"))?,
         t3247: after(device, "T3247")? == "1",
         told: told(reply)?,
         limits: [limit(1), limit(2), limit(3)],
-        areas: [listed(after(device, "roaming")?).count(), listed(after(device, "regional")?).count()],
+        areas: [
+            listed(after(device, "roaming")?).count(),
+            listed(after(device, "regional")?).count(),
+        ],
         access: vec![access(zero)?, access(one)?],
     })
 }
 
 fn steps(full: &str) -> Parsed<Vec<Step>> {
     let lines = full.lines().enumerate().filter(|(_, line)| line.starts_with('='));
-    lines.map(|(at, line)| step(line).map_err(|error| format!("line {}: {error}", at + 1))).collect()
+    lines
+        .map(|(at, line)| step(line).map_err(|error| format!("line {}: {error}", at + 1)))
+        .collect()
 }
 
 /// The SVG text and how to add to it.
@@ -145,7 +172,10 @@ struct Picture(String);
 
 impl Picture {
     fn bar(&mut self, x: usize, y: usize, width: usize, fill: &str) {
-        let _ = writeln!(self.0, r#"<rect x="{x}" y="{y}" width="{width}" height="{ROW}" fill="{fill}"/>"#);
+        let _ = writeln!(
+            self.0,
+            r#"<rect x="{x}" y="{y}" width="{width}" height="{ROW}" fill="{fill}"/>"#
+        );
     }
 
     fn text(&mut self, x: usize, y: usize, style: &str, text: &str) {
@@ -226,7 +256,12 @@ fn events(picture: &mut Picture, labels: &[&str], steps: &[Step]) {
         let colour = if step.answer == 0 { "#38761d" } else { "#990000" };
         let style = format!(r#"font-size="10" fill="{colour}""#);
         let told = if step.told.is_empty() { String::new() } else { format!(": {}", step.told) };
-        picture.text(24, y + 23, &style, &format!("{} {}{told}", step.answer, ANSWERS[step.answer]));
+        picture.text(
+            24,
+            y + 23,
+            &style,
+            &format!("{} {}{told}", step.answer, ANSWERS[step.answer]),
+        );
     }
 }
 
@@ -234,7 +269,12 @@ fn legend(picture: &mut Picture, y: usize) {
     let style = r##"font-size="11" fill="#333""##;
     let text = "Counters stand against their limits. Red: forbidden. Orange: N1 not allowed. Dark red: both. Grey: entry without a mark.";
     picture.text(6, y + 20, style, text);
-    picture.text(6, y + 36, style, "Violet: T3247 runs. A row shows the record after its event; rows are events, not times.");
+    picture.text(
+        6,
+        y + 36,
+        style,
+        "Violet: T3247 runs. A row shows the record after its event; rows are events, not times.",
+    );
 }
 
 fn draw(labels: &[&str], steps: &[Step]) -> String {
@@ -253,7 +293,12 @@ fn draw(labels: &[&str], steps: &[Step]) -> String {
         bottom + 48
     ));
     let _ = writeln!(picture.0, r#"<rect width="100%" height="100%" fill="white"/>"#);
-    picture.text(6, 24, r#"font-size="16" font-weight="bold""#, "What the replay makes of both accesses");
+    picture.text(
+        6,
+        24,
+        r#"font-size="16" font-weight="bold""#,
+        "What the replay makes of both accesses",
+    );
     state_lane(&mut picture, EVENT, 0, steps);
     state_lane(&mut picture, EVENT + LANE, 1, steps);
     clock_lane(&mut picture, EVENT + 2 * LANE, steps);
