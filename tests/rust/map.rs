@@ -138,18 +138,8 @@ impl Layout {
     }
 }
 
-fn draw(crates: &Graph) -> String {
-    let mut layout = layout(crates);
-    layout.untangle();
-    let widest = layout.rows.iter().map(Vec::len).max().unwrap_or(1);
-    let (width, height) = (widest * STEP, layout.rows.len() * LAYER + 30);
-    let mut svg = format!(
-        "<svg xmlns=\"http://www.w3.org/2000/svg\" width=\"{width}\" height=\"{height}\" font-family=\"sans-serif\" font-size=\"14\">\n<rect width=\"100%\" height=\"100%\" fill=\"white\"/>\n"
-    );
-    let _ = writeln!(
-        svg,
-        r##"<text x="8" y="20" font-size="12" fill="#555">Each crate above what it stands on (from crates.txt)</text>"##
-    );
+/// Lines between crates, straight within a layer and slanting between two.
+fn draw_lines(svg: &mut String, layout: &Layout) {
     for path in &layout.paths {
         let points: Vec<(usize, usize)> = path.iter().map(|name| layout.place(name)).collect();
         let mut line = format!("M{} {}", points[0].0, points[0].1 + HIGH);
@@ -159,27 +149,38 @@ fn draw(crates: &Graph) -> String {
         }
         let _ = writeln!(svg, r##"<path d="{line}" fill="none" stroke="#888"/>"##);
     }
+}
+
+fn draw_box(svg: &mut String, name: &str, kit: &str, x: usize, y: usize) {
+    let (round, fill, down) = if kit.is_empty() { (2, "#e8f0fe", 25) } else { (18, "#fff2cc", 18) };
+    let left = x - WIDE / 2;
+    let _ = write!(svg, r#"<rect x="{left}" y="{y}" width="{WIDE}" height="{HIGH}" "#);
+    let _ = writeln!(svg, r##"rx="{round}" fill="{fill}" stroke="#444"/>"##);
+    let middle = r#"text-anchor="middle""#;
+    let _ = writeln!(svg, r#"<text x="{x}" y="{}" {middle}>{name}</text>"#, y + down);
+    if !kit.is_empty() {
+        let small = r##"font-size="10" fill="#555""##;
+        let _ = writeln!(svg, r#"<text x="{x}" y="{}" {middle} {small}>{kit}</text>"#, y + 33);
+    }
+}
+
+fn draw(crates: &Graph) -> String {
+    let mut layout = layout(crates);
+    layout.untangle();
+    let widest = layout.rows.iter().map(Vec::len).max().unwrap_or(1);
+    let (width, height) = (widest * STEP, layout.rows.len() * LAYER + 30);
+    let mut svg = String::from("<svg xmlns=\"http://www.w3.org/2000/svg\" ");
+    let _ = write!(svg, r#"width="{width}" height="{height}" "#);
+    svg.push_str("font-family=\"sans-serif\" font-size=\"14\">\n");
+    svg.push_str("<rect width=\"100%\" height=\"100%\" fill=\"white\"/>\n");
+    svg.push_str("<text x=\"8\" y=\"20\" font-size=\"12\" fill=\"#555\">");
+    svg.push_str("Each crate above what it stands on (from crates.txt)</text>\n");
+    draw_lines(&mut svg, &layout);
     for (name, used) in crates {
         let (x, y) = layout.place(name);
         let kit: Vec<&str> =
             used.iter().filter(|used| !crates.contains_key(*used)).map(String::as_str).collect();
-        let (round, fill) = if kit.is_empty() { (2, "#e8f0fe") } else { (18, "#fff2cc") };
-        let left = x - WIDE / 2;
-        let _ = writeln!(
-            svg,
-            r##"<rect x="{left}" y="{y}" width="{WIDE}" height="{HIGH}" rx="{round}" fill="{fill}" stroke="#444"/>"##
-        );
-        let down = if kit.is_empty() { 25 } else { 18 };
-        let _ =
-            writeln!(svg, r#"<text x="{x}" y="{}" text-anchor="middle">{name}</text>"#, y + down);
-        if !kit.is_empty() {
-            let _ = writeln!(
-                svg,
-                r##"<text x="{x}" y="{}" text-anchor="middle" font-size="10" fill="#555">{}</text>"##,
-                y + 33,
-                kit.join(" ")
-            );
-        }
+        draw_box(&mut svg, name, &kit.join(" "), x, y);
     }
     svg.push_str("</svg>\n");
     svg

@@ -139,58 +139,66 @@ fn heard(access: u8, protected: u8, draw: u16, message: &[u8]) -> Vec<u8> {
     [&[3, 0, access, protected, low, high], message].concat()
 }
 
+fn card(words: &mut Words) -> Parsed<Vec<u8>> {
+    let home = network(words.next("the home network")?)?;
+    Ok([vec![1, 0], home, octets(words.next("the SUCI")?)?].concat())
+}
+
+fn start(words: &mut Words) -> Parsed<Vec<u8>> {
+    let access = words.access()?;
+    let started = network(words.next("the network")?)?;
+    if !words.takes("area") {
+        return Err("`area` and the area code are missing".into());
+    }
+    let code = sized(words.next("the area code")?, 3)?;
+    let manual = u8::from(words.takes("manual"));
+    Ok([vec![2, 0, access, manual], started, code].concat())
+}
+
+fn reject(words: &mut Words) -> Parsed<Vec<u8>> {
+    let access = words.access()?;
+    let cause = number(words.next("the cause")?, "cause: 0 to 255")?;
+    let protected = words.protection()?;
+    Ok(heard(access, protected, words.draw()?, &[0x7E, 0x00, 0x44, cause]))
+}
+
+fn timer(words: &mut Words) -> Parsed<Vec<u8>> {
+    let name = words.next("the timer")?;
+    let place = TIMERS.iter().position(|timer| *timer == name);
+    let place = place.ok_or_else(|| format!("`{name}` is no timer: {}", TIMERS.join(", ")))?;
+    let access = if place == 3 && words.0.is_empty() { 0 } else { words.access()? };
+    Ok(vec![4, 0, place as u8 + 1, access])
+}
+
+fn raw(words: &mut Words) -> Parsed<Vec<u8>> {
+    let got = octets(&words.rest())?;
+    if got.len() < 2 {
+        return Err("a record has at least its two kind octets".into());
+    }
+    Ok(got)
+}
+
 /// A line's record, kind and body.
 fn record(words: &mut Words) -> Parsed<Vec<u8>> {
     match words.next("the event")? {
-        "card" => {
-            let home = network(words.next("the home network")?)?;
-            Ok([vec![1, 0], home, octets(words.next("the SUCI")?)?].concat())
-        }
-        "start" => {
-            let access = words.access()?;
-            let started = network(words.next("the network")?)?;
-            if !words.takes("area") {
-                return Err("`area` and the area code are missing".into());
-            }
-            let code = sized(words.next("the area code")?, 3)?;
-            let manual = u8::from(words.takes("manual"));
-            Ok([vec![2, 0, access, manual], started, code].concat())
-        }
-        "reject" => {
-            let access = words.access()?;
-            let cause = number(words.next("the cause")?, "cause: 0 to 255")?;
-            let protected = words.protection()?;
-            Ok(heard(access, protected, words.draw()?, &[0x7E, 0x00, 0x44, cause]))
-        }
+        "card" => card(words),
+        "start" => start(words),
+        "reject" => reject(words),
         "accept" => {
             let (access, protected) = (words.access()?, words.protection()?);
             Ok(heard(access, protected, words.draw()?, &accept(words)?))
         }
         "message" => {
             let (access, protected) = (words.access()?, words.protection()?);
-            let draw = words.draw()?;
-            Ok(heard(access, protected, draw, &octets(&words.rest())?))
+            Ok(heard(access, protected, words.draw()?, &octets(&words.rest())?))
         }
-        "timer" => {
-            let name = words.next("the timer")?;
-            let place = TIMERS.iter().position(|timer| *timer == name);
-            let place =
-                place.ok_or_else(|| format!("`{name}` is no timer: {}", TIMERS.join(", ")))?;
-            let access = if place == 3 && words.0.is_empty() { 0 } else { words.access()? };
-            Ok(vec![4, 0, place as u8 + 1, access])
-        }
+        "timer" => timer(words),
         "power" => Ok(vec![5, 0]),
         "key" => {
             let access = words.access()?;
             Ok(vec![6, 0, access, number(words.next("the key set")?, "key set: 0 to 255")?])
         }
-        "raw" => {
-            let got = octets(&words.rest())?;
-            if got.len() < 2 {
-                return Err("a record has at least its two kind octets".into());
-            }
-            Ok(got)
-        }
+        "raw" => raw(words),
         word => Err(format!(
             "`{word}` is no event: card, start, reject, accept, message, timer, power, key or raw"
         )),

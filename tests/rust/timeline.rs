@@ -266,39 +266,38 @@ fn events(picture: &mut Picture, labels: &[&str], steps: &[Step]) {
 }
 
 fn legend(picture: &mut Picture, y: usize) {
-    let style = r##"font-size="11" fill="#333""##;
-    let text = "Counters stand against their limits. Red: forbidden. Orange: N1 not allowed. Dark red: both. Grey: entry without a mark.";
-    picture.text(6, y + 20, style, text);
-    picture.text(
-        6,
-        y + 36,
-        style,
-        "Violet: T3247 runs. A row shows the record after its event; rows are events, not times.",
-    );
+    let lines = [
+        "Counters stand against their limits. A row shows the record after its event; rows are events, not times.",
+        "Red: forbidden. Orange: N1 not allowed. Dark red: both. Grey: entry without a mark. Violet: T3247 runs.",
+    ];
+    for (place, text) in lines.iter().enumerate() {
+        picture.text(6, y + 20 + place * 16, r##"font-size="11" fill="#333""##, text);
+    }
+}
+
+/// Each network that an access ever held an entry of.
+fn held(steps: &[Step]) -> Vec<(usize, &String)> {
+    let mut lanes: Vec<(usize, &String)> = Vec::new();
+    for step in steps {
+        for (which, access) in step.access.iter().enumerate() {
+            lanes.extend(access.entries.keys().map(|name| (which, name)));
+        }
+    }
+    lanes.sort();
+    lanes.dedup();
+    lanes
 }
 
 fn draw(labels: &[&str], steps: &[Step]) -> String {
-    let mut lanes = Vec::new();
-    for which in 0..2 {
-        let held = steps.iter().flat_map(|step| step.access[which].entries.keys());
-        let mut names: Vec<&String> = held.collect();
-        names.sort();
-        names.dedup();
-        lanes.extend(names.into_iter().map(|name| (which, name)));
-    }
-    let width = (EVENT + 3 * LANE + lanes.len() * LANE + 8).max(780);
+    let lanes = held(steps);
+    let width = (EVENT + (3 + lanes.len()) * LANE + 8).max(780);
     let bottom = TOP + steps.len() * ROW;
-    let mut picture = Picture(format!(
-        "<svg xmlns=\"http://www.w3.org/2000/svg\" width=\"{width}\" height=\"{}\" font-family=\"sans-serif\" font-size=\"12\">\n",
-        bottom + 48
-    ));
-    let _ = writeln!(picture.0, r#"<rect width="100%" height="100%" fill="white"/>"#);
-    picture.text(
-        6,
-        24,
-        r#"font-size="16" font-weight="bold""#,
-        "What the replay makes of both accesses",
-    );
+    let mut picture = Picture(String::from("<svg xmlns=\"http://www.w3.org/2000/svg\" "));
+    let _ = write!(picture.0, r#"width="{width}" height="{}" "#, bottom + 48);
+    picture.0.push_str("font-family=\"sans-serif\" font-size=\"12\">\n");
+    picture.0.push_str("<rect width=\"100%\" height=\"100%\" fill=\"white\"/>\n");
+    let title = "What the replay makes of both accesses";
+    picture.text(6, 24, r#"font-size="16" font-weight="bold""#, title);
     state_lane(&mut picture, EVENT, 0, steps);
     state_lane(&mut picture, EVENT + LANE, 1, steps);
     clock_lane(&mut picture, EVENT + 2 * LANE, steps);
