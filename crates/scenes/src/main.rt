@@ -44,12 +44,18 @@ fn one(r: Record, number: u64) -> Turn
 {
     let n = log::head();
     if n < 2 {
-        return Turn { next: r, used: wide(n) };
+        return Turn {
+            next: r,
+            used: wide(n),
+        };
     }
     let mut body = [0u8; 65536];
     if log::fill(&mut body, n) {
         let next = event(r, number, &body[..n]);
-        return Turn { next, used: wide(n) + 2 };
+        return Turn {
+            next,
+            used: wide(n) + 2,
+        };
     }
     Turn { next: r, used: 1 }
 }
