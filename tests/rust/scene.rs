@@ -277,7 +277,11 @@ fn items(list: &str) -> Vec<String> {
 }
 
 fn joined(items: &[String]) -> String {
-    if items.is_empty() { "-".to_string() } else { items.join(",") }
+    if items.is_empty() {
+        "-".to_string()
+    } else {
+        items.join(",")
+    }
 }
 
 /// What is expected after an event, from what stood before it.
@@ -295,7 +299,11 @@ impl Hope<'_> {
     /// A field without an access in front is the device's or of the event's access.
     fn name(&self, word: &str) -> String {
         let device = DEVICE.contains(&word) || ASKED.contains(&word);
-        if device || word.contains('.') { word.to_string() } else { format!("{}.{word}", self.scene.access) }
+        if device || word.contains('.') {
+            word.to_string()
+        } else {
+            format!("{}.{word}", self.scene.access)
+        }
     }
 
     fn timer(&mut self, timer: &str, flag: &str, told: &str) {
@@ -416,7 +424,12 @@ fn check(scenes: &[Scene], cut: &[u8], output: &str) -> usize {
         let hope = hoped(scene, &before);
         for (name, value) in &hope {
             if now.get(name) != Some(value) {
-                println!("{}: event {}: {name} is {:?}, not {value}", scene.place, i + 1, now.get(name));
+                println!(
+                    "{}: event {}: {name} is {:?}, not {value}",
+                    scene.place,
+                    i + 1,
+                    now.get(name)
+                );
                 wrong += 1;
             }
         }

@@ -1,7 +1,6 @@
 // Prints the whole reply and the whole record after each event of the log on standard input, as the second program does with
 // `--full`: docs/src/full.rs says what stands on a line.
 ghost use Prim.Native.Nat.{_<_};
-use libc::STDIN_FILENO;
 use libc::STDOUT_FILENO;
 use record::Record;
 

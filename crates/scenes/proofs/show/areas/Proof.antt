@@ -1,3 +1,4 @@
+-- `scenes::show::areas` is safe and ends: the areas left fall, and there are at most forty. Assumes nothing.
 use Prim.Native.Nat.{_≤_, _-_}
 use borrow.Author.Needs.{needs}
 use Rattle.scenes.proofs.show.areas.Statement.{statement}

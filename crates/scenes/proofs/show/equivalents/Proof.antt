@@ -1,3 +1,4 @@
+-- `scenes::show::equivalents` is safe and ends: the networks left fall, and there are at most fifteen. Assumes nothing.
 use Prim.Native.Nat.{_≤_, _-_}
 use borrow.Author.Needs.{needs}
 use Rattle.scenes.proofs.show.equivalents.Statement.{statement}

@@ -1,3 +1,4 @@
+-- `scenes::show::hex` is safe and ends: the octets left fall, and none past the end is read. Assumes nothing.
 use Prim.Native.Nat.{_≤_, _-_}
 use borrow.Author.Needs.{needs}
 use Rattle.scenes.proofs.show.hex.Statement.{statement}

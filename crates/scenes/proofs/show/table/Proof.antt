@@ -1,3 +1,4 @@
+-- `scenes::show::table` is safe and ends: the entries left fall, and there are at most sixteen. Assumes nothing.
 use Prim.Native.Nat.{_≤_, _-_}
 use borrow.Author.Needs.{needs}
 use Rattle.scenes.proofs.show.table.Statement.{statement}
