@@ -8,7 +8,7 @@
 /*
  * The cause of a registration reject, msg[0] to msg[len - 1]: 0 to 255.
  * For any other message it is 256 plus the refusal's number: 259 for one that is malformed or is no reject, an accept too.
- * The octets are read only, and only during the call. msg may be null where len is 0.
+ * The octets are read only, and only during the call. msg must not be null, also where len is 0: the library takes every pointer as valid.
  */
 uint32_t reject_cause(const uint8_t *msg, size_t len);
 
