@@ -12,6 +12,18 @@ use turns::Orders;
 use turns::Row;
 use turns::Told;
 use turns::Turn;
+
+mod answers;
+mod decision;
+mod effects;
+mod hot;
+mod joins;
+mod replies;
+
+pub use decision::ask_of;
+pub use decision::heard;
+pub use decision::plan_of;
+pub use replies::refused_reply;
 ghost use mathlib.Core.Path.{_≡_};
 
 // A card's SUCI and a message's octets come beside the event.

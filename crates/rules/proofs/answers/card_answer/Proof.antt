@@ -1,0 +1,39 @@
+-- Each test is what its function ensures, and the checks go in the order of the definition. Assumes nothing.
+use Rattle.rules.specs.Answers.{cardAnswer}
+use borrow.Author.Needs.{needs}
+use Rattle.rules.proofs.answers.card_answer.Statement.{statement}
+use Rattle.rules.proofs.answers.card_answer.Tie as tie
+
+and-requires : tie.Need-and-requires
+and-requires c κs = search needs
+
+opening-requires : tie.Need-opening-requires
+opening-requires c κs = search needs
+
+and-requires-2 : tie.Need-and-requires-2
+and-requires-2 c κs = search needs
+
+network-requires : tie.Need-network-requires
+network-requires c κs = search needs
+
+and-requires-3 : tie.Need-and-requires-3
+and-requires-3 c κs = search needs
+
+check-requires : tie.Need-check-requires
+check-requires c κs = search needs
+
+returns : tie.Need-returns
+unfolding cardAnswer
+returns c = cc
+
+pub card-answer-spec : {M : Type 1} → statement M
+card-answer-spec =
+    tie.close
+    (tie.spec
+    and-requires
+    opening-requires
+    and-requires-2
+    network-requires
+    and-requires-3
+    check-requires
+    returns)

@@ -1,0 +1,21 @@
+-- The joins are those of the definition, in its order. Assumes nothing.
+use Rattle.rules.specs.Answers.{isFull}
+use borrow.Author.Needs.{needs}
+use Rattle.rules.proofs.answers.is_full.Statement.{statement}
+use Rattle.rules.proofs.answers.is_full.Tie as tie
+
+needs-entry-requires : tie.Need-needs-entry-requires
+needs-entry-requires c κs = search needs
+
+not-requires : tie.Need-not-requires
+not-requires c κs = search needs
+
+and-requires : tie.Need-and-requires
+and-requires c κs = search needs
+
+returns : tie.Need-returns
+unfolding isFull
+returns c = cc
+
+pub is-full-spec : {M : Type 1} → statement M
+is-full-spec = tie.close (tie.spec needs-entry-requires not-requires and-requires returns)

@@ -1,0 +1,18 @@
+-- Each test is what its function ensures, and the checks go in the order of the definition. Assumes nothing.
+use Rattle.rules.specs.Answers.{rowNow}
+use borrow.Author.Needs.{needs}
+use Rattle.rules.proofs.answers.row_now.Statement.{statement}
+use Rattle.rules.proofs.answers.row_now.Tie as tie
+
+access-of-requires : tie.Need-access-of-requires
+access-of-requires c κs = search needs
+
+row-of-requires : tie.Need-row-of-requires
+row-of-requires c κs = search needs
+
+returns : tie.Need-returns
+unfolding rowNow
+returns c = cc
+
+pub row-now-spec : {M : Type 1} → statement M
+row-now-spec = tie.close (tie.spec access-of-requires row-of-requires returns)

@@ -1,0 +1,25 @@
+-- Each test is what its function ensures, and the checks go in the order of the definition. Assumes nothing.
+use Rattle.rules.specs.Answers.{runs}
+use borrow.Author.Needs.{needs}
+use Rattle.rules.proofs.answers.runs.Statement.{statement}
+use Rattle.rules.proofs.answers.runs.Tie as tie
+
+access-of-requires : tie.Need-access-of-requires
+access-of-requires c κs = search needs
+
+pick-requires : tie.Need-pick-requires
+pick-requires c κs = search needs
+
+pick-requires-2 : tie.Need-pick-requires-2
+pick-requires-2 c κs = search needs
+
+pick-requires-3 : tie.Need-pick-requires-3
+pick-requires-3 c κs = search needs
+
+returns : tie.Need-returns
+unfolding runs
+returns c = cc
+
+pub runs-spec : {M : Type 1} → statement M
+runs-spec =
+    tie.close (tie.spec access-of-requires pick-requires pick-requires-2 pick-requires-3 returns)

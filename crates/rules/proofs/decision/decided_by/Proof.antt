@@ -1,0 +1,37 @@
+-- The test of the answer picks the plan. Assumes nothing.
+use Rattle.rules.specs.Plan.{decidedBy}
+use mathlib.Core.Path.{sym, _∙_}
+use borrow.Author.Needs.{needs}
+use Rattle.rules.proofs.decision.decided_by.Statement.{statement}
+use Rattle.rules.proofs.decision.decided_by.Tie as tie
+
+taken-requires : tie.Need-taken-requires
+taken-requires c κs = search needs
+
+effect-of-requires : tie.Need-effect-of-requires
+effect-of-requires c κs = c .before .before .before .pre (sym (c .before .taken .ensures) ∙ c .if1 .taken)
+
+taken-plan-requires : tie.Need-taken-plan-requires
+taken-plan-requires c κs = search needs
+
+returns : tie.Need-returns
+unfolding decidedBy
+returns c = rw (← c .before .before .before .taken .ensures, c .before .before .if1 .taken, c .taken-plan .ensures, c .before .effect-of .ensures)
+
+refused-plan-requires : tie.Need-refused-plan-requires
+refused-plan-requires c κs = search needs
+
+returns-2 : tie.Need-returns-2
+unfolding decidedBy
+returns-2 c = rw (← c .before .before .taken .ensures, c .before .if1 .left) (c .refused-plan .ensures)
+
+pub decided-by-spec : {M : Type 1} → statement M
+decided-by-spec =
+    tie.close
+    (tie.spec
+    taken-requires
+    effect-of-requires
+    taken-plan-requires
+    returns
+    refused-plan-requires
+    returns-2)

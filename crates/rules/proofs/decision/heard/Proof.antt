@@ -1,0 +1,77 @@
+-- Event by event, as the definition. Assumes nothing.
+use Rattle.rules.specs.Plan.{heardOf}
+use borrow.Author.Needs.{needs}
+use Rattle.rules.proofs.decision.heard.Statement.{statement}
+use Rattle.rules.proofs.decision.heard.Tie as tie
+
+enum-told : tie.Need-enum-told
+enum-told c = search needs
+
+enum-told-2 : tie.Need-enum-told-2
+enum-told-2 c = search needs
+
+enum-told-3 : tie.Need-enum-told-3
+enum-told-3 c = search needs
+
+read-requires : tie.Need-read-requires
+read-requires c κs = search needs
+
+enum-told-4 : tie.Need-enum-told-4
+enum-told-4 c = search needs
+
+enum-told-5 : tie.Need-enum-told-5
+enum-told-5 c = search needs
+
+enum-told-6 : tie.Need-enum-told-6
+enum-told-6 c = search needs
+
+enum-told-7 : tie.Need-enum-told-7
+enum-told-7 c = search needs
+
+returns : tie.Need-returns
+unfolding heardOf
+returns c = cc
+
+returns-2 : tie.Need-returns-2
+unfolding heardOf
+returns-2 c = cc
+
+returns-3 : tie.Need-returns-3
+unfolding heardOf
+returns-3 c = cc
+
+returns-4 : tie.Need-returns-4
+unfolding heardOf
+returns-4 c = cc
+
+returns-5 : tie.Need-returns-5
+unfolding heardOf
+returns-5 c = cc
+
+returns-6 : tie.Need-returns-6
+unfolding heardOf
+returns-6 c = cc
+
+returns-7 : tie.Need-returns-7
+unfolding heardOf
+returns-7 c = cc
+
+pub heard-spec : {M : Type 1} → statement M
+heard-spec =
+    tie.close
+    (tie.spec
+    enum-told
+    enum-told-2
+    enum-told-3
+    read-requires
+    enum-told-4
+    enum-told-5
+    enum-told-6
+    enum-told-7
+    returns
+    returns-2
+    returns-3
+    returns-4
+    returns-5
+    returns-6
+    returns-7)

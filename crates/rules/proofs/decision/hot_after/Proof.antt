@@ -1,0 +1,35 @@
+-- Each part is what its function ensures. Assumes nothing.
+use Rattle.rules.specs.Plan.{hotAfter}
+use borrow.Author.Needs.{needs}
+use Rattle.rules.proofs.decision.hot_after.Statement.{statement}
+use Rattle.rules.proofs.decision.hot_after.Tie as tie
+
+flag-after-requires : tie.Need-flag-after-requires
+flag-after-requires c κs = search needs
+
+ticked-requires : tie.Need-ticked-requires
+ticked-requires c κs = search needs
+
+turned-requires : tie.Need-turned-requires
+turned-requires c κs = search needs
+
+turned-requires-2 : tie.Need-turned-requires-2
+turned-requires-2 c κs = search needs
+
+hot-of-requires : tie.Need-hot-of-requires
+hot-of-requires c κs = search needs
+
+returns : tie.Need-returns
+unfolding hotAfter
+returns c = cc
+
+pub hot-after-spec : {M : Type 1} → statement M
+hot-after-spec =
+    tie.close
+    (tie.spec
+    flag-after-requires
+    ticked-requires
+    turned-requires
+    turned-requires-2
+    hot-of-requires
+    returns)

@@ -1,0 +1,22 @@
+-- Each part is what its function ensures. Assumes nothing.
+use Rattle.rules.specs.Plan.{refusedPlan}
+use borrow.Author.Needs.{needs}
+use Rattle.rules.proofs.decision.refused_plan.Statement.{statement}
+use Rattle.rules.proofs.decision.refused_plan.Tie as tie
+
+refused-reply-requires : tie.Need-refused-reply-requires
+refused-reply-requires c κs = search needs
+
+idle-requires : tie.Need-idle-requires
+idle-requires c κs = search needs
+
+gift-of-requires : tie.Need-gift-of-requires
+gift-of-requires c κs = search needs
+
+returns : tie.Need-returns
+unfolding refusedPlan
+returns c = cc
+
+pub refused-plan-spec : {M : Type 1} → statement M
+refused-plan-spec =
+    tie.close (tie.spec refused-reply-requires idle-requires gift-of-requires returns)

@@ -1,0 +1,39 @@
+-- Each part is what its function ensures. Assumes nothing.
+use Rattle.rules.specs.Effects.{acceptEffect}
+use borrow.Author.Needs.{needs}
+use Rattle.rules.proofs.effects.accept_effect.Statement.{statement}
+use Rattle.rules.proofs.effects.accept_effect.Tie as tie
+
+wait-of-requires : tie.Need-wait-of-requires
+wait-of-requires c κs = search needs
+
+access-of-requires : tie.Need-access-of-requires
+access-of-requires c κs = search needs
+
+accepted-requires : tie.Need-accepted-requires
+accepted-requires c κs = search needs
+
+other-of-requires : tie.Need-other-of-requires
+other-of-requires c κs = search needs
+
+still-requires : tie.Need-still-requires
+still-requires c κs = search needs
+
+work-of-requires : tie.Need-work-of-requires
+work-of-requires c κs = search needs
+
+returns : tie.Need-returns
+unfolding acceptEffect
+returns c = cc
+
+pub accept-effect-spec : {M : Type 1} → statement M
+accept-effect-spec =
+    tie.close
+    (tie.spec
+    wait-of-requires
+    access-of-requires
+    accepted-requires
+    other-of-requires
+    still-requires
+    work-of-requires
+    returns)

@@ -1,0 +1,21 @@
+-- Each part is what its function ensures. Assumes nothing.
+use Rattle.rules.specs.Effects.{cardEffect}
+use borrow.Author.Needs.{needs}
+use Rattle.rules.proofs.effects.card_effect.Statement.{statement}
+use Rattle.rules.proofs.effects.card_effect.Tie as tie
+
+carded-requires : tie.Need-carded-requires
+carded-requires c κs = search needs
+
+renewed-requires : tie.Need-renewed-requires
+renewed-requires c κs = search needs
+
+work-of-requires : tie.Need-work-of-requires
+work-of-requires c κs = search needs
+
+returns : tie.Need-returns
+unfolding cardEffect
+returns c = cc
+
+pub card-effect-spec : {M : Type 1} → statement M
+card-effect-spec = tie.close (tie.spec carded-requires renewed-requires work-of-requires returns)

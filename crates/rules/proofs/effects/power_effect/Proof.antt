@@ -1,0 +1,21 @@
+-- Each part is what its function ensures. Assumes nothing.
+use Rattle.rules.specs.Effects.{powerEffect}
+use borrow.Author.Needs.{needs}
+use Rattle.rules.proofs.effects.power_effect.Statement.{statement}
+use Rattle.rules.proofs.effects.power_effect.Tie as tie
+
+cycled-requires : tie.Need-cycled-requires
+cycled-requires c κs = search needs
+
+cycled-requires-2 : tie.Need-cycled-requires-2
+cycled-requires-2 c κs = search needs
+
+work-of-requires : tie.Need-work-of-requires
+work-of-requires c κs = search needs
+
+returns : tie.Need-returns
+unfolding powerEffect
+returns c = cc
+
+pub power-effect-spec : {M : Type 1} → statement M
+power-effect-spec = tie.close (tie.spec cycled-requires cycled-requires-2 work-of-requires returns)

@@ -1,0 +1,39 @@
+-- Each part is what its function ensures. Assumes nothing.
+use Rattle.rules.specs.Effects.{rejectEffect}
+use borrow.Author.Needs.{needs}
+use Rattle.rules.proofs.effects.reject_effect.Statement.{statement}
+use Rattle.rules.proofs.effects.reject_effect.Tie as tie
+
+access-of-requires : tie.Need-access-of-requires
+access-of-requires c κs = search needs
+
+row-turn-requires : tie.Need-row-turn-requires
+row-turn-requires c κs = search needs
+
+other-of-requires : tie.Need-other-of-requires
+other-of-requires c κs = search needs
+
+other-turn-requires : tie.Need-other-turn-requires
+other-turn-requires c κs = search needs
+
+reject-t3247-requires : tie.Need-reject-t3247-requires
+reject-t3247-requires c κs = search needs
+
+row-work-requires : tie.Need-row-work-requires
+row-work-requires c κs = search needs
+
+returns : tie.Need-returns
+unfolding rejectEffect
+returns c = rw (c .row-work .ensures, c .before .reject-t3247 .ensures, c .before .before .other-turn .ensures, c .before .before .before .other-of .ensures, c .before .before .before .before .row-turn .ensures, c .before .before .before .before .before .access-of .ensures)
+
+pub reject-effect-spec : {M : Type 1} → statement M
+reject-effect-spec =
+    tie.close
+    (tie.spec
+    access-of-requires
+    row-turn-requires
+    other-of-requires
+    other-turn-requires
+    reject-t3247-requires
+    row-work-requires
+    returns)

@@ -1,0 +1,21 @@
+-- Each part is what its function ensures. Assumes nothing.
+use Rattle.rules.specs.Effects.{t3247Effect}
+use borrow.Author.Needs.{needs}
+use Rattle.rules.proofs.effects.t3247_effect.Statement.{statement}
+use Rattle.rules.proofs.effects.t3247_effect.Tie as tie
+
+still-requires : tie.Need-still-requires
+still-requires c κs = search needs
+
+still-requires-2 : tie.Need-still-requires-2
+still-requires-2 c κs = search needs
+
+work-of-requires : tie.Need-work-of-requires
+work-of-requires c κs = search needs
+
+returns : tie.Need-returns
+unfolding t3247Effect
+returns c = cc
+
+pub t3247-effect-spec : {M : Type 1} → statement M
+t3247-effect-spec = tie.close (tie.spec still-requires still-requires-2 work-of-requires returns)

@@ -1,0 +1,39 @@
+-- Each part is what its function ensures. Assumes nothing.
+use Rattle.rules.specs.Plan.{takenReply}
+use borrow.Author.Needs.{needs}
+use Rattle.rules.proofs.replies.taken_reply.Statement.{statement}
+use Rattle.rules.proofs.replies.taken_reply.Tie as tie
+
+orders-by-requires : tie.Need-orders-by-requires
+orders-by-requires c κs = search needs
+
+clocks-of-requires : tie.Need-clocks-of-requires
+clocks-of-requires c κs = search needs
+
+orders-by-requires-2 : tie.Need-orders-by-requires-2
+orders-by-requires-2 c κs = search needs
+
+clocks-of-requires-2 : tie.Need-clocks-of-requires-2
+clocks-of-requires-2 c κs = search needs
+
+told-of-requires : tie.Need-told-of-requires
+told-of-requires c κs = search needs
+
+asked-on-requires : tie.Need-asked-on-requires
+asked-on-requires c κs = search needs
+
+returns : tie.Need-returns
+unfolding takenReply
+returns c = cc
+
+pub taken-reply-spec : {M : Type 1} → statement M
+taken-reply-spec =
+    tie.close
+    (tie.spec
+    orders-by-requires
+    clocks-of-requires
+    orders-by-requires-2
+    clocks-of-requires-2
+    told-of-requires
+    asked-on-requires
+    returns)

@@ -1,0 +1,273 @@
+// What an event comes to: its answer; if taken its effect, else nothing changed.
+use crate::Ask;
+use crate::Effect;
+use crate::Event;
+use crate::Plan;
+use crate::answers::card_answer;
+use crate::answers::key_answer;
+use crate::answers::message_answer;
+use crate::answers::row_now;
+use crate::answers::start_answer;
+use crate::answers::timer_answer;
+use crate::effects::accept_effect;
+use crate::effects::card_effect;
+use crate::effects::idle;
+use crate::effects::key_effect;
+use crate::effects::plain;
+use crate::effects::power_effect;
+use crate::effects::reject_effect;
+use crate::effects::start_effect;
+use crate::effects::ticked;
+use crate::effects::timer_effect;
+use crate::hot::access_of;
+use crate::hot::hot_of;
+use crate::replies::refused_reply;
+use crate::replies::taken_reply;
+use entries::Seen;
+use messages::Accept;
+use messages::Reading;
+use octets::Fault;
+use record::Access;
+use record::Answer;
+use record::Hot;
+use record::taken;
+use turns::Order;
+use turns::Turn;
+use turns::clocked;
+use turns::still;
+ghost use mathlib.Core.Path.{_≡_};
+ghost use mathlib.Core.Bool.{true, false};
+ghost use Prim.Native.Nat.{ℕ, _<_};
+ghost use lib.ListN.{length};
+ghost use Rattle.record.specs.Answers.{isTaken};
+ghost use Rattle.turns.specs.Timers.{flagAfter};
+ghost use Rattle.turns.specs.Access as sets;
+ghost use Rattle.turns.specs.Turns as events;
+ghost use Rattle.rules.specs.Hot.{accessOf};
+ghost use Rattle.rules.specs.Effects as effects;
+ghost use Rattle.rules.specs.Plan as rules;
+
+pub fn heard(e: Event, octets: &[u8]) -> Reading
+    ensures { λ r. ⌜ r ≡ rules.heardOf e (now (octets .entry)) ⌝ }
+{
+    match e {
+        Event::Card(_) => Reading::Bad(Fault::Cut, 0),
+        Event::Start {
+            access: _,
+            manual: _,
+            net: _,
+            code: _,
+        } => Reading::Bad(Fault::Cut, 0),
+        Event::Message {
+            access: _,
+            sure: _,
+            draw: _,
+        } => messages::read(octets),
+        Event::Timer {
+            number: _,
+            access: _,
+        } => Reading::Bad(Fault::Cut, 0),
+        Event::Power => Reading::Bad(Fault::Cut, 0),
+        Event::Key { access: _, set: _ } => Reading::Bad(Fault::Cut, 0),
+        Event::Unknown => Reading::Bad(Fault::Cut, 0),
+    }
+}
+
+fn ask_at(access: u8, net: u32, code: u32, area: bool, sure: u8) -> Ask
+    ensures { λ r. ⌜ r ≡ rules.askAt access net code area sure ⌝ }
+{
+    Ask {
+        access,
+        net,
+        code,
+        area,
+        sure,
+    }
+}
+
+pub fn ask_of(h: Hot, e: Event) -> Ask
+    ensures { λ r. ⌜ r ≡ rules.askOf h e ⌝ }
+{
+    match e {
+        Event::Card(_) => ask_at(0, 0, 0, false, 0),
+        Event::Start {
+            access,
+            manual: _,
+            net,
+            code,
+        } => ask_at(access, net, code, access == 0, 0),
+        Event::Message {
+            access,
+            sure,
+            draw: _,
+        } => {
+            let a = access_of(h, access);
+            ask_at(access, a.net, a.code, false, sure)
+        }
+        Event::Timer { number: _, access } => ask_at(access, 0, 0, false, 0),
+        Event::Power => ask_at(0, 0, 0, false, 0),
+        Event::Key { access, set: _ } => ask_at(access, 0, 0, false, 0),
+        Event::Unknown => ask_at(0, 0, 0, false, 0),
+    }
+}
+
+fn answer_of(h: Hot, e: Event, s: Seen, listed: bool, m: Reading, octets: &[u8]) -> Answer
+    ensures { λ r. ⌜ r ≡ rules.answerOf h e s listed m (now (octets .entry)) ⌝ }
+{
+    match e {
+        Event::Card(home) => card_answer(home, octets),
+        Event::Start {
+            access,
+            manual,
+            net,
+            code,
+        } => start_answer(h, access, manual, net, code, s, listed),
+        Event::Message { access, sure, draw } => message_answer(h, access, sure, draw, m, s),
+        Event::Timer { number, access } => timer_answer(h, number, access),
+        Event::Power => Answer::Taken,
+        Event::Key { access, set } => key_answer(h, access, set),
+        Event::Unknown => Answer::Range,
+    }
+}
+
+// An event that changes nothing of its access.
+fn none(h: Hot, w: u8) -> Effect
+    ensures { λ r. ⌜ r ≡ effects.plain h w (events.still (accessOf h w)) false ⌝ }
+{
+    plain(h, w, still(access_of(h, w)), false)
+}
+
+fn message_effect(h: Hot, w: u8, sure: u8, draw: u16, m: Reading, s: Seen) -> Effect
+    ensures { λ r. ⌜ r ≡ rules.messageEffect h w sure draw m s ⌝ }
+{
+    match m {
+        Reading::Accept(g) => accept_effect(h, w, g),
+        Reading::Reject(cause) => {
+            let row = row_now(h, w, sure, cause);
+            reject_effect(h, w, sure, draw, s.found, cause, row)
+        }
+        Reading::Bad(_, _) => none(h, w),
+    }
+}
+
+// A card that was taken has a SUCI of at most 64 octets.
+fn effect_of(h: Hot, e: Event, s: Seen, m: Reading, octets: &[u8]) -> Effect
+    requires { ⌜ ((home : ℕ) → e ≡ Event.Card home → length (now octets) < 256) ⌝ }
+    ensures { λ r. ⌜ r ≡ rules.effectOf h e s m (now (octets .entry)) ⌝ }
+{
+    match e {
+        Event::Card(home) => card_effect(h, home, octets.len() as u8),
+        Event::Start {
+            access,
+            manual: _,
+            net,
+            code,
+        } => start_effect(h, access, net, code),
+        Event::Message { access, sure, draw } => message_effect(h, access, sure, draw, m, s),
+        Event::Timer { number, access } => timer_effect(h, number, access),
+        Event::Power => power_effect(h),
+        Event::Key { access, set } => key_effect(h, access, set),
+        Event::Unknown => none(h, 0),
+    }
+}
+
+fn flag_after(o: Order, flag: u8) -> u8
+    ensures { λ r. ⌜ r ≡ flagAfter o flag ⌝ }
+{
+    match o {
+        Order::Leave => flag,
+        Order::Stop => 0,
+        Order::Run(_) => 1,
+    }
+}
+
+fn turned(t: Turn) -> Access
+    ensures { λ r. ⌜ r ≡ sets.clocked (t .orders) (t .access) ⌝ }
+{
+    clocked(t.orders, t.access)
+}
+
+fn hot_after(h: Hot, w: u8, e: Effect) -> Hot
+    ensures { λ r. ⌜ r ≡ rules.hotAfter h w e ⌝ }
+{
+    let order = e.t3247;
+    let d = h.dev;
+    let dev = ticked(flag_after(order, d.t3247), e.dev);
+    hot_of(dev, w, turned(e.mine), turned(e.theirs))
+}
+
+fn no_gift() -> Accept
+    ensures { λ r. ⌜ r ≡ rules.noGift ⌝ }
+{
+    Accept {
+        result: 0,
+        given: false,
+        guti: 0,
+        triplets: 0,
+        count: 0,
+        timed: false,
+        wait: 0,
+    }
+}
+
+fn gift_of(m: Reading) -> Accept
+    ensures { λ r. ⌜ r ≡ rules.giftOf m ⌝ }
+{
+    match m {
+        Reading::Accept(g) => g,
+        Reading::Reject(_) => no_gift(),
+        Reading::Bad(_, _) => no_gift(),
+    }
+}
+
+fn taken_plan(h: Hot, q: Ask, s: Seen, m: Reading, e: Effect) -> Plan
+    ensures { λ r. ⌜ r ≡ rules.takenPlan h q s m e ⌝ }
+{
+    let reply = taken_reply(h, q.access, e);
+    let hot = hot_after(h, q.access, e);
+    let work = e.work;
+    let gift = gift_of(m);
+    Plan {
+        reply,
+        hot,
+        work,
+        ask: q,
+        seen: s,
+        gift,
+    }
+}
+
+// All but 0 change nothing.
+fn refused_plan(h: Hot, q: Ask, s: Seen, m: Reading, n: Answer) -> Plan
+    ensures { λ r. ⌜ r ≡ rules.refusedPlan h q s m n ⌝ }
+{
+    let reply = refused_reply(n, q.access);
+    let work = idle();
+    let gift = gift_of(m);
+    Plan {
+        reply,
+        hot: h,
+        work,
+        ask: q,
+        seen: s,
+        gift,
+    }
+}
+
+fn decided_by(n: Answer, h: Hot, e: Event, q: Ask, s: Seen, m: Reading, octets: &[u8]) -> Plan
+    requires { ⌜ (isTaken n ≡ true → (home : ℕ) → e ≡ Event.Card home → length (now octets) < 256) ⌝ }
+    ensures { λ r. ⌜ r ≡ rules.decidedBy n h e q s m (now (octets .entry)) ⌝ }
+{
+    if taken(n) {
+        let x = effect_of(h, e, s, m, octets);
+        return taken_plan(h, q, s, m, x);
+    }
+    refused_plan(h, q, s, m, n)
+}
+
+pub fn plan_of(h: Hot, e: Event, q: Ask, s: Seen, listed: bool, m: Reading, octets: &[u8]) -> Plan
+    ensures { λ r. ⌜ r ≡ rules.planOf h e q s listed m (now (octets .entry)) ⌝ }
+{
+    let n = answer_of(h, e, s, listed, m, octets);
+    decided_by(n, h, e, q, s, m, octets)
+}

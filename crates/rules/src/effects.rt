@@ -1,0 +1,258 @@
+// Effects of a taken event: numbers, timers, work on the arrays, requests.
+use crate::Effect;
+use crate::Work;
+use crate::hot::access_of;
+use crate::hot::other_of;
+use crate::joins::and;
+use crate::joins::pick;
+use messages::Accept;
+use record::Device;
+use record::Hot;
+use turns::Order;
+use turns::Row;
+use turns::Turn;
+use turns::accepted;
+use turns::cycled;
+use turns::key_set;
+use turns::other_turn;
+use turns::renewed;
+use turns::row_turn;
+use turns::started;
+use turns::starts_t3247;
+use turns::still;
+use turns::t3502_out;
+use turns::t3510_out;
+use turns::t3511_out;
+use turns::to_regional;
+use turns::to_roaming;
+ghost use mathlib.Core.Path.{_≡_};
+ghost use mathlib.Core.Bool.{cond};
+ghost use Rattle.turns.specs.declared.Order.the-variants.{Leave, Run};
+ghost use Rattle.rules.specs.Effects as rules;
+
+pub(crate) fn ticked(t3247: u8, d: Device) -> Device
+    ensures { λ r. ⌜ r ≡ rules.ticked t3247 d ⌝ }
+{
+    let mut q = d;
+    q.t3247 = t3247;
+    q
+}
+
+fn carded(home: u32, suci: u8, d: Device) -> Device
+    ensures { λ r. ⌜ r ≡ rules.carded home suci d ⌝ }
+{
+    let mut q = d;
+    q.card = 1;
+    q.home = home;
+    q.suci = suci;
+    q
+}
+
+fn work_of(deed: u8, roaming: u8, regional: u8, keep: u8) -> Work
+    ensures { λ r. ⌜ r ≡ rules.workOf deed roaming regional keep ⌝ }
+{
+    Work {
+        deed,
+        roaming,
+        regional,
+        keep,
+    }
+}
+
+pub(crate) fn idle() -> Work
+    ensures { λ r. ⌜ r ≡ rules.idle ⌝ }
+{
+    work_of(0, 0, 0, 0)
+}
+
+// An event of one access that touches no array and not T3247.
+pub(crate) fn plain(h: Hot, w: u8, t: Turn, restart: bool) -> Effect
+    ensures { λ r. ⌜ r ≡ rules.plain h w t restart ⌝ }
+{
+    let dev = h.dev;
+    let theirs = still(other_of(h, w));
+    let work = idle();
+    Effect {
+        dev,
+        mine: t,
+        theirs,
+        t3247: Order::Leave,
+        work,
+        restart,
+    }
+}
+
+pub(crate) fn card_effect(h: Hot, home: u32, suci: u8) -> Effect
+    ensures { λ r. ⌜ r ≡ rules.cardEffect h home suci ⌝ }
+{
+    let dev = carded(home, suci, h.dev);
+    let turn = renewed();
+    let work = work_of(6, 3, 3, 2);
+    Effect {
+        dev,
+        mine: turn,
+        theirs: turn,
+        t3247: Order::Stop,
+        work,
+        restart: false,
+    }
+}
+
+pub(crate) fn start_effect(h: Hot, w: u8, net: u32, code: u32) -> Effect
+    ensures { λ r. ⌜ r ≡ rules.startEffect h w net code ⌝ }
+{
+    plain(h, w, started(net, code, access_of(h, w)), false)
+}
+
+pub(crate) fn key_effect(h: Hot, w: u8, set: u8) -> Effect
+    ensures { λ r. ⌜ r ≡ rules.keyEffect h w set ⌝ }
+{
+    plain(h, w, key_set(set, access_of(h, w)), false)
+}
+
+// T3502's length: the one given, or another.
+fn wait_of(timed: bool, wait: u16, other: u16) -> u16
+    ensures { λ r. ⌜ r ≡ cond timed wait other ⌝ }
+{
+    if timed { wait } else { other }
+}
+
+pub(crate) fn accept_effect(h: Hot, w: u8, g: Accept) -> Effect
+    ensures { λ r. ⌜ r ≡ rules.acceptEffect h w g ⌝ }
+{
+    let dev = h.dev;
+    let wait = wait_of(g.timed, g.wait, 720);
+    let mine = accepted(g.given, g.count, wait, access_of(h, w));
+    let theirs = still(other_of(h, w));
+    let work = work_of(3, 0, 0, 1);
+    Effect {
+        dev,
+        mine,
+        theirs,
+        t3247: Order::Leave,
+        work,
+        restart: false,
+    }
+}
+
+fn clock_effect(h: Hot, number: u8, w: u8) -> Effect
+    ensures { λ r. ⌜ r ≡ rules.clockEffect h number w ⌝ }
+{
+    let a = access_of(h, w);
+    if number == 1 {
+        return plain(h, w, t3510_out(a), false);
+    }
+    if number == 2 {
+        return plain(h, w, t3511_out(a), true);
+    }
+    plain(h, w, t3502_out(a), true)
+}
+
+fn t3247_effect(h: Hot) -> Effect
+    ensures { λ r. ⌜ r ≡ rules.t3247Effect h ⌝ }
+{
+    let dev = h.dev;
+    let mine = still(h.a0);
+    let theirs = still(h.a1);
+    let work = work_of(4, 2, 2, 0);
+    Effect {
+        dev,
+        mine,
+        theirs,
+        t3247: Order::Stop,
+        work,
+        restart: false,
+    }
+}
+
+pub(crate) fn timer_effect(h: Hot, number: u8, w: u8) -> Effect
+    ensures { λ r. ⌜ r ≡ rules.timerEffect h number w ⌝ }
+{
+    if number == 4 {
+        return t3247_effect(h);
+    }
+    clock_effect(h, number, w)
+}
+
+pub(crate) fn power_effect(h: Hot) -> Effect
+    ensures { λ r. ⌜ r ≡ rules.powerEffect h ⌝ }
+{
+    let dev = h.dev;
+    let mine = cycled(dev.card, h.a0);
+    let theirs = cycled(dev.card, h.a1);
+    let work = work_of(5, 3, 3, 0);
+    Effect {
+        dev,
+        mine,
+        theirs,
+        t3247: Order::Stop,
+        work,
+        restart: false,
+    }
+}
+
+fn run_if(starts: bool, draw: u16) -> Order
+    ensures { λ r. ⌜ r ≡ cond starts (Run draw) Leave ⌝ }
+{
+    if starts {
+        Order::Run(draw as u32)
+    } else {
+        Order::Leave
+    }
+}
+
+fn reject_t3247(t3247: u8, sure: u8, cause: u8, draw: u16) -> Order
+    ensures { λ r. ⌜ r ≡ rules.rejectT3247 t3247 sure cause draw ⌝ }
+{
+    run_if(and(sure == 0, and(starts_t3247(cause), t3247 == 0)), draw)
+}
+
+fn row_deed(row: Row) -> u8
+    ensures { λ r. ⌜ r ≡ rules.rowDeed row ⌝ }
+{
+    match row {
+        Row::CardBelow => 0,
+        Row::CardLimit => 0,
+        Row::CardProtected => 0,
+        Row::Away => 1,
+        Row::Home => 0,
+        Row::Area => 0,
+        Row::N1 => 2,
+        Row::Protocol => 0,
+        Row::Other => 0,
+    }
+}
+
+fn row_work(row: Row, w: u8, cause: u8) -> Work
+    ensures { λ r. ⌜ r ≡ rules.rowWork row w cause ⌝ }
+{
+    let roaming = pick(to_roaming(w, cause, row), 1, 0);
+    let regional = pick(to_regional(cause, row), 1, 0);
+    work_of(row_deed(row), roaming, regional, 0)
+}
+
+pub(crate) fn reject_effect(
+    h: Hot,
+    w: u8,
+    sure: u8,
+    draw: u16,
+    found: bool,
+    cause: u8,
+    row: Row,
+) -> Effect
+    ensures { λ r. ⌜ r ≡ rules.rejectEffect h w sure draw found cause row ⌝ }
+{
+    let dev = h.dev;
+    let mine = row_turn(row, w, dev.cardlimit, cause, found, access_of(h, w));
+    let theirs = other_turn(row, dev.cardlimit, other_of(h, w));
+    let t3247 = reject_t3247(dev.t3247, sure, cause, draw);
+    let work = row_work(row, w, cause);
+    Effect {
+        dev,
+        mine,
+        theirs,
+        t3247,
+        work,
+        restart: false,
+    }
+}

@@ -1,0 +1,97 @@
+// What the caller is told: the answer, each timer, and what is asked of it.
+use crate::Asked;
+use crate::Effect;
+use crate::Reply;
+use crate::joins::pick;
+use record::Answer;
+use record::Hot;
+use turns::Clocks;
+use turns::Orders;
+use turns::Told;
+use turns::clocks_of;
+use turns::told_of;
+ghost use mathlib.Core.Path.{_≡_};
+ghost use mathlib.Core.Bool.{cond};
+ghost use Rattle.rules.specs.Plan as rules;
+
+fn asked_on(wanted: bool, w: u8) -> Asked
+    ensures { λ r. ⌜ r ≡ rules.askedOn wanted w ⌝ }
+{
+    if wanted { Asked::On(w) } else { Asked::No }
+}
+
+fn orders_by(first: bool, a: Orders, b: Orders) -> Orders
+    ensures { λ r. ⌜ r ≡ cond first a b ⌝ }
+{
+    if first { a } else { b }
+}
+
+pub(crate) fn taken_reply(h: Hot, w: u8, e: Effect) -> Reply
+    ensures { λ r. ⌜ r ≡ rules.takenReply h w e ⌝ }
+{
+    let mine = e.mine;
+    let theirs = e.theirs;
+    let order = e.t3247;
+    let dev = h.dev;
+    let c0 = clocks_of(orders_by(w == 0, mine.orders, theirs.orders), h.a0);
+    let c1 = clocks_of(orders_by(w == 0, theirs.orders, mine.orders), h.a1);
+    let t3247 = told_of(order, dev.t3247);
+    let restart = asked_on(e.restart, w);
+    Reply {
+        answer: Answer::Taken,
+        c0,
+        c1,
+        t3247,
+        restart,
+        leave: Asked::No,
+        update: Asked::No,
+    }
+}
+
+fn all_left() -> Clocks
+    ensures { λ r. ⌜ r ≡ rules.allLeft ⌝ }
+{
+    Clocks {
+        t3510: Told::Left,
+        t3511: Told::Left,
+        t3502: Told::Left,
+    }
+}
+
+fn is_ignoring(n: Answer) -> bool
+    ensures { λ r. ⌜ r ≡ rules.isIgnoring n ⌝ }
+{
+    match n {
+        Answer::Taken => false,
+        Answer::Range => false,
+        Answer::Ignored => true,
+        Answer::Malformed(_, _) => false,
+        Answer::Full => false,
+        Answer::NoCard => false,
+        Answer::State => false,
+        Answer::Same => false,
+        Answer::Listed => false,
+        Answer::Area => false,
+        Answer::Bare => false,
+        Answer::Idle => false,
+        Answer::Short => false,
+    }
+}
+
+pub fn refused_reply(n: Answer, w: u8) -> Reply
+    ensures { λ r. ⌜ r ≡ rules.refusedReply n w ⌝ }
+{
+    let left = all_left();
+    let ignoring = is_ignoring(n);
+    let leave = asked_on(ignoring, w);
+    let update = asked_on(ignoring, pick(w == 0, 1, 0));
+    Reply {
+        answer: n,
+        c0: left,
+        c1: left,
+        t3247: Told::Left,
+        restart: Asked::No,
+        leave,
+        update,
+    }
+}
