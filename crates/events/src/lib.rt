@@ -1,14 +1,16 @@
-// An event on the whole record: the core over lent columns and lists, and the step by value.
-use entries::Deed;
-use entries::Entries;
-use entries::Seen;
+// An event on the whole record: the core over lent columns and lists, what it leaves to keep, and the step by value.
+mod held;
+mod lent;
+mod value;
+
+pub use held::keep;
+pub use lent::core;
 use record::Hot;
 use record::Record;
-use rules::Ask;
-use rules::Event;
 use rules::Plan;
 use rules::Reply;
-ghost use mathlib.Core.Path.{_≡_};
+pub use value::advance;
+pub use value::step;
 
 // The answer with what is told, and the record after the event.
 pub struct Outcome {

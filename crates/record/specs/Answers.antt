@@ -1,7 +1,7 @@
 -- The reply numbers of document 01. Assumes nothing.
 use Prim.Native.Nat.{ℕ}
 use mathlib.Core.Bool.{Bool, true, false}
-use Rattle.octets.specs.declared.Fault.{Fault}
+use Rattle.messages.specs.Message.{numberOf as faultNumber}
 use Rattle.record.specs.declared.Answer.{Answer}
 use Rattle.record.specs.declared.Answer.the-variants.{Taken, Range, Ignored, Malformed, Full, NoCard, State, Same, Listed, Area, Bare, Idle, Short}
 
@@ -13,7 +13,7 @@ numberOf Range = 1
 -- ignored by the two-access rule
 numberOf Ignored = 2
 -- message malformed or not an accept or reject
-numberOf (Malformed f at) = 3
+numberOf (Malformed f at) = faultNumber f
 -- entry needed, network not in the access's table, all 16 entries held
 numberOf Full = 4
 -- a start in state 0

@@ -10,7 +10,7 @@ pub fn number(a: Answer) -> u8
         Answer::Taken => 0,
         Answer::Range => 1,
         Answer::Ignored => 2,
-        Answer::Malformed(_, _) => 3,
+        Answer::Malformed(f, _) => messages::number(f),
         Answer::Full => 4,
         Answer::NoCard => 5,
         Answer::State => 6,

@@ -169,12 +169,12 @@ fn singles(r: Record) -> bool
     all(x, y, z, w)
 }
 
-fn clocks(h: Hot) -> bool
-    ensures { λ r. ⌜ r ≡ both (clockOf (h .a0)) (clockOf (h .a1)) ⌝ }
+// The rules over the numbers, around those over the columns in their places: whether the networks are codes, and each is there once.
+fn settled(h: Hot, suci: &[u8; 64], codes: bool, singles: bool) -> bool
+    ensures { λ r. ⌜ r ≡ both (cardOf h) (both (suciOf (h .dev) (now (suci .entry))) (both codes (both (both (clockOf (h .a0)) (clockOf (h .a1))) singles))) ⌝ }
 {
-    let x = clock(h.a0);
-    let y = clock(h.a1);
-    and(x, y)
+    let clocks = and(clock(h.a0), clock(h.a1));
+    all(card(h), opens(h.dev, suci), codes, and(clocks, singles))
 }
 
 // What is left to test of a record whose ranges hold.
@@ -182,11 +182,9 @@ fn kept(r: Record) -> bool
     requires { ⌜ rangesOf r ≡ true ⌝ }
     ensures { λ o. ⌜ o ≡ validOf r ⌝ }
 {
-    let h = r.hot;
-    let x = counted(r);
-    let y = opens(h.dev, &r.suci);
-    let z = and(codes(r), and(clocks(h), singles(r)));
-    all(x, card(h), y, z)
+    let x = codes(r);
+    let y = singles(r);
+    and(counted(r), settled(r.hot, &r.suci, x, y))
 }
 
 // The public test: a record that fails it is answer 1.

@@ -15,7 +15,6 @@ use turns::Row;
 use turns::needs_entry;
 use turns::row_of;
 ghost use mathlib.Core.Path.{_≡_};
-ghost use mathlib.Core.Bool.{cond};
 ghost use lib.Dec.{eqb};
 ghost use lib.ListN.{getD};
 ghost use Rattle.record.specs.Tests.{both, flip};
@@ -106,16 +105,10 @@ pub(crate) fn row_now(h: Hot, w: u8, sure: u8, cause: u8) -> Row
     )
 }
 
-fn is_card(cause: u8) -> bool
-    ensures { λ r. ⌜ r ≡ isCard cause ⌝ }
-{
-    or(cause == 3, or(cause == 6, cause == 7))
-}
-
 fn is_ignored(sure: u8, cause: u8, other: Access) -> bool
     ensures { λ r. ⌜ r ≡ rules.isIgnored sure cause other ⌝ }
 {
-    and(is_card(cause), and(sure == 0, other.state == 5))
+    and(turns::is_card(cause), and(sure == 0, other.state == 5))
 }
 
 fn is_full(row: Row, s: Seen) -> bool

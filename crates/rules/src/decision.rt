@@ -171,16 +171,6 @@ fn effect_of(h: Hot, e: Event, s: Seen, m: Reading, octets: &[u8]) -> Effect
     }
 }
 
-fn flag_after(o: Order, flag: u8) -> u8
-    ensures { λ r. ⌜ r ≡ flagAfter o flag ⌝ }
-{
-    match o {
-        Order::Leave => flag,
-        Order::Stop => 0,
-        Order::Run(_) => 1,
-    }
-}
-
 fn turned(t: Turn) -> Access
     ensures { λ r. ⌜ r ≡ sets.clocked (t .orders) (t .access) ⌝ }
 {
@@ -192,7 +182,7 @@ fn hot_after(h: Hot, w: u8, e: Effect) -> Hot
 {
     let order = e.t3247;
     let d = h.dev;
-    let dev = ticked(flag_after(order, d.t3247), e.dev);
+    let dev = ticked(turns::flag_after(order, d.t3247), e.dev);
     hot_of(dev, w, turned(e.mine), turned(e.theirs))
 }
 

@@ -1,15 +1,11 @@
 // What an event is answered and what it plans: decided on the record's numbers, what stands about a network, and the message's reading.
 use entries::Seen;
 use messages::Accept;
-use messages::Reading;
-use record::Access;
 use record::Answer;
 use record::Device;
 use record::Hot;
 use turns::Clocks;
 use turns::Order;
-use turns::Orders;
-use turns::Row;
 use turns::Told;
 use turns::Turn;
 
@@ -24,7 +20,6 @@ pub use decision::ask_of;
 pub use decision::heard;
 pub use decision::plan_of;
 pub use replies::refused_reply;
-ghost use mathlib.Core.Path.{_≡_};
 
 // A card's SUCI and a message's octets come beside the event.
 pub enum Event {

@@ -7,11 +7,13 @@ mod timers;
 mod turns;
 
 pub use access::clocked;
+pub use rows::is_card;
 pub use rows::needs_entry;
 pub use rows::row_of;
 pub use rows::starts_t3247;
 pub use rows::to_regional;
 pub use rows::to_roaming;
+pub use timers::flag_after;
 pub use timers::clocks_of;
 pub use timers::told_of;
 pub use turns::accepted;

@@ -18,7 +18,7 @@ fn and2(a: bool, b: bool) -> bool
     if a { b } else { false }
 }
 
-fn is_card(cause: u8) -> bool
+pub fn is_card(cause: u8) -> bool
     ensures { λ r. ⌜ r ≡ isCard cause ⌝ }
 {
     or2(cause == 3, or2(cause == 6, cause == 7))

@@ -9,7 +9,7 @@ ghost use mathlib.Core.Bool.{cond};
 ghost use Rattle.turns.specs.Timers.{flagAfter, toldOf, clocksOf};
 ghost use Rattle.turns.specs.declared.Told.the-variants.{Left, Stopped};
 
-pub(crate) fn flag_after(o: Order, flag: u8) -> u8
+pub fn flag_after(o: Order, flag: u8) -> u8
     ensures { λ r. ⌜ r ≡ flagAfter o flag ⌝ }
 {
     match o {

@@ -12,9 +12,9 @@ use crate::access::moved;
 use crate::access::pending;
 use crate::access::taught;
 use record::Access;
+use record::new_access;
 ghost use mathlib.Core.Path.{_≡_};
 ghost use mathlib.Core.Bool.{cond};
-ghost use Rattle.record.specs.New.{newAccess};
 ghost use Rattle.turns.specs.declared.Order.the-variants.{Leave, Stop, Run};
 ghost use Rattle.turns.specs.Access as sets;
 ghost use Rattle.turns.specs.Timers.{ordersOf};
@@ -130,30 +130,6 @@ pub fn cycled(card: u8, a: Access) -> Turn
 {
     let b = moved(pick(card == 0, 0, 1), a.status, 0, a);
     timed(b, Order::Stop, Order::Stop, Order::Stop)
-}
-
-fn new_access(state: u8) -> Access
-    ensures { λ r. ⌜ r ≡ newAccess state ⌝ }
-{
-    Access {
-        state: state,
-        status: 2,
-        attempts: 0,
-        cards: 0,
-        t3510: 0,
-        t3511: 0,
-        t3502: 0,
-        wait: 720,
-        net: 0,
-        code: 0,
-        guti: 0,
-        visited: 0,
-        lastnet: 0,
-        lastcode: 0,
-        ksi: 7,
-        equivalents: 0,
-        entries: 0,
-    }
 }
 
 // Card change.

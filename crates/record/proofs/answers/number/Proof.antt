@@ -1,4 +1,4 @@
--- Each case gives its own row. Assumes nothing.
+-- Each case gives its own row, a fault's number its own. Assumes nothing.
 use Rattle.record.specs.Answers.{numberOf}
 use borrow.Author.Needs.{needs}
 use Rattle.record.proofs.answers.number.Statement.{statement}
@@ -12,6 +12,12 @@ enum-told-2 c = search needs
 
 enum-told-3 : tie.Need-enum-told-3
 enum-told-3 c = search needs
+
+enum-known-a : tie.Need-enum-known-a
+enum-known-a c = search needs
+
+number-requires : tie.Need-number-requires
+number-requires c κs = search needs
 
 enum-told-4 : tie.Need-enum-told-4
 enum-told-4 c = search needs
@@ -39,9 +45,6 @@ enum-told-11 c = search needs
 
 enum-told-12 : tie.Need-enum-told-12
 enum-told-12 c = search needs
-
-enum-told-13 : tie.Need-enum-told-13
-enum-told-13 c = search needs
 
 returns : tie.Need-returns
 unfolding numberOf
@@ -102,6 +105,8 @@ number-spec =
     enum-told
     enum-told-2
     enum-told-3
+    enum-known-a
+    number-requires
     enum-told-4
     enum-told-5
     enum-told-6
@@ -111,7 +116,6 @@ number-spec =
     enum-told-10
     enum-told-11
     enum-told-12
-    enum-told-13
     returns
     returns-2
     returns-3

@@ -24,7 +24,7 @@ check-requires c κs = search needs
 
 returns : tie.Need-returns
 unfolding cardAnswer
-returns c = cc
+returns c = rw (c .check .ensures, c .before .and3 .ensures, c .before .before .network .ensures, c .before .before .before .and2 .ensures, c .before .before .before .before .opening .ensures, c .before .before .before .before .before .and .ensures)
 
 pub card-answer-spec : {M : Type 1} → statement M
 card-answer-spec =

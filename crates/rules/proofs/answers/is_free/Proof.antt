@@ -12,7 +12,7 @@ and-requires c κs = search needs
 
 returns : tie.Need-returns
 unfolding isFree
-returns c = cc
+returns c = rw (c .and .ensures, c .before .or .ensures)
 
 pub is-free-spec : {M : Type 1} → statement M
 is-free-spec = tie.close (tie.spec or-requires and-requires returns)

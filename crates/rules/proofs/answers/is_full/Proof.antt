@@ -15,7 +15,7 @@ and-requires c κs = search needs
 
 returns : tie.Need-returns
 unfolding isFull
-returns c = cc
+returns c = rw (c .and .ensures, c .before .not .ensures, c .before .before .before .needs-entry .ensures)
 
 pub is-full-spec : {M : Type 1} → statement M
 is-full-spec = tie.close (tie.spec needs-entry-requires not-requires and-requires returns)

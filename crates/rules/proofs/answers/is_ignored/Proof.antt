@@ -15,7 +15,7 @@ and-requires-2 c κs = search needs
 
 returns : tie.Need-returns
 unfolding isIgnored
-returns c = cc
+returns c = rw (c .and2 .ensures, c .before .and .ensures, c .before .before .before .is-card .ensures)
 
 pub is-ignored-spec : {M : Type 1} → statement M
 is-ignored-spec = tie.close (tie.spec is-card-requires and-requires and-requires-2 returns)

@@ -9,7 +9,7 @@ and-requires c κs = search needs
 
 returns : tie.Need-returns
 unfolding isSame
-returns c = cc
+returns c = rw (c .and .ensures)
 
 pub is-same-spec : {M : Type 1} → statement M
 is-same-spec = tie.close (tie.spec and-requires returns)

@@ -15,7 +15,7 @@ checks-requires c κs = search needs
 
 returns : tie.Need-returns
 unfolding keyAnswer
-returns c = cc
+returns c = rw (c .checks .ensures, c .before .before .and .ensures, c .before .before .before .access-of .ensures)
 
 pub key-answer-spec : {M : Type 1} → statement M
 key-answer-spec = tie.close (tie.spec access-of-requires and-requires checks-requires returns)

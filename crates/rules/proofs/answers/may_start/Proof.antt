@@ -15,7 +15,7 @@ or-requires-3 c κs = search needs
 
 returns : tie.Need-returns
 unfolding mayStart
-returns c = cc
+returns c = rw (c .or3 .ensures, c .before .or2 .ensures, c .before .before .or .ensures)
 
 pub may-start-spec : {M : Type 1} → statement M
 may-start-spec = tie.close (tie.spec or-requires or-requires-2 or-requires-3 returns)

@@ -18,7 +18,7 @@ checks-requires c κs = search needs
 
 returns : tie.Need-returns
 unfolding messageAnswer
-returns c = cc
+returns c = rw (c .checks .ensures, c .before .before .message-range .ensures, c .before .before .before .read-answer .ensures, c .before .before .before .before .access-of .ensures)
 
 pub message-answer-spec : {M : Type 1} → statement M
 message-answer-spec =

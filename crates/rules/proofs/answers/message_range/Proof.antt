@@ -15,7 +15,7 @@ and-requires-3 c κs = search needs
 
 returns : tie.Need-returns
 unfolding messageRange
-returns c = cc
+returns c = rw (c .and3 .ensures, c .before .and2 .ensures, c .before .before .and .ensures)
 
 pub message-range-spec : {M : Type 1} → statement M
 message-range-spec = tie.close (tie.spec and-requires and-requires-2 and-requires-3 returns)

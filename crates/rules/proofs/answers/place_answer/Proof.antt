@@ -25,7 +25,7 @@ checks-requires : tie.Need-checks-requires
 checks-requires c κs = search needs
 
 returns : tie.Need-returns
-returns c = cc
+returns c = rw (c .checks .ensures, c .before .is-free .ensures, c .before .before .not2 .ensures, c .before .before .before .is-same .ensures, c .before .before .before .before .check .ensures, c .before .before .before .before .before .not .ensures, c .before .before .before .before .before .before .and .ensures)
 
 pub place-answer-spec : {M : Type 1} → statement M
 place-answer-spec =

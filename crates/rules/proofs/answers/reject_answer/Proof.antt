@@ -27,7 +27,7 @@ checks-requires c κs = search needs
 
 returns : tie.Need-returns
 unfolding rejectAnswer
-returns c = cc
+returns c = rw (c .checks .ensures, c .before .not2 .ensures, c .before .before .is-full .ensures, c .before .before .before .row-now .ensures, c .before .before .before .before .not .ensures, c .before .before .before .before .before .is-ignored .ensures, c .before .before .before .before .before .before .other-of .ensures)
 
 pub reject-answer-spec : {M : Type 1} → statement M
 reject-answer-spec =

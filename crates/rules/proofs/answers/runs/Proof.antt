@@ -18,7 +18,7 @@ pick-requires-3 c κs = search needs
 
 returns : tie.Need-returns
 unfolding runs
-returns c = cc
+returns c = rw (c .pick3 .ensures, c .before .pick2 .ensures, c .before .before .pick .ensures, c .before .before .before .access-of .ensures)
 
 pub runs-spec : {M : Type 1} → statement M
 runs-spec =

@@ -18,7 +18,7 @@ and-requires-3 c κs = search needs
 
 returns : tie.Need-returns
 unfolding startRange
-returns c = cc
+returns c = rw (c .and3 .ensures, c .before .and2 .ensures, c .before .before .and .ensures, c .before .before .before .network .ensures)
 
 pub start-range-spec : {M : Type 1} → statement M
 start-range-spec =

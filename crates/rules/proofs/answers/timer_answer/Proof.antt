@@ -18,7 +18,7 @@ checks-requires c κs = search needs
 
 returns : tie.Need-returns
 unfolding timerAnswer
-returns c = cc
+returns c = rw (c .checks .ensures, c .before .timer-range .ensures, c .before .before .not .ensures, c .before .before .before .runs .ensures)
 
 pub timer-answer-spec : {M : Type 1} → statement M
 timer-answer-spec =

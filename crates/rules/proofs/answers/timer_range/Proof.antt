@@ -18,7 +18,7 @@ and-requires-3 c κs = search needs
 
 returns : tie.Need-returns
 unfolding timerRange
-returns c = cc
+returns c = rw (c .and3 .ensures, c .before .and2 .ensures, c .before .before .and .ensures, c .before .before .before .or .ensures)
 
 pub timer-range-spec : {M : Type 1} → statement M
 timer-range-spec =

@@ -21,15 +21,15 @@ no-gift-requires-2 c κs = search needs
 
 returns : tie.Need-returns
 unfolding giftOf
-returns c = cc
+returns c = rw (c .before .m .given .1)
 
 returns-2 : tie.Need-returns-2
 unfolding giftOf
-returns-2 c = cc
+returns-2 c = rw (c .before .enum-told .given .1) (c .no-gift .ensures)
 
 returns-3 : tie.Need-returns-3
 unfolding giftOf
-returns-3 c = cc
+returns-3 c = rw (c .before .enum-told2 .given .1) (c .no-gift2 .ensures)
 
 pub gift-of-spec : {M : Type 1} → statement M
 gift-of-spec =

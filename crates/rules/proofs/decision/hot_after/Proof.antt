@@ -21,7 +21,7 @@ hot-of-requires c κs = search needs
 
 returns : tie.Need-returns
 unfolding hotAfter
-returns c = cc
+returns c = rw (c .hot-of .ensures, c .before .turned2 .ensures, c .before .before .turned .ensures, c .before .before .before .ticked .ensures, c .before .before .before .before .flag-after .ensures)
 
 pub hot-after-spec : {M : Type 1} → statement M
 hot-after-spec =

@@ -13,7 +13,7 @@ plain-requires : tie.Need-plain-requires
 plain-requires c κs = search needs
 
 returns : tie.Need-returns
-returns c = cc
+returns c = rw (c .plain .ensures, c .before .still .ensures, c .before .before .access-of .ensures)
 
 pub none-spec : {M : Type 1} → statement M
 none-spec = tie.close (tie.spec access-of-requires still-requires plain-requires returns)

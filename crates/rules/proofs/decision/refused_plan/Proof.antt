@@ -15,7 +15,7 @@ gift-of-requires c κs = search needs
 
 returns : tie.Need-returns
 unfolding refusedPlan
-returns c = cc
+returns c = rw (c .gift-of .ensures, c .before .idle .ensures, c .before .before .refused-reply .ensures)
 
 pub refused-plan-spec : {M : Type 1} → statement M
 refused-plan-spec =

@@ -15,7 +15,7 @@ gift-of-requires c κs = search needs
 
 returns : tie.Need-returns
 unfolding takenPlan
-returns c = cc
+returns c = rw (c .gift-of .ensures, c .before .before .hot-after .ensures, c .before .before .before .taken-reply .ensures)
 
 pub taken-plan-spec : {M : Type 1} → statement M
 taken-plan-spec =

@@ -24,7 +24,7 @@ work-of-requires c κs = search needs
 
 returns : tie.Need-returns
 unfolding acceptEffect
-returns c = cc
+returns c = rw (c .work-of .ensures, c .before .still .ensures, c .before .before .other-of .ensures, c .before .before .before .accepted .ensures, c .before .before .before .before .access-of .ensures, c .before .before .before .before .before .wait-of .ensures)
 
 pub accept-effect-spec : {M : Type 1} → statement M
 accept-effect-spec =

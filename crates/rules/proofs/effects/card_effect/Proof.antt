@@ -15,7 +15,7 @@ work-of-requires c κs = search needs
 
 returns : tie.Need-returns
 unfolding cardEffect
-returns c = cc
+returns c = rw (c .work-of .ensures, c .before .renewed .ensures, c .before .before .carded .ensures)
 
 pub card-effect-spec : {M : Type 1} → statement M
 card-effect-spec = tie.close (tie.spec carded-requires renewed-requires work-of-requires returns)

@@ -15,7 +15,7 @@ plain-requires c κs = search needs
 
 returns : tie.Need-returns
 unfolding keyEffect
-returns c = cc
+returns c = rw (c .plain .ensures, c .before .key-set .ensures, c .before .before .access-of .ensures)
 
 pub key-effect-spec : {M : Type 1} → statement M
 key-effect-spec = tie.close (tie.spec access-of-requires key-set-requires plain-requires returns)

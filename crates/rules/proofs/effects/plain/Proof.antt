@@ -13,7 +13,7 @@ idle-requires : tie.Need-idle-requires
 idle-requires c κs = search needs
 
 returns : tie.Need-returns
-returns c = cc
+returns c = rw (c .idle .ensures, c .before .still .ensures, c .before .before .other-of .ensures)
 
 pub plain-spec : {M : Type 1} → statement M
 plain-spec = tie.close (tie.spec other-of-requires still-requires idle-requires returns)

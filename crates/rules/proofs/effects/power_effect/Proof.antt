@@ -15,7 +15,7 @@ work-of-requires c κs = search needs
 
 returns : tie.Need-returns
 unfolding powerEffect
-returns c = cc
+returns c = rw (c .work-of .ensures, c .before .cycled2 .ensures, c .before .before .cycled .ensures)
 
 pub power-effect-spec : {M : Type 1} → statement M
 power-effect-spec = tie.close (tie.spec cycled-requires cycled-requires-2 work-of-requires returns)

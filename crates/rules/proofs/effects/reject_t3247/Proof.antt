@@ -18,7 +18,7 @@ run-if-requires c κs = search needs
 
 returns : tie.Need-returns
 unfolding rejectT3247
-returns c = cc
+returns c = rw (c .run-if .ensures, c .before .and2 .ensures, c .before .before .and .ensures, c .before .before .before .starts-t3247 .ensures)
 
 pub reject-t3247-spec : {M : Type 1} → statement M
 reject-t3247-spec =

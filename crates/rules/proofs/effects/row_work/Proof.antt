@@ -24,7 +24,7 @@ work-of-requires c κs = search needs
 
 returns : tie.Need-returns
 unfolding rowWork
-returns c = cc
+returns c = rw (c .work-of .ensures, c .before .row-deed .ensures, c .before .before .pick2 .ensures, c .before .before .before .to-regional .ensures, c .before .before .before .before .pick .ensures, c .before .before .before .before .before .to-roaming .ensures)
 
 pub row-work-spec : {M : Type 1} → statement M
 row-work-spec =

@@ -15,7 +15,7 @@ plain-requires c κs = search needs
 
 returns : tie.Need-returns
 unfolding startEffect
-returns c = cc
+returns c = rw (c .plain .ensures, c .before .started .ensures, c .before .before .access-of .ensures)
 
 pub start-effect-spec : {M : Type 1} → statement M
 start-effect-spec = tie.close (tie.spec access-of-requires started-requires plain-requires returns)

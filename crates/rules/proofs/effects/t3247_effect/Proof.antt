@@ -15,7 +15,7 @@ work-of-requires c κs = search needs
 
 returns : tie.Need-returns
 unfolding t3247Effect
-returns c = cc
+returns c = rw (c .work-of .ensures, c .before .still2 .ensures, c .before .before .still .ensures)
 
 pub t3247-effect-spec : {M : Type 1} → statement M
 t3247-effect-spec = tie.close (tie.spec still-requires still-requires-2 work-of-requires returns)

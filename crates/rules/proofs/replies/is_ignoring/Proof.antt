@@ -45,55 +45,55 @@ enum-told-13 c = search needs
 
 returns : tie.Need-returns
 unfolding isIgnoring
-returns c = cc
+returns c = rw (c .enum-told .given .1)
 
 returns-2 : tie.Need-returns-2
 unfolding isIgnoring
-returns-2 c = cc
+returns-2 c = rw (c .enum-told2 .given .1)
 
 returns-3 : tie.Need-returns-3
 unfolding isIgnoring
-returns-3 c = cc
+returns-3 c = rw (c .enum-told3 .given .1)
 
 returns-4 : tie.Need-returns-4
 unfolding isIgnoring
-returns-4 c = cc
+returns-4 c = rw (c .enum-told4 .given .1)
 
 returns-5 : tie.Need-returns-5
 unfolding isIgnoring
-returns-5 c = cc
+returns-5 c = rw (c .enum-told5 .given .1)
 
 returns-6 : tie.Need-returns-6
 unfolding isIgnoring
-returns-6 c = cc
+returns-6 c = rw (c .enum-told6 .given .1)
 
 returns-7 : tie.Need-returns-7
 unfolding isIgnoring
-returns-7 c = cc
+returns-7 c = rw (c .enum-told7 .given .1)
 
 returns-8 : tie.Need-returns-8
 unfolding isIgnoring
-returns-8 c = cc
+returns-8 c = rw (c .enum-told8 .given .1)
 
 returns-9 : tie.Need-returns-9
 unfolding isIgnoring
-returns-9 c = cc
+returns-9 c = rw (c .enum-told9 .given .1)
 
 returns-10 : tie.Need-returns-10
 unfolding isIgnoring
-returns-10 c = cc
+returns-10 c = rw (c .enum-told10 .given .1)
 
 returns-11 : tie.Need-returns-11
 unfolding isIgnoring
-returns-11 c = cc
+returns-11 c = rw (c .enum-told11 .given .1)
 
 returns-12 : tie.Need-returns-12
 unfolding isIgnoring
-returns-12 c = cc
+returns-12 c = rw (c .enum-told12 .given .1)
 
 returns-13 : tie.Need-returns-13
 unfolding isIgnoring
-returns-13 c = cc
+returns-13 c = rw (c .enum-told13 .given .1)
 
 pub is-ignoring-spec : {M : Type 1} → statement M
 is-ignoring-spec =

@@ -21,7 +21,7 @@ asked-on-requires-2 c κs = search needs
 
 returns : tie.Need-returns
 unfolding refusedReply
-returns c = cc
+returns c = rw (c .asked-on2 .ensures, c .before .pick .ensures, c .before .before .asked-on .ensures, c .before .before .before .is-ignoring .ensures, c .before .before .before .before .all-left .ensures)
 
 pub refused-reply-spec : {M : Type 1} → statement M
 refused-reply-spec =

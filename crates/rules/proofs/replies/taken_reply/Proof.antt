@@ -24,7 +24,7 @@ asked-on-requires c κs = search needs
 
 returns : tie.Need-returns
 unfolding takenReply
-returns c = cc
+returns c = rw (c .asked-on .ensures, c .before .told-of .ensures, c .before .before .clocks-of2 .ensures, c .before .before .before .orders-by2 .ensures, c .before .before .before .before .clocks-of .ensures, c .before .before .before .before .before .orders-by .ensures)
 
 pub taken-reply-spec : {M : Type 1} → statement M
 taken-reply-spec =

@@ -1,0 +1,4 @@
+-- Laws of the events' definitions.
+pub mod Networks
+pub mod Rest
+pub mod Whole

@@ -1,0 +1,41 @@
+-- The core and the step put together from what their calls ensure, over plain variables. Assumes nothing.
+use Prim.Native.Nat.{ℕ}
+use mathlib.Core.Path.{_≡_, refl, sym, ap, _∙_}
+use mathlib.Core.Bool.{Bool}
+use mathlib.Core.List.{List}
+use Rattle.entries.specs.declared.Entries.{Entries}
+use Rattle.entries.specs.declared.Seen.{Seen}
+use Rattle.areas.specs.Areas.{listAfter, countAfter}
+use Rattle.record.specs.declared.Hot.{Hot}
+use Rattle.record.specs.declared.Record.{Record}
+use Rattle.rules.specs.declared.Event.{Event}
+use Rattle.rules.specs.declared.Ask.{Ask}
+use Rattle.rules.specs.declared.Plan.{Plan}
+use Rattle.rules.specs.Plan.{askOf}
+use Rattle.events.specs.declared.Done.{Done}
+use Rattle.events.specs.Parts.{seenBy, seenOf, listedOf, plannedBy, plannedOf, tableAfter, taskOf, listed, doneOf, partsOf, carriedOut, partsAfter, Kept, keptAfter}
+use Rattle.events.specs.Step.{together, keptIn, joinedOf, advanceOf}
+
+pub core-law : (h : Hot) (e : Event) (octets : List ℕ) (q : Ask) (s : Seen) (l : Bool) (p : Plan) (x y x' y' : Entries) (a b a' b' : List ℕ) (m n : ℕ) (g : Hot)
+    → q ≡ askOf h e
+    → s ≡ seenBy q h (x .nets) (x .forbidden) (x .barred) (y .nets) (y .forbidden) (y .barred)
+    → l ≡ listedOf q h a b
+    → p ≡ plannedBy h e octets s l
+    → x' ≡ tableAfter p 0 (h .a0 .entries) h x
+    → y' ≡ tableAfter p 1 (h .a1 .entries) h y
+    → a' ≡ listAfter (taskOf (p .work .roaming) (p .ask)) (h .dev .roaming) a
+    → m ≡ countAfter (taskOf (p .work .roaming) (p .ask)) (h .dev .roaming) a
+    → b' ≡ listAfter (taskOf (p .work .regional) (p .ask)) (h .dev .regional) b
+    → n ≡ countAfter (taskOf (p .work .regional) (p .ask)) (h .dev .regional) b
+    → g ≡ listed m n (p .hot)
+    → partsOf (record { plan = p; hot = g }) x' y' a' b' ≡ partsAfter h e octets x y a b
+unfolding partsAfter carriedOut doneOf plannedOf seenOf
+core-law h e octets q s l p x y x' y' a b a' b' m n g iq is il ip ix iy ia im ib in' ig =
+    rw (← iq, ← is, ← il, ← ip, ix, iy, ia, ib, ig, im, in')
+
+pub step-law : (r : Record) (e : Event) (octets : List ℕ) (d : Done) (x y : Entries) (a b : List ℕ) (k : Kept)
+    → partsOf d x y a b ≡ partsAfter (r .hot) e octets (r .e0) (r .e1) (r .roaming) (r .regional)
+    → k ≡ keptAfter (d .plan) octets (keptIn r)
+    → together r (partsOf d x y a b) k ≡ advanceOf r e octets
+unfolding advanceOf joinedOf
+step-law r e octets d x y a b k i j = rw (← i, j)

@@ -1,0 +1,157 @@
+-- Arrays read to a count, place by place: all elements pass, no two have one key; what a store, a change along another array and a search do.
+-- Each is by induction on the array or on the count. Assumes nothing.
+use Prim.Native.Nat.{ℕ, zero, suc, _≤_, _<_}
+use mathlib.Core.Path.{_≡_, refl, sym, ap, _∙_}
+use mathlib.Core.Bool.{Bool, true, false, cond, true≢false}
+use mathlib.Core.List.{List, [], _∷_}
+use mathlib.Core.Logic.{_≢_}
+use native.Mathlib.Omega.{arith}
+use lib.Dec.{ltb, eqb}
+use lib.ListN.{length, getD, set}
+use borrow.Author.Tests.{eqb-true, eqb-false, eq-eqb, ne-eqb, ltb-true, ltb-false}
+use Rattle.laws.specs.Upto.{upto, seekTo, allTo, distinctTo, sameBy}
+use Rattle.validity.proofs.Bools.{both-left, both-right, both-true}
+
+-- each of the first n passes
+abbrev pub All : (ℕ → Bool) → ℕ → List ℕ → Type 0
+All p n xs = (k : ℕ) → k < n → p (getD xs k 0) ≡ true
+
+-- no two of the first n have one key
+abbrev pub Once : (ℕ → ℕ) → ℕ → List ℕ → Type 0
+Once key n xs = (i j : ℕ) → i < j → j < n → key (getD xs i 0) ≡ key (getD xs j 0) → ⊥
+
+-- below n + 1: the last one, or below n
+split : (P : ℕ → Type 0) (k n : ℕ) → k < suc n → (k < n → P k) → P n → P k
+split P k n h f p = go (eqb k n) refl
+  where
+    go : (b : Bool) → eqb k n ≡ b → P k
+    go true e = rw (eqb-true k n e) p
+    go false e = f (let q : k ≢ n = eqb-false k n e in omega arith)
+
+pub all-of : (p : ℕ → Bool) (n : ℕ) (xs : List ℕ) → allTo p n xs ≡ true → All p n xs
+unfolding allTo
+all-of p zero xs e k h = absurd (omega arith)
+all-of p (suc n) xs e k h =
+    split (λ j. p (getD xs j 0) ≡ true) k n h (all-of p n xs (both-left (allTo p n xs) (p (getD xs n 0)) e) k) (both-right (allTo p n xs) (p (getD xs n 0)) e)
+
+pub of-all : (p : ℕ → Bool) (n : ℕ) (xs : List ℕ) → All p n xs → allTo p n xs ≡ true
+unfolding allTo
+of-all p zero xs f = refl
+of-all p (suc n) xs f =
+    both-true (allTo p n xs) (p (getD xs n 0)) (of-all p n xs (λ k h. f k (omega arith))) (f n (omega arith))
+
+-- fewer of them
+pub all-fewer : (p : ℕ → Bool) (m n : ℕ) (xs : List ℕ) → m ≤ n → All p n xs → All p m xs
+all-fewer p m n xs h f k g = f k (omega arith)
+
+module _ (p : ℕ → Bool) where
+  pub seek-le : (n : ℕ) (xs : List ℕ) → seekTo p n xs ≤ n
+  unfolding seekTo
+  seek-le zero xs = omega arith
+  seek-le (suc n) [] = elim (p 0) as (λ b. cond b 0 (suc (seekTo p n [])) ≤ suc n) [ true ↦ omega arith | false ↦ omega (arith, seek-le n []) ]
+  seek-le (suc n) (x ∷ xs) = elim (p x) as (λ b. cond b 0 (suc (seekTo p n xs)) ≤ suc n) [ true ↦ omega arith | false ↦ omega (arith, seek-le n xs) ]
+
+  -- what is found passes
+  pub seek-found : (n : ℕ) (xs : List ℕ) → seekTo p n xs < n → p (getD xs (seekTo p n xs) 0) ≡ true
+  unfolding seekTo
+  seek-found zero xs h = absurd (omega arith)
+  seek-found (suc n) [] h = go (p 0) refl h (seek-found n [])
+    where
+      go : (b : Bool) → p 0 ≡ b → cond (p 0) 0 (suc (seekTo p n [])) < suc n → (seekTo p n [] < n → p 0 ≡ true) → p (getD [] (cond (p 0) 0 (suc (seekTo p n []))) 0) ≡ true
+      go true e k ih = e
+      go false e k ih = ih (let q : suc (seekTo p n []) < suc n = rw e at k in omega arith)
+  seek-found (suc n) (x ∷ xs) h = go (p x) refl h (seek-found n xs)
+    where
+      go : (b : Bool) → p x ≡ b → cond (p x) 0 (suc (seekTo p n xs)) < suc n → (seekTo p n xs < n → p (getD xs (seekTo p n xs) 0) ≡ true) → p (getD (x ∷ xs) (cond (p x) 0 (suc (seekTo p n xs))) 0) ≡ true
+      go true e k ih = rw e e
+      go false e k ih = rw e (ih (let q : suc (seekTo p n xs) < suc n = rw e at k in omega arith))
+
+  -- those before it do not
+  pub seek-before : (n : ℕ) (xs : List ℕ) (k : ℕ) → k < seekTo p n xs → p (getD xs k 0) ≡ false
+  unfolding seekTo
+  seek-before zero xs k h = absurd (omega arith)
+  seek-before (suc n) [] k h = go (p 0) refl h
+    where
+      go : (b : Bool) → p 0 ≡ b → k < cond (p 0) 0 (suc (seekTo p n [])) → p 0 ≡ false
+      go true e g = let q : k < 0 = rw e at g in absurd (omega arith)
+      go false e g = e
+  seek-before (suc n) (x ∷ xs) zero h = go (p x) refl h
+    where
+      go : (b : Bool) → p x ≡ b → 0 < cond (p x) 0 (suc (seekTo p n xs)) → p x ≡ false
+      go true e g = let q : 0 < 0 = rw e at g in absurd (omega arith)
+      go false e g = e
+  seek-before (suc n) (x ∷ xs) (suc k) h = go (p x) refl h (seek-before n xs k)
+    where
+      go : (b : Bool) → p x ≡ b → suc k < cond (p x) 0 (suc (seekTo p n xs)) → (k < seekTo p n xs → p (getD xs k 0) ≡ false) → p (getD xs k 0) ≡ false
+      go true e g ih = let q : suc k < 0 = rw e at g in absurd (omega arith)
+      go false e g ih = ih (let q : suc k < suc (seekTo p n xs) = rw e at g in omega arith)
+
+  -- none passes
+  pub seek-none : (n : ℕ) (xs : List ℕ) → ((k : ℕ) → k < n → p (getD xs k 0) ≡ false) → seekTo p n xs ≡ n
+  seek-none n xs f = go (ltb (seekTo p n xs) n) refl
+    where
+      go : (b : Bool) → ltb (seekTo p n xs) n ≡ b → seekTo p n xs ≡ n
+      go true e = let h : seekTo p n xs < n = ltb-true (seekTo p n xs) n e in absurd (true≢false (sym (seek-found n xs h) ∙ f (seekTo p n xs) h))
+      go false e = let h : n ≤ seekTo p n xs = ltb-false (seekTo p n xs) n e in omega (arith, seek-le n xs)
+
+module _ (key : ℕ → ℕ) where
+  pub once-of : (n : ℕ) (xs : List ℕ) → distinctTo key n xs ≡ true → Once key n xs
+  unfolding distinctTo
+  once-of zero xs e i j g h = absurd (omega arith)
+  once-of (suc n) xs e i j g h = split (λ m. i < m → key (getD xs i 0) ≡ key (getD xs m 0) → ⊥) j n h (λ l w. once-of n xs (both-left (distinctTo key n xs) (eqb (seekTo (sameBy key (getD xs n 0)) n xs) n) e) i j w l) last g
+    where
+      q : seekTo (sameBy key (getD xs n 0)) n xs ≡ n
+      q = eqb-true (seekTo (sameBy key (getD xs n 0)) n xs) n (both-right (distinctTo key n xs) (eqb (seekTo (sameBy key (getD xs n 0)) n xs) n) e)
+
+      last : i < n → key (getD xs i 0) ≡ key (getD xs n 0) → ⊥
+      last l = eqb-false (key (getD xs i 0)) (key (getD xs n 0)) (seek-before (sameBy key (getD xs n 0)) n xs i (rw q l))
+
+  pub of-once : (n : ℕ) (xs : List ℕ) → Once key n xs → distinctTo key n xs ≡ true
+  unfolding distinctTo
+  of-once zero xs f = refl
+  of-once (suc n) xs f =
+      both-true (distinctTo key n xs) (eqb (seekTo (sameBy key (getD xs n 0)) n xs) n) (of-once n xs (λ i j g h. f i j g (omega arith)))
+      (eq-eqb (seekTo (sameBy key (getD xs n 0)) n xs) n (seek-none (sameBy key (getD xs n 0)) n xs (λ k h. ne-eqb (key (getD xs k 0)) (key (getD xs n 0)) (f k n h (omega arith)))))
+
+-- a store, read at its place and at any other
+pub set-same : (xs : List ℕ) (i v : ℕ) → i < length xs → getD (set xs i v) i 0 ≡ v
+set-same [] i v h = absurd (omega arith)
+set-same (x ∷ xs) zero v h = refl
+set-same (x ∷ xs) (suc i) v h = set-same xs i v (omega arith)
+
+pub set-other : (xs : List ℕ) (i v k : ℕ) → k ≢ i → getD (set xs i v) k 0 ≡ getD xs k 0
+set-other [] i v k h = refl
+set-other (x ∷ xs) zero v zero h = absurd (h refl)
+set-other (x ∷ xs) zero v (suc k) h = refl
+set-other (x ∷ xs) (suc i) v zero h = refl
+set-other (x ∷ xs) (suc i) v (suc k) h = set-other xs i v k (λ e. h (ap suc e))
+
+-- what passes everywhere but at the place of the store passes everywhere if what was stored does (or 0, past the end)
+pub set-reads : (xs : List ℕ) (i v k : ℕ) (P : ℕ → Type 0) → (i < length xs → P v) → (length xs ≤ i → P 0) → (k ≢ i → P (getD xs k 0)) → P (getD (set xs i v) k 0)
+set-reads [] zero v zero P f z g = z (omega arith)
+set-reads [] (suc i) v zero P f z g = z (omega arith)
+set-reads [] i v (suc k) P f z g = go i refl
+  where
+    go : (j : ℕ) → i ≡ j → P 0
+    go j e = z (omega arith)
+set-reads (x ∷ xs) zero v zero P f z g = f (omega arith)
+set-reads (x ∷ xs) zero v (suc k) P f z g = g (omega arith)
+set-reads (x ∷ xs) (suc i) v zero P f z g = g (omega arith)
+set-reads (x ∷ xs) (suc i) v (suc k) P f z g = set-reads xs i v k P (λ h. f (omega arith)) (λ h. z (omega arith)) (λ h. g (λ e. h (omega arith)))
+
+-- a change along another array: an element at a place, and the length
+pub upto-reads : (f : ℕ → ℕ → ℕ) (n : ℕ) (xs ys : List ℕ) (k : ℕ) (P : ℕ → Type 0) → k < n → P (f (getD xs k 0) (getD ys k 0)) → P 0 → P (getD (upto f n xs ys) k 0)
+unfolding upto
+upto-reads f zero xs ys k P h p z = absurd (omega arith)
+upto-reads f (suc n) xs [] k P h p z = z
+upto-reads f (suc n) [] (y ∷ ys) zero P h p z = p
+upto-reads f (suc n) [] (y ∷ ys) (suc k) P h p z = upto-reads f n [] ys k P (omega arith) p z
+upto-reads f (suc n) (x ∷ xs) (y ∷ ys) zero P h p z = p
+upto-reads f (suc n) (x ∷ xs) (y ∷ ys) (suc k) P h p z = upto-reads f n xs ys k P (omega arith) p z
+
+pub upto-length : (f : ℕ → ℕ → ℕ) (n : ℕ) (xs ys : List ℕ) → length (upto f n xs ys) ≡ length ys
+unfolding upto
+upto-length f zero xs ys = refl
+upto-length f (suc n) xs [] = refl
+upto-length f (suc n) [] (y ∷ ys) = ap suc (upto-length f n [] ys)
+upto-length f (suc n) (x ∷ xs) (y ∷ ys) = ap suc (upto-length f n xs ys)

@@ -1,0 +1,65 @@
+-- Tests that hold: both, either one, a bound, and an answer that passed a check. Each is by cases on the test. Assumes nothing.
+use Prim.Native.Nat.{ℕ, _≤_}
+use mathlib.Core.Path.{_≡_, refl, sym, _∙_}
+use mathlib.Core.Bool.{Bool, true, false, cond, true≢false, false≢true}
+use native.Mathlib.Omega.{arith}
+use lib.Dec.{leb, ltb}
+use borrow.Author.Tests.{leb-true, ltb-false}
+use Rattle.record.specs.Tests.{both, either, flip, within, upTo}
+use Rattle.record.specs.declared.Answer.{Answer}
+use Rattle.record.specs.Answers.{isTaken}
+use Rattle.rules.specs.Answers.{check}
+use Rattle.events.specs.Parts.{atMost}
+
+pub both-left : (a b : Bool) → both a b ≡ true → a ≡ true
+both-left true b e = refl
+both-left false b e = absurd (false≢true e)
+
+pub both-right : (a b : Bool) → both a b ≡ true → b ≡ true
+both-right true b e = e
+both-right false b e = absurd (false≢true e)
+
+pub both-true : (a b : Bool) → a ≡ true → b ≡ true → both a b ≡ true
+both-true true b p q = q
+both-true false b p q = absurd (false≢true p)
+
+-- the first fails, so the second holds
+pub either-second : (a b : Bool) → either a b ≡ true → a ≡ false → b ≡ true
+either-second true b e q = absurd (true≢false q)
+either-second false b e q = e
+
+-- the second fails, so the first holds
+pub either-left : (a b : Bool) → either a b ≡ true → b ≡ false → a ≡ true
+either-left true b e q = refl
+either-left false b e q = absurd (true≢false (sym e ∙ q))
+
+pub either-first : (a b : Bool) → a ≡ true → either a b ≡ true
+either-first true b q = refl
+either-first false b q = absurd (false≢true q)
+
+pub flip-true : (a : Bool) → flip a ≡ true → a ≡ false
+flip-true true e = absurd (false≢true e)
+flip-true false e = refl
+
+pub within-high : (a b n : ℕ) → within a b n ≡ true → n ≤ b
+within-high a b n e = leb-true n b (both-right (leb a n) (leb n b) e)
+
+pub within-low : (a b n : ℕ) → within a b n ≡ true → a ≤ n
+within-low a b n e = leb-true a n (both-left (leb a n) (leb n b) e)
+
+-- a number below the most
+pub most-is : (m n : ℕ) → upTo m n ≡ true → atMost m n ≡ n
+most-is m n e = go (ltb n m) refl
+  where
+    go : (b : Bool) → ltb n m ≡ b → cond (ltb n m) n m ≡ n
+    go true q = rw q
+    go false q = rw q (let l = ltb-false n m q in let h = leb-true n m e in omega arith)
+
+-- what was taken passed the check, and the rest was taken
+pub check-passed : (b : Bool) (n rest : Answer) → isTaken n ≡ false → isTaken (check b n rest) ≡ true → b ≡ true
+check-passed true n rest q e = refl
+check-passed false n rest q e = absurd (true≢false (sym e ∙ q))
+
+pub check-rest : (b : Bool) (n rest : Answer) → isTaken n ≡ false → isTaken (check b n rest) ≡ true → isTaken rest ≡ true
+check-rest true n rest q e = e
+check-rest false n rest q e = absurd (true≢false (sym e ∙ q))

@@ -1,0 +1,132 @@
+-- What an accept brings is in range: at most 15 equivalents, each of three octets, and a T3502 length of at most 31 times 360 s. Assumes nothing.
+use Prim.Native.Nat.{ℕ, zero, suc, _+_, _*_, _/_, _%_, _≤_}
+use mathlib.Core.Path.{_≡_, refl}
+use mathlib.Core.Bool.{Bool, true, false, cond}
+use mathlib.Core.List.{List, [], _∷_}
+use native.Mathlib.Omega.{arith}
+use lib.Dec.{ltb, eqb}
+use lib.ListN.{length, getD, drop}
+use borrow.Author.Tests.{le-leb, lt-ltb, ltb-true}
+use Rattle.laws.specs.Upto.{first, copied}
+use Rattle.octets.specs.declared.Fault.{Fault}
+use Rattle.octets.specs.declared.Fault.the-variants.{Cut, First, Second, Kind}
+use Rattle.octets.specs.declared.Part.{Part}
+use Rattle.octets.specs.declared.Gathered.{Gathered}
+use Rattle.octets.specs.declared.Gathered.the-variants.{Broken, Whole}
+use Rattle.octets.specs.Element.{gatherOf}
+use Rattle.timers.specs.declared.Span.the-variants.{Off, Seconds}
+use Rattle.timers.specs.Timer.{unitOf, spanOf}
+use Rattle.messages.specs.declared.Reading.{Reading}
+use Rattle.messages.specs.declared.Reading.the-variants as reading
+use Rattle.messages.specs.Message.{countOf, waitOf, secondsOf, acceptOf, acceptedOf, acceptReading, rejectedOf, rejectReading, typeReading, openedBy, readingOf}
+use Rattle.record.specs.Tests.{upTo, isShort}
+use Rattle.record.specs.Network.{networkOf}
+use Rattle.events.specs.Parts.{atMost, networksOf}
+use Rattle.validity.specs.Run.{Octets}
+use Rattle.validity.proofs.Bools.{most-is}
+use Rattle.validity.proofs.Arrays.{All, upto-reads}
+
+-- a reading whose numbers fit an access
+abbrev pub Mild : Reading → Type 0
+Mild (reading.Accept g) = (upTo 15 (g .count) ≡ true) × (upTo 11160 (g .wait) ≡ true)
+Mild (reading.Reject cause) = Unit {0}
+Mild (reading.Bad f at) = Unit {0}
+
+unit-fits : (n top : ℕ) → n ≤ 31 → n * unitOf top ≤ 11160
+unfolding unitOf
+unit-fits n top h = elim (eqb top 0) as (λ b. n * cond b 2 (cond (eqb top 1) 60 (cond (eqb top 2) 360 60)) ≤ 11160) [
+  | true ↦ omega arith
+  | false ↦ elim (eqb top 1) as (λ b. n * cond b 60 (cond (eqb top 2) 360 60) ≤ 11160) [
+    | true ↦ omega arith
+    | false ↦ elim (eqb top 2) as (λ b. n * cond b 360 60 ≤ 11160) [ true ↦ omega arith | false ↦ omega arith ]
+  ]
+]
+
+span-fits : (octet : ℕ) → secondsOf (spanOf octet) ≤ 11160
+unfolding spanOf
+span-fits octet = elim (eqb (octet / 32) 7) as (λ b. secondsOf (cond b Off (Seconds (octet % 32 * unitOf (octet / 32)))) ≤ 11160) [
+  | true ↦ omega arith
+  | false ↦ unit-fits (octet % 32) (octet / 32) (omega arith)
+]
+
+wait-fits : (s : List ℕ) (p : Part) → secondsOf (waitOf s p) ≤ 11160
+unfolding waitOf
+wait-fits s p = elim (p .held) as (λ b. secondsOf (cond b (cond (eqb (p .len) 0) Off (spanOf (getD s (p .start) 0))) Off) ≤ 11160) [
+  | true ↦ elim (eqb (p .len) 0) as (λ b. secondsOf (cond b Off (spanOf (getD s (p .start) 0))) ≤ 11160) [ true ↦ omega arith | false ↦ span-fits (getD s (p .start) 0) ]
+  | false ↦ omega arith
+]
+
+count-fits : (p : Part) → countOf p ≤ 15
+unfolding countOf
+count-fits p = elim (p .held) as (λ b. cond b (cond (ltb (p .len / 3) 15) (p .len / 3) 15) 0 ≤ 15) [ true ↦ go (ltb (p .len / 3) 15) refl | false ↦ omega arith ]
+  where
+    go : (b : Bool) → ltb (p .len / 3) 15 ≡ b → cond (ltb (p .len / 3) 15) (p .len / 3) 15 ≤ 15
+    go true q = rw q (omega (arith, ltb-true (p .len / 3) 15 q))
+    go false q = rw q (omega arith)
+
+accepted-mild : (s : List ℕ) (g : Gathered) → Mild (acceptedOf s g)
+unfolding acceptedOf acceptOf
+accepted-mild s (Broken f at) = tt
+accepted-mild s (Whole p q t) = (le-leb (countOf q) 15 (count-fits q), le-leb (secondsOf (waitOf s t)) 11160 (wait-fits s t))
+
+rejected-mild : (cause : ℕ) (g : Gathered) → Mild (rejectedOf cause g)
+unfolding rejectedOf
+rejected-mild cause (Broken f at) = tt
+rejected-mild cause (Whole p q t) = tt
+
+cond-mild : (b : Bool) (m n : Reading) → Mild m → Mild n → Mild (cond b m n)
+cond-mild true m n p q = p
+cond-mild false m n p q = q
+
+accept-mild : (s : List ℕ) → Mild (acceptReading s)
+unfolding acceptReading
+accept-mild s =
+    cond-mild (ltb 3 (length s)) (cond (eqb (getD s 3 0) 0) (reading.Bad Cut 3) read) (reading.Bad Cut 3)
+    (cond-mild (eqb (getD s 3 0) 0) (reading.Bad Cut 3) read tt
+    (cond-mild (ltb (length s) (4 + getD s 3 0)) (reading.Bad Cut (length s)) (acceptedOf s (gatherOf false s (4 + getD s 3 0) 0x77 0x4A 0x16)) tt
+    (accepted-mild s (gatherOf false s (4 + getD s 3 0) 0x77 0x4A 0x16))))
+    tt
+  where
+    read : Reading
+    read = cond (ltb (length s) (4 + getD s 3 0)) (reading.Bad Cut (length s)) (acceptedOf s (gatherOf false s (4 + getD s 3 0) 0x77 0x4A 0x16))
+
+reject-mild : (s : List ℕ) → Mild (rejectReading s)
+unfolding rejectReading
+reject-mild s =
+    cond-mild (ltb 3 (length s)) (rejectedOf (getD s 3 0) (gatherOf false s 4 0x00 0x00 0x00)) (reading.Bad Cut 3) (rejected-mild (getD s 3 0) (gatherOf false s 4 0x00 0x00 0x00)) tt
+
+type-mild : (s : List ℕ) → Mild (typeReading s)
+unfolding typeReading
+type-mild s =
+    cond-mild (ltb 2 (length s)) (cond (eqb (getD s 2 0) 0x42) (acceptReading s) (cond (eqb (getD s 2 0) 0x44) (rejectReading s) (reading.Bad Kind 2))) (reading.Bad Cut 2)
+    (cond-mild (eqb (getD s 2 0) 0x42) (acceptReading s) (cond (eqb (getD s 2 0) 0x44) (rejectReading s) (reading.Bad Kind 2)) (accept-mild s)
+    (cond-mild (eqb (getD s 2 0) 0x44) (rejectReading s) (reading.Bad Kind 2) (reject-mild s) tt))
+    tt
+
+opened-mild : (s : List ℕ) (at octet : ℕ) (f : Fault) (m : Reading) → Mild m → Mild (openedBy s at octet f m)
+unfolding openedBy
+opened-mild s at octet f m h =
+    cond-mild (ltb at (length s)) (cond (eqb (getD s at 0) octet) m (reading.Bad f at)) (reading.Bad Cut at) (cond-mild (eqb (getD s at 0) octet) m (reading.Bad f at) h tt) tt
+
+pub reading-mild : (s : List ℕ) → Mild (readingOf s)
+unfolding readingOf
+reading-mild s = opened-mild s 0 0x7E First (openedBy s 1 0x00 Second (typeReading s)) (opened-mild s 1 0x00 Second (typeReading s) (type-mild s))
+
+drop-octets : (n : ℕ) (s : List ℕ) → Octets s → Octets (drop n s)
+drop-octets zero s h = h
+drop-octets (suc n) [] h = h
+drop-octets (suc n) (x ∷ s) h = drop-octets n s (λ k. h (suc k))
+
+networks-short : (n : ℕ) (s : List ℕ) → Octets s → (k : ℕ) → isShort (getD (networksOf n s) k 0) ≡ true
+unfolding networksOf
+networks-short zero s h k = refl
+networks-short (suc n) s h zero = lt-ltb (networkOf (getD s 0 0) (getD s 1 0) (getD s 2 0)) 16777216 (omega (arith, h 0, h 1, h 2))
+networks-short (suc n) s h (suc k) = networks-short n (drop 3 s) (drop-octets 3 s h) k
+
+-- the equivalents copied from the message
+pub copied-short : (count at : ℕ) (octets equivalents : List ℕ) → upTo 15 count ≡ true → Octets octets
+    → All isShort count (copied (atMost 15 count) (networksOf (atMost 15 count) (drop at octets)) equivalents)
+unfolding copied
+copied-short count at octets equivalents e h k l =
+    rw (most-is 15 count e)
+    (upto-reads first count (networksOf count (drop at octets)) equivalents k (λ x. isShort x ≡ true) l (networks-short count (drop at octets) (drop-octets at octets h) k) refl)

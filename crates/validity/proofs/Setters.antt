@@ -1,0 +1,114 @@
+-- Each setter of an access's numbers keeps them in their ranges, given that the new numbers are: the other groups are untouched. Assumes nothing.
+use Prim.Native.Nat.{ℕ, _+_}
+use mathlib.Core.Path.{_≡_, refl}
+use mathlib.Core.Bool.{Bool, true, false, cond}
+use native.Mathlib.Omega.{arith}
+use lib.Dec.{ltb, eqb}
+use borrow.Author.Tests.{le-leb, ltb-true}
+use Rattle.record.specs.declared.Access.{Access}
+use Rattle.record.specs.Tests.{both, either, within, upTo, isFlag, isShort}
+use Rattle.record.specs.Network.{isNetwork, half, isDigit}
+use Rattle.turns.specs.declared.Order.{Order}
+use Rattle.turns.specs.declared.Order.the-variants.{Leave, Stop, Run}
+use Rattle.turns.specs.declared.Orders.{Orders}
+use Rattle.turns.specs.Timers.{flagAfter}
+use Rattle.turns.specs.Access.{moved, forgotten, emptied, counted, pending, keyed, taught, entered, clocked}
+use Rattle.validity.proofs.Bools.{both-left, both-true}
+use Rattle.validity.proofs.Good.{Fit}
+
+-- the entries' count after a ban or a bar
+abbrev pub grown : Bool → ℕ → ℕ
+grown found n = cond found n (cond (ltb n 16) (n + 1) n)
+
+pub grown-fits : (found : Bool) (n : ℕ) → upTo 16 n ≡ true → upTo 16 (grown found n) ≡ true
+grown-fits true n e = e
+grown-fits false n e = go (ltb n 16) refl
+  where
+    go : (b : Bool) → ltb n 16 ≡ b → upTo 16 (cond (ltb n 16) (n + 1) n) ≡ true
+    go true q = rw q (le-leb (n + 1) 16 (omega (arith, ltb-true n 16 q)))
+    go false q = rw q e
+
+-- a network code is a number of three octets
+pub network-short : (n : ℕ) → isNetwork n ≡ true → isShort n ≡ true
+unfolding isNetwork
+network-short n e =
+    both-left (isShort n)
+    (both (isDigit (half 1048576 n))
+    (both (isDigit (half 65536 n))
+    (both (either (isDigit (half 4096 n)) (eqb (half 4096 n) 15))
+    (both (isDigit (half 256 n))
+    (both (isDigit (half 16 n)) (isDigit (half 1 n)))))))
+    e
+
+pub flag-after : (o : Order) (n : ℕ) → isFlag n ≡ true → isFlag (flagAfter o n) ≡ true
+unfolding flagAfter
+flag-after Leave n e = e
+flag-after Stop n e = refl
+flag-after (Run s) n e = refl
+
+module _ (limit : ℕ) (a : Access) (g : Fit limit a) where
+  pub fit-moved : (state status attempts : ℕ) → upTo 6 state ≡ true → within 1 3 status ≡ true → upTo 5 attempts ≡ true → Fit limit (moved state status attempts a)
+  unfolding moved
+  fit-moved state status attempts p q s =
+      record { mode = (p, q, s); flags = g .flags; wait = g .wait; pending = g .pending; known = g .known; cards = g .cards; equivalents = g .equivalents; entries = g .entries }
+
+  pub fit-forgotten : Fit limit (forgotten a)
+  unfolding forgotten
+  fit-forgotten =
+      record { mode = g .mode; flags = g .flags; wait = g .wait; pending = g .pending; known = (refl, refl, refl, refl); cards = g .cards; equivalents = g .equivalents; entries = g .entries }
+
+  pub fit-emptied : Fit limit (emptied a)
+  unfolding emptied
+  fit-emptied =
+      record { mode = g .mode; flags = g .flags; wait = g .wait; pending = g .pending; known = g .known; cards = g .cards; equivalents = refl; entries = g .entries }
+
+  pub fit-counted : (n : ℕ) → upTo limit n ≡ true → Fit limit (counted n a)
+  unfolding counted
+  fit-counted n p =
+      record { mode = g .mode; flags = g .flags; wait = g .wait; pending = g .pending; known = g .known; cards = p; equivalents = g .equivalents; entries = g .entries }
+
+  pub fit-pending : (net code : ℕ) → isNetwork net ≡ true → isShort code ≡ true → Fit limit (pending net code a)
+  unfolding pending
+  fit-pending net code p q =
+      record { mode = g .mode; flags = g .flags; wait = g .wait; pending = (p, q); known = g .known; cards = g .cards; equivalents = g .equivalents; entries = g .entries }
+
+  pub fit-keyed : (set : ℕ) → upTo 7 set ≡ true → Fit limit (keyed set a)
+  unfolding keyed
+  fit-keyed set p =
+      record { mode = g .mode; flags = g .flags; wait = g .wait; pending = g .pending; known = (g .known .0, g .known .1, g .known .2, p); cards = g .cards; equivalents = g .equivalents; entries = g .entries }
+
+  pub fit-taught : (given : Bool) (count wait : ℕ) → upTo 15 count ≡ true → upTo 11160 wait ≡ true → Fit limit (taught given count wait a)
+  unfolding taught
+  fit-taught given count wait p q = record {
+    mode = g .mode;
+    flags = g .flags;
+    wait = q;
+    pending = g .pending;
+    known = (
+      elim given as (λ b. isFlag (cond b 1 (a .guti)) ≡ true) [ true ↦ refl | false ↦ g .known .0 ],
+      refl,
+      both-true (isShort (a .net)) (isShort (a .code)) (network-short (a .net) (g .pending .0)) (g .pending .1),
+      g .known .3,
+    );
+    cards = g .cards;
+    equivalents = p;
+    entries = g .entries;
+  }
+
+  pub fit-entered : (found : Bool) → Fit limit (entered found a)
+  unfolding entered
+  fit-entered found =
+      record { mode = g .mode; flags = g .flags; wait = g .wait; pending = g .pending; known = g .known; cards = g .cards; equivalents = g .equivalents; entries = grown-fits found (a .entries) (g .entries) }
+
+  pub fit-clocked : (o : Orders) → Fit limit (clocked o a)
+  unfolding clocked
+  fit-clocked o = record {
+    mode = g .mode;
+    flags = (flag-after (o .t3510) (a .t3510) (g .flags .0), flag-after (o .t3511) (a .t3511) (g .flags .1), flag-after (o .t3502) (a .t3502) (g .flags .2));
+    wait = g .wait;
+    pending = g .pending;
+    known = g .known;
+    cards = g .cards;
+    equivalents = g .equivalents;
+    entries = g .entries;
+  }

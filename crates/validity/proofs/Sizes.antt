@@ -1,0 +1,235 @@
+-- A new record's arrays have the lengths of their types, and each event keeps them: a store, a copy and a sweep change no length. Assumes nothing.
+use Prim.Native.Nat.{ℕ, _+_}
+use mathlib.Core.Path.{_≡_, _∙_, ap}
+use mathlib.Core.Bool.{Bool, true, false, cond}
+use mathlib.Core.List.{List, [], _∷_, _++_}
+use native.Mathlib.Omega.{arith}
+use lib.Dec.{ltb, eqb}
+use lib.ListN.{length, getD, set, drop, replicate, length-set, length-replicate, length-append, length-drop}
+use Rattle.laws.specs.Upto.{first, copied}
+use Rattle.entries.specs.declared.Entries.{Entries}
+use Rattle.entries.specs.declared.Deed.{Deed}
+use Rattle.entries.specs.Entries.{isBan, isBar, isAccept, isSweep, isPower, isFresh, sizeOf, liftMark, bumped, putAt, clearUnless, raised, banned, barredBy, accepted, swept, cycled, none, entriesAfter}
+use Rattle.areas.specs.declared.Task.{Task}
+use Rattle.areas.specs.Areas.{areaOf, isProtected, placeIn, listedIn, marked, remarked, placed, stayed, sweptList, listAfter}
+use Rattle.record.specs.Tests.{both}
+use Rattle.record.specs.New.{zeros, emptyRecord, newRecord, mayMake, madeOf}
+use Rattle.record.specs.Valid.{validOf}
+use Rattle.record.specs.declared.Record.{Record}
+use Rattle.record.specs.declared.Made.{Made}
+use Rattle.record.specs.declared.Answer.the-variants.{Taken, Range}
+use Rattle.rules.specs.declared.Event.{Event}
+use Rattle.rules.specs.declared.Plan.{Plan}
+use Rattle.rules.specs.Plan.{refusedReply}
+use Rattle.events.specs.declared.Outcome.{Outcome}
+use Rattle.events.specs.Parts.{taskOf, deedOf, tableAfter, doneOf, carriedOut, plannedOf, partsAfter, isAccepted, isCarded, atMost, networksOf, gutiAfter, equivalentsAfter, suciAfter, keptAfter}
+use Rattle.events.specs.Step.{together, joinedOf, advanceOf, stepOf}
+use Rattle.validity.specs.Sized.{Columns, Sized}
+use Rattle.validity.proofs.Arrays.{upto-length}
+use Rattle.validity.proofs.Filter.{kept-inside}
+
+-- either way the same length
+cond-length : (b : Bool) (xs ys : List ℕ) (n : ℕ) → length xs ≡ n → length ys ≡ n → length (cond b xs ys) ≡ n
+cond-length true xs ys n p q = p
+cond-length false xs ys n p q = q
+
+copied-length : (n : ℕ) (xs ys : List ℕ) → length (copied n xs ys) ≡ length ys
+unfolding copied
+copied-length n xs ys = upto-length first n xs ys
+
+put-length : (xs : List ℕ) (at v n : ℕ) → length xs ≡ n → length (putAt xs at v) ≡ n
+unfolding putAt
+put-length xs at v n e = cond-length (ltb at 16) (set xs at v) xs n (length-set xs at v ∙ e) e
+
+clear-length : (found : Bool) (xs : List ℕ) (at n : ℕ) → length xs ≡ n → length (clearUnless found xs at) ≡ n
+unfolding clearUnless
+clear-length found xs at n e = cond-length found xs (putAt xs at 0) n e (put-length xs at 0 n e)
+
+raised-length : (xs : List ℕ) (at : ℕ) (found : Bool) (limit sure n : ℕ) → length xs ≡ n → length (raised xs at found limit sure) ≡ n
+unfolding raised
+raised-length xs at found limit sure n e = put-length xs at (bumped limit sure (cond found (getD xs at 0) 0)) n e
+
+none-columns : Columns none
+unfolding none
+none-columns = record {
+  nets = length-replicate {A = ℕ} 16 0;
+  bans = length-replicate {A = ℕ} 16 0;
+  n1s = length-replicate {A = ℕ} 16 0;
+  forbidden = length-replicate {A = ℕ} 16 0;
+  barred = length-replicate {A = ℕ} 16 0;
+}
+
+module _ (t : Entries) (w : Columns t) where
+  banned-columns : (k : Deed) (limit : ℕ) → Columns (banned k limit t)
+  unfolding banned
+  banned-columns k limit = record {
+    nets = put-length (t .nets) (k .at) (k .net) 16 (w .nets);
+    bans = raised-length (t .bans) (k .at) (k .found) limit (k .sure) 16 (w .bans);
+    n1s = clear-length (k .found) (t .n1s) (k .at) 16 (w .n1s);
+    forbidden = put-length (t .forbidden) (k .at) 1 16 (w .forbidden);
+    barred = clear-length (k .found) (t .barred) (k .at) 16 (w .barred);
+  }
+
+  barred-columns : (k : Deed) (limit : ℕ) → Columns (barredBy k limit t)
+  unfolding barredBy
+  barred-columns k limit = record {
+    nets = put-length (t .nets) (k .at) (k .net) 16 (w .nets);
+    bans = clear-length (k .found) (t .bans) (k .at) 16 (w .bans);
+    n1s = raised-length (t .n1s) (k .at) (k .found) limit (k .sure) 16 (w .n1s);
+    forbidden = clear-length (k .found) (t .forbidden) (k .at) 16 (w .forbidden);
+    barred = put-length (t .barred) (k .at) 1 16 (w .barred);
+  }
+
+  accepted-columns : (k : Deed) → Columns (accepted k t)
+  unfolding accepted
+  accepted-columns k = record {
+    nets = w .nets;
+    bans = w .bans;
+    n1s = w .n1s;
+    forbidden = cond-length (k .found) (putAt (t .forbidden) (k .at) 0) (t .forbidden) 16 (put-length (t .forbidden) (k .at) 0 16 (w .forbidden)) (w .forbidden);
+    barred = w .barred;
+  }
+
+  swept-columns : (count banlimit n1limit : ℕ) → Columns (swept count banlimit n1limit t)
+  unfolding swept
+  swept-columns count banlimit n1limit = record {
+    nets = w .nets;
+    bans = w .bans;
+    n1s = w .n1s;
+    forbidden = upto-length (liftMark banlimit) (sizeOf count) (t .bans) (t .forbidden) ∙ w .forbidden;
+    barred = upto-length (liftMark n1limit) (sizeOf count) (t .n1s) (t .barred) ∙ w .barred;
+  }
+
+  cycled-columns : (count banlimit : ℕ) → Columns (cycled count banlimit t)
+  unfolding cycled
+  cycled-columns count banlimit = record {
+    nets = w .nets;
+    bans = w .bans;
+    n1s = w .n1s;
+    forbidden = upto-length (liftMark banlimit) (sizeOf count) (t .bans) (t .forbidden) ∙ w .forbidden;
+    barred = length-replicate {A = ℕ} 16 0;
+  }
+
+cond-columns : (b : Bool) (t s : Entries) → Columns t → Columns s → Columns (cond b t s)
+cond-columns true t s p q = p
+cond-columns false t s p q = q
+
+pub entries-columns : (k : Deed) (count banlimit n1limit : ℕ) (t : Entries) → Columns t → Columns (entriesAfter k count banlimit n1limit t)
+unfolding entriesAfter
+entries-columns k count banlimit n1limit t w =
+    cond-columns (isBan (k .kind)) (banned k banlimit t) others (banned-columns t w k banlimit)
+    (cond-columns (isBar (k .kind)) (barredBy k n1limit t) rest (barred-columns t w k n1limit)
+    (cond-columns (isAccept (k .kind)) (accepted k t) timed (accepted-columns t w k)
+    (cond-columns (isSweep (k .kind)) (swept count banlimit n1limit t) power (swept-columns t w count banlimit n1limit)
+    (cond-columns (isPower (k .kind)) (cycled count banlimit t) fresh (cycled-columns t w count banlimit)
+    (cond-columns (isFresh (k .kind)) none t none-columns w)))))
+  where
+    fresh : Entries
+    fresh = cond (isFresh (k .kind)) none t
+
+    power : Entries
+    power = cond (isPower (k .kind)) (cycled count banlimit t) fresh
+
+    timed : Entries
+    timed = cond (isSweep (k .kind)) (swept count banlimit n1limit t) power
+
+    rest : Entries
+    rest = cond (isAccept (k .kind)) (accepted k t) timed
+
+    others : Entries
+    others = cond (isBar (k .kind)) (barredBy k n1limit t) rest
+
+-- those that stay, and as many behind them as before
+swept-length : (count : ℕ) (xs : List ℕ) → length (sweptList count xs) ≡ length xs
+unfolding sweptList stayed
+swept-length count xs =
+    length-append (stayed count xs) (drop (length (stayed count xs)) xs) ∙ ap (λ (n : ℕ). length (stayed count xs) + n) (length-drop (length (stayed count xs)) xs)
+    ∙ omega (arith, kept-inside isProtected (Rattle.areas.specs.Areas.sizeOf count) xs)
+
+shifted-length : (xs : List ℕ) (v : ℕ) → length xs ≡ 40 → length (drop 1 xs ++ (v ∷ [])) ≡ 40
+shifted-length xs v e = length-append (drop 1 xs) (v ∷ []) ∙ omega (arith, length-drop 1 xs)
+
+placed-length : (area sure count : ℕ) (xs : List ℕ) → length xs ≡ 40 → length (placed area sure count xs) ≡ 40
+unfolding placed
+placed-length area sure count xs e =
+    cond-length (listedIn area count xs) (set xs (placeIn area count xs) (remarked area sure (getD xs (placeIn area count xs) 0)))
+    (cond (ltb count 40) (set xs count (marked area sure)) (drop 1 xs ++ (marked area sure ∷ []))) 40
+    (length-set xs (placeIn area count xs) (remarked area sure (getD xs (placeIn area count xs) 0)) ∙ e)
+    (cond-length (ltb count 40) (set xs count (marked area sure)) (drop 1 xs ++ (marked area sure ∷ [])) 40 (length-set xs count (marked area sure) ∙ e) (shifted-length xs (marked area sure) e))
+
+pub list-length : (t : Task) (count : ℕ) (xs : List ℕ) → length xs ≡ 40 → length (listAfter t count xs) ≡ 40
+unfolding listAfter
+list-length t count xs e =
+    cond-length (eqb (t .kind) 1) (placed (areaOf (t .net) (t .code)) (t .sure) count xs) (cond (eqb (t .kind) 2) (sweptList count xs) (cond (eqb (t .kind) 3) (replicate 40 0) xs)) 40
+    (placed-length (areaOf (t .net) (t .code)) (t .sure) count xs e)
+    (cond-length (eqb (t .kind) 2) (sweptList count xs) (cond (eqb (t .kind) 3) (replicate 40 0) xs) 40 (swept-length count xs ∙ e)
+    (cond-length (eqb (t .kind) 3) (replicate 40 0) xs 40 (length-replicate {A = ℕ} 40 0) e))
+
+abbrev most : Plan → ℕ
+most p = atMost 15 (p .gift .count)
+
+module _ (p : Plan) (octets : List ℕ) where
+  guti-length : (me : ℕ) (guti : List ℕ) → length guti ≡ 10 → length (gutiAfter p me octets guti) ≡ 10
+  unfolding gutiAfter
+  guti-length me guti e =
+      cond-length (isCarded p) (zeros 10) (cond (both (isAccepted p me) (p .gift .given)) (copied 10 (drop (p .gift .guti) octets) guti) guti) 10 (length-replicate {A = ℕ} 10 0)
+      (cond-length (both (isAccepted p me) (p .gift .given)) (copied 10 (drop (p .gift .guti) octets) guti) guti 10 (copied-length 10 (drop (p .gift .guti) octets) guti ∙ e) e)
+
+  equivalents-length : (me : ℕ) (xs : List ℕ) → length xs ≡ 15 → length (equivalentsAfter p me octets xs) ≡ 15
+  unfolding equivalentsAfter
+  equivalents-length me xs e =
+      cond-length (isCarded p) (zeros 15) (cond (isAccepted p me) (copied (most p) (networksOf (most p) (drop (p .gift .triplets) octets)) xs) xs) 15 (length-replicate {A = ℕ} 15 0)
+      (cond-length (isAccepted p me) (copied (most p) (networksOf (most p) (drop (p .gift .triplets) octets)) xs) xs 15 (copied-length (most p) (networksOf (most p) (drop (p .gift .triplets) octets)) xs ∙ e) e)
+
+  suci-length : (suci : List ℕ) → length suci ≡ 64 → length (suciAfter p octets suci) ≡ 64
+  unfolding suciAfter
+  suci-length suci e =
+      cond-length (isCarded p) (copied (atMost 64 (length octets)) octets (zeros 64)) suci 64 (copied-length (atMost 64 (length octets)) octets (zeros 64) ∙ length-replicate {A = ℕ} 64 0) e
+
+pub advance-sized : (r : Record) (e : Event) (octets : List ℕ) → Sized r → Sized (advanceOf r e octets .next)
+unfolding advanceOf joinedOf together partsAfter carriedOut doneOf tableAfter keptAfter
+advance-sized r e octets s = record {
+  e0 = entries-columns (deedOf p 0) (r .hot .a0 .entries) (r .hot .dev .banlimit) (r .hot .dev .n1limit) (r .e0) (s .e0);
+  e1 = entries-columns (deedOf p 1) (r .hot .a1 .entries) (r .hot .dev .banlimit) (r .hot .dev .n1limit) (r .e1) (s .e1);
+  roaming = list-length (taskOf (p .work .roaming) (p .ask)) (r .hot .dev .roaming) (r .roaming) (s .roaming);
+  regional = list-length (taskOf (p .work .regional) (p .ask)) (r .hot .dev .regional) (r .regional) (s .regional);
+  guti0 = guti-length p octets 0 (r .guti0) (s .guti0);
+  guti1 = guti-length p octets 1 (r .guti1) (s .guti1);
+  equivalents0 = equivalents-length p octets 0 (r .equivalents0) (s .equivalents0);
+  equivalents1 = equivalents-length p octets 1 (r .equivalents1) (s .equivalents1);
+  suci = suci-length p octets (r .suci) (s .suci);
+  capability = s .capability;
+  security = s .security;
+}
+  where
+    p : Plan
+    p = plannedOf (r .hot) e octets (r .e0) (r .e1) (r .roaming) (r .regional)
+
+pub step-sized : (r : Record) (e : Event) (octets : List ℕ) → Sized r → Sized (stepOf r e octets .next)
+unfolding stepOf
+step-sized r e octets s =
+    elim (validOf r) as (λ b. Sized (cond {A = Outcome} b (advanceOf r e octets) (record { reply = refusedReply Range 0; next = r }) .next)) [ true ↦ advance-sized r e octets s | false ↦ s ]
+
+pub new-sized : (cardlimit banlimit n1limit : ℕ) (capability security : List ℕ) → Sized (newRecord cardlimit banlimit n1limit capability security)
+unfolding newRecord emptyRecord
+new-sized cardlimit banlimit n1limit capability security = record {
+  e0 = none-columns;
+  e1 = none-columns;
+  roaming = length-replicate {A = ℕ} 40 0;
+  regional = length-replicate {A = ℕ} 40 0;
+  guti0 = length-replicate {A = ℕ} 10 0;
+  guti1 = length-replicate {A = ℕ} 10 0;
+  equivalents0 = length-replicate {A = ℕ} 15 0;
+  equivalents1 = length-replicate {A = ℕ} 15 0;
+  suci = length-replicate {A = ℕ} 64 0;
+  capability = copied-length (length capability) capability (zeros 13) ∙ length-replicate {A = ℕ} 13 0;
+  security = copied-length (length security) security (zeros 8) ∙ length-replicate {A = ℕ} 8 0;
+}
+
+pub made-sized : (cardlimit banlimit n1limit : ℕ) (capability security : List ℕ) → Sized (madeOf cardlimit banlimit n1limit capability security .made)
+unfolding madeOf
+made-sized cardlimit banlimit n1limit capability security =
+    elim (mayMake cardlimit banlimit n1limit (length capability) (length security)) as (λ b. Sized (cond {A = Made} b (record { answer = Taken; made = newRecord cardlimit banlimit n1limit capability security }) (record { answer = Range; made = newRecord 1 1 1 (0 ∷ []) (0 ∷ 0 ∷ []) }) .made)) [
+      | true ↦ new-sized cardlimit banlimit n1limit capability security
+      | false ↦ new-sized 1 1 1 (0 ∷ []) (0 ∷ 0 ∷ [])
+    ]

@@ -1,0 +1,102 @@
+-- What a taken event has passed: the checks before the last answer, one by one. Assumes nothing.
+use Prim.Native.Nat.{ℕ}
+use mathlib.Core.Path.{_≡_, refl}
+use mathlib.Core.Bool.{Bool, true, false}
+use mathlib.Core.List.{List}
+use lib.Dec.{leb, ltb, eqb}
+use lib.ListN.{length, getD}
+use Rattle.entries.specs.declared.Seen.{Seen}
+use Rattle.messages.specs.declared.Reading.{Reading}
+use Rattle.record.specs.declared.Hot.{Hot}
+use Rattle.record.specs.declared.Answer.{Answer}
+use Rattle.record.specs.declared.Answer.the-variants as answer
+use Rattle.record.specs.Answers.{isTaken}
+use Rattle.record.specs.Tests.{both, either, flip, within, isFlag, isShort}
+use Rattle.record.specs.Network.{isNetwork}
+use Rattle.turns.specs.Rows.{needsEntry}
+use Rattle.rules.specs.Hot.{accessOf, otherOf}
+use Rattle.rules.specs.Answers.{check, mayStart, isSame, isFree, startRange, startAnswer, rowNow, isIgnored, isFull, rejectAnswer, readAnswer, messageRange, messageAnswer, timerRange, runs, timerAnswer, keyAnswer, cardAnswer}
+use Rattle.validity.proofs.Bools.{both-left, both-right, flip-true, check-passed, check-rest}
+
+pub start-passed : (h : Hot) (w manual net code : ℕ) (s : Seen) (listed : Bool) → isTaken (startAnswer h w manual net code s listed) ≡ true
+    → (isFlag w ≡ true) × (isNetwork net ≡ true) × (isShort code ≡ true) × (eqb (accessOf h w .state) 0 ≡ false)
+unfolding startAnswer startRange isTaken
+start-passed h w manual net code s listed q = (
+  both-left (isFlag w) (both (isFlag manual) (both (isNetwork net) (isShort code))) range,
+  both-left (isNetwork net) (isShort code) place,
+  both-right (isNetwork net) (isShort code) place,
+  flip-true (eqb (accessOf h w .state) 0) (check-passed (flip (eqb (accessOf h w .state) 0)) answer.NoCard third refl (check-rest (startRange w manual net code) answer.Range second refl q)),
+)
+  where
+    third : Answer
+    third = check (mayStart (accessOf h w .state)) answer.State
+        (check (flip (isSame (otherOf h w) net)) answer.Same
+        (check (isFree manual s) answer.Listed
+        (check (flip (both (eqb w 0) listed)) answer.Area answer.Taken)))
+
+    second : Answer
+    second = check (flip (eqb (accessOf h w .state) 0)) answer.NoCard third
+
+    range : both (isFlag w) (both (isFlag manual) (both (isNetwork net) (isShort code))) ≡ true
+    range = check-passed (startRange w manual net code) answer.Range second refl q
+
+    place : both (isNetwork net) (isShort code) ≡ true
+    place = both-right (isFlag manual) (both (isNetwork net) (isShort code)) (both-right (isFlag w) (both (isFlag manual) (both (isNetwork net) (isShort code))) range)
+
+pub message-passed : (h : Hot) (w sure draw : ℕ) (m : Reading) (s : Seen) → isTaken (messageAnswer h w sure draw m s) ≡ true
+    → (isFlag w ≡ true) × (eqb (accessOf h w .state) 4 ≡ true) × (isTaken (readAnswer h w sure m s) ≡ true)
+unfolding messageAnswer messageRange isTaken
+message-passed h w sure draw m s q = (
+  both-left (isFlag w) (both (isFlag sure) (within 1800 3600 draw)) (check-passed (messageRange w sure draw) answer.Range second refl q),
+  check-passed (eqb (accessOf h w .state) 4) answer.State (readAnswer h w sure m s) refl (check-rest (messageRange w sure draw) answer.Range second refl q),
+  check-rest (eqb (accessOf h w .state) 4) answer.State (readAnswer h w sure m s) refl (check-rest (messageRange w sure draw) answer.Range second refl q),
+)
+  where
+    second : Answer
+    second = check (eqb (accessOf h w .state) 4) answer.State (readAnswer h w sure m s)
+
+full-not : (a b : Bool) → flip (both a (flip b)) ≡ true → a ≡ true → b ≡ true
+full-not true true e p = refl
+full-not true false e p = e
+full-not false true e p = refl
+full-not false false e p = p
+
+-- an entry that the row needs has room
+pub reject-passed : (h : Hot) (w sure cause : ℕ) (s : Seen) → isTaken (rejectAnswer h w sure cause s) ≡ true → needsEntry (rowNow h w sure cause) ≡ true → ltb (s .at) 16 ≡ true
+unfolding rejectAnswer isFull isTaken
+reject-passed h w sure cause s q =
+    full-not (needsEntry (rowNow h w sure cause)) (ltb (s .at) 16)
+    (check-passed (flip (isFull (rowNow h w sure cause) s)) answer.Full answer.Taken refl
+    (check-rest (flip (isIgnored sure cause (otherOf h w))) answer.Ignored (check (flip (isFull (rowNow h w sure cause) s)) answer.Full answer.Taken) refl q))
+
+pub timer-passed : (h : Hot) (number w : ℕ) → isTaken (timerAnswer h number w) ≡ true
+    → (isFlag w ≡ true) × (either (ltb number 4) (eqb w 0) ≡ true) × (eqb (runs h number w) 0 ≡ false)
+unfolding timerAnswer timerRange isTaken
+timer-passed h number w q = (
+  both-left (isFlag w) (either (ltb number 4) (eqb w 0)) range,
+  both-right (isFlag w) (either (ltb number 4) (eqb w 0)) range,
+  flip-true (eqb (runs h number w) 0) (check-passed (flip (eqb (runs h number w) 0)) answer.Idle answer.Taken refl (check-rest (timerRange number w) answer.Range second refl q)),
+)
+  where
+    second : Answer
+    second = check (flip (eqb (runs h number w) 0)) answer.Idle answer.Taken
+
+    range : both (isFlag w) (either (ltb number 4) (eqb w 0)) ≡ true
+    range = both-right (within 1 4 number) (both (isFlag w) (either (ltb number 4) (eqb w 0))) (check-passed (timerRange number w) answer.Range second refl q)
+
+pub key-passed : (h : Hot) (w set : ℕ) → isTaken (keyAnswer h w set) ≡ true → (isFlag w ≡ true) × (leb set 6 ≡ true)
+unfolding keyAnswer isTaken
+key-passed h w set q =
+    let range = check-passed (both (isFlag w) (leb set 6)) answer.Range (check (eqb (accessOf h w .state) 4) answer.State answer.Taken) refl q in
+    (both-left (isFlag w) (leb set 6) range, both-right (isFlag w) (leb set 6) range)
+
+pub card-passed : (home : ℕ) (suci : List ℕ) → isTaken (cardAnswer home suci) ≡ true
+    → (isNetwork home ≡ true) × (within 9 64 (length suci) ≡ true) × (eqb (getD suci 0 0) 1 ≡ true)
+unfolding cardAnswer isTaken
+card-passed home suci q =
+    let range = check-passed (both (isNetwork home) (both (within 9 64 (length suci)) (eqb (getD suci 0 0) 1))) answer.Range answer.Taken refl q in
+    let two = both-right (isNetwork home) (both (within 9 64 (length suci)) (eqb (getD suci 0 0) 1)) range in (
+      both-left (isNetwork home) (both (within 9 64 (length suci)) (eqb (getD suci 0 0) 1)) range,
+      both-left (within 9 64 (length suci)) (eqb (getD suci 0 0) 1) two,
+      both-right (within 9 64 (length suci)) (eqb (getD suci 0 0) 1) two,
+    )

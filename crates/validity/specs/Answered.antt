@@ -1,0 +1,25 @@
+-- The answer of an event on a record, before anything is done. Assumes nothing.
+use mathlib.Core.Bool.{Bool}
+use mathlib.Core.List.{List}
+use Prim.Native.Nat.{ℕ}
+use Rattle.entries.specs.declared.Seen.{Seen}
+use Rattle.record.specs.declared.Answer.{Answer}
+use Rattle.record.specs.declared.Record.{Record}
+use Rattle.rules.specs.declared.Ask.{Ask}
+use Rattle.rules.specs.declared.Event.{Event}
+use Rattle.rules.specs.Plan.{heardOf, askOf, answerOf}
+use Rattle.events.specs.Parts.{seenOf, listedOf}
+
+-- what the event asks about
+abbrev pub askIn : Record → Event → Ask
+askIn r e = askOf (r .hot) e
+
+-- what stands about its network, and whether its area is listed
+abbrev pub seenAt : Record → Event → Seen
+seenAt r e = seenOf (askIn r e) (r .hot) (r .e0) (r .e1)
+
+abbrev pub listedAt : Record → Event → Bool
+listedAt r e = listedOf (askIn r e) (r .hot) (r .roaming) (r .regional)
+
+unfoldable pub answeredBy : Record → Event → List ℕ → Answer
+answeredBy r e octets = answerOf (r .hot) e (seenAt r e) (listedAt r e) (heardOf e octets) octets

@@ -1,0 +1,4 @@
+-- How long a record's arrays are, what an event is answered, and a run of events.
+pub mod Sized
+pub mod Answered
+pub mod Run
