@@ -17,3 +17,4 @@ pub mod Common
 pub mod Taken
 pub mod Kept
 pub mod Runs
+pub mod Card

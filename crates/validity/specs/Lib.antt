@@ -2,3 +2,4 @@
 pub mod Sized
 pub mod Answered
 pub mod Run
+pub mod Card

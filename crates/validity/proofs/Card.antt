@@ -1,0 +1,27 @@
+-- A taken card change leaves nothing of the record before it but its limits and capabilities. Assumes nothing.
+use Prim.Native.Nat.{ℕ}
+use mathlib.Core.Path.{_≡_, refl}
+use mathlib.Core.Bool.{true}
+use mathlib.Core.List.{List}
+use Rattle.entries.specs.Entries.{entriesAfter, none}
+use Rattle.areas.specs.Areas.{listAfter, countAfter}
+use Rattle.record.specs.declared.Record.{Record}
+use Rattle.record.specs.Answers.{isTaken}
+use Rattle.record.specs.New.{newDevice, newAccess, emptyRecord}
+use Rattle.turns.specs.Timers.{flagAfter}
+use Rattle.turns.specs.Access.{clocked}
+use Rattle.turns.specs.Turns.{renewed}
+use Rattle.rules.specs.declared.Event.the-variants.{Card}
+use Rattle.rules.specs.Hot.{hotOf}
+use Rattle.rules.specs.Effects.{ticked, carded, cardEffect}
+use Rattle.rules.specs.Plan.{askOf, effectOf, hotAfter, takenPlan}
+use Rattle.events.specs.Parts.{mineOf, deedOf, tableAfter, listed, doneOf, carriedOut, gutiAfter, equivalentsAfter, suciAfter, keptAfter}
+use Rattle.events.specs.Step.{together, joinedOf, advanceOf}
+use Rattle.validity.specs.Answered.{answeredBy}
+use Rattle.validity.specs.Card.{cardRecord}
+use Rattle.validity.proofs.Refusal.{taken-plan}
+
+pub card-is-new : (r : Record) (home : ℕ) (suci : List ℕ) → isTaken (answeredBy r (Card home) suci) ≡ true
+    → advanceOf r (Card home) suci .next ≡ cardRecord r home suci
+unfolding cardRecord emptyRecord newDevice newAccess carded ticked none joinedOf together carriedOut doneOf listed takenPlan hotAfter hotOf effectOf cardEffect renewed clocked flagAfter askOf tableAfter deedOf mineOf entriesAfter listAfter countAfter keptAfter gutiAfter equivalentsAfter suciAfter
+card-is-new r home suci taken = rw (taken-plan r (Card home) suci taken) refl
