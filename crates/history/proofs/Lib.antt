@@ -9,3 +9,5 @@ pub mod Demand3
 pub mod Apart
 pub mod Facts
 pub mod Refusals
+pub mod Replayed
+pub mod Single

@@ -4,3 +4,4 @@ pub mod Cell
 pub mod History
 pub mod Apart
 pub mod Facts
+pub mod Replayed
