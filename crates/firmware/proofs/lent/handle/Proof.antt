@@ -56,10 +56,10 @@ use Rattle.events.proofs.step as step
 use Rattle.events.proofs.step.Symbol as step-def
 use Rattle.events.proofs.step.Symbol.{name as #events·value·step}
 use Rattle.events.proofs.step.Met as step-thm
-use Rattle.firmware.proofs.handle.Key.{name as #firmware·handle}
-use Rattle.firmware.proofs.handle as f
-use Rattle.firmware.proofs.handle.Statement as stated
-use Rattle.firmware.proofs.handle.Code as code
+use Rattle.firmware.proofs.lent.handle.Key.{name as #firmware·handle}
+use Rattle.firmware.proofs.lent.handle as f
+use Rattle.firmware.proofs.lent.handle.Statement as stated
+use Rattle.firmware.proofs.lent.handle.Code as code
 
 abbrev Arg : Type 0
 Arg = RefT Record × (Event × (RefT (List ℕ) × Unit {0}))
