@@ -13,8 +13,14 @@ fn timer_of(t: Told) -> Timer
     ensures { λ r. ⌜ r ≡ timerOf t ⌝ }
 {
     match t {
-        Told::Left => Timer { told: 0, seconds: 0 },
-        Told::Stopped => Timer { told: 1, seconds: 0 },
+        Told::Left => Timer {
+            told: 0,
+            seconds: 0,
+        },
+        Told::Stopped => Timer {
+            told: 1,
+            seconds: 0,
+        },
         Told::Started(seconds) => Timer { told: 2, seconds },
     }
 }
