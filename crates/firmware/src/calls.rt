@@ -39,7 +39,8 @@ fn taken(r: Record, kind: u32, body: &[u8]) -> Taken
 }
 
 // A new record, whatever was there before.
-pub fn tjernfaug_new(
+#[no_mangle]
+pub extern "C" fn tjernfaug_new(
     r: &mut Record,
     cardlimit: u8,
     banlimit: u8,
@@ -55,7 +56,8 @@ pub fn tjernfaug_new(
 }
 
 // An event as the event log has it: its kind and its body.
-pub fn tjernfaug_event(r: &mut Record, kind: u32, body: &[u8], notice: &mut Notice) -> u32
+#[no_mangle]
+pub extern "C" fn tjernfaug_event(r: &mut Record, kind: u32, body: &[u8], notice: &mut Notice) -> u32
     ensures { λ a. ⌜ (a ≡ takenOf (now (r .entry)) kind (now (body .entry)) .answer) × ((now (r .exit) ≡ takenOf (now (r .entry)) kind (now (body .entry)) .next) × (now (notice .exit) ≡ takenOf (now (r .entry)) kind (now (body .entry)) .notice)) ⌝ }
 {
     let o = taken(*r, kind, body);
