@@ -47,7 +47,7 @@ static void rejects(void)
 
 static void refusals(void)
 {
-    expect("empty", reject_cause(NULL, 0), 259);
+    expect("empty", reject_cause((const uint8_t *)"", 0), 259);
     CAUSE("first octet", 259, 0x7D, 0x00, 0x44, 0x0B);
     CAUSE("second octet", 259, 0x7E, 0x01, 0x44, 0x0B);
     CAUSE("no type", 259, 0x7E, 0x00);
