@@ -139,4 +139,13 @@ uint32_t tjernfaug_new(struct tjernfaug_record *r, uint8_t cardlimit, uint8_t ba
 uint32_t tjernfaug_event(struct tjernfaug_record *r, uint32_t kind, const uint8_t *body, size_t len,
                          struct tjernfaug_notice *notice);
 
+/*
+ * The registration request of an access in state 4, written from buffer[0] on. r and what lies behind the request stay as they were.
+ * How many octets it has, at most 102; or 256 plus the refusal's number, and then the whole buffer is as it was:
+ *   257  access is not 0 or 1, or r is invalid
+ *   262  the access is not in state 4
+ *   268  the buffer is shorter than the request
+ */
+uint32_t tjernfaug_request(const struct tjernfaug_record *r, uint8_t access, uint8_t *buffer, size_t len);
+
 #endif

@@ -8,7 +8,7 @@
 #include "tjernfaug.h"
 
 enum { CARD = 1, START, MESSAGE, TIMER };
-enum { TAKEN = 0, LISTED = 8 };
+enum { TAKEN = 0, RANGE = 1, STATE = 6, LISTED = 8, SHORT = 12, REFUSED = 256 };
 
 struct device {
     struct tjernfaug_record record;
@@ -42,6 +42,23 @@ static uint32_t start(struct device *d)
     return hand(d, START, body, sizeof body);
 }
 
+/* The request that the device sends, with ngKSI 7 and the card's SUCI; what lies behind it stays, and in too short a buffer all of it. */
+static int request(const struct device *d)
+{
+    static const uint8_t octets[] = {0x7E, 0x00, 0x41, 0x71, 0x00, 0x09, 0x01, 0x00, 0xF1, 0x10,
+                                     0xF0, 0xFF, 0x00, 0x00, 0x07, 0x2E, 0x02, 0xF0, 0xF0};
+    uint8_t sent[102], kept[102];
+    memset(sent, 0xA5, sizeof sent);
+    memset(kept, 0xA5, sizeof kept);
+    int right = tjernfaug_request(&d->record, 0, sent, sizeof octets - 1) == REFUSED + SHORT;
+    right &= tjernfaug_request(&d->record, 1, sent, sizeof sent) == REFUSED + STATE;
+    right &= tjernfaug_request(&d->record, 2, sent, sizeof sent) == REFUSED + RANGE;
+    right &= memcmp(sent, kept, sizeof sent) == 0;
+    right &= tjernfaug_request(&d->record, 0, sent, sizeof sent) == sizeof octets;
+    memcpy(kept, octets, sizeof octets);
+    return right && memcmp(sent, kept, sizeof sent) == 0;
+}
+
 /* The false cell: cause 11, not protected; the draw for T3247 is 1800 s. */
 static uint32_t reject(struct device *d)
 {
@@ -67,7 +84,7 @@ int main(int argc, char **argv)
     int wrong = tjernfaug_new(&d.record, 3, 3, 3, capability, sizeof capability, security, sizeof security) != TAKEN;
     wrong |= card(&d) != TAKEN;
     while (start(&d) == TAKEN && rejects < 10) {
-        wrong |= d.notice.c0.t3510.told != 2 || d.notice.c0.t3510.seconds != 15;
+        wrong |= d.notice.c0.t3510.told != 2 || d.notice.c0.t3510.seconds != 15 || !request(&d);
         wrong |= reject(&d) != TAKEN || d.notice.t3247.told != 2 || d.notice.c0.t3510.told != 1;
         rejects++;
         wrong |= wait(&d) != TAKEN || d.notice.t3247.told != 1;

@@ -1,13 +1,16 @@
--- What the calls of C come to: a new record, and an event as the event log has it. Assumes nothing.
-use Prim.Native.Nat.{ℕ}
+-- What the calls of C come to: a new record, an event as the event log has it, and a request. Assumes nothing.
+use Prim.Native.Nat.{ℕ, _+_}
+use mathlib.Core.Bool.{cond}
 use mathlib.Core.List.{List}
-use Rattle.record.specs.Answers.{numberOf}
+use Rattle.record.specs.Answers.{numberOf, isTaken}
 use Rattle.record.specs.New.{madeOf}
 use Rattle.record.specs.declared.Record.{Record}
 use Rattle.record.specs.declared.Made.{Made}
 use Rattle.events.specs.declared.Outcome.{Outcome}
 use Rattle.events.specs.Step.{stepOf}
 use Rattle.log.specs.Log.{eventOf, octetsOf}
+use Rattle.request.specs.declared.Written.{Written}
+use Rattle.request.specs.Writing.{writtenOf}
 use Rattle.firmware.specs.declared.Opened.{Opened}
 use Rattle.firmware.specs.declared.Taken.{Taken}
 use Rattle.firmware.specs.Notice.{noticeOf}
@@ -24,3 +27,11 @@ takenBy o = record { answer = numberOf (o .reply .answer); notice = noticeOf (o 
 -- a kind and a body are an event and the octets beside it
 unfoldable pub takenOf : Record → ℕ → List ℕ → Taken
 takenOf r kind body = takenBy (stepOf r (eventOf kind body) (octetsOf kind body))
+
+-- how many octets were written, or 256 plus the refusal's number
+unfoldable pub wroteBy : Written → ℕ
+wroteBy w = cond (isTaken (w .answer)) (w .len) (256 + numberOf (w .answer))
+
+-- a request over an access, into a buffer of n octets
+unfoldable pub wroteOf : Record → ℕ → ℕ → ℕ
+wroteOf r access n = wroteBy (writtenOf r access n)

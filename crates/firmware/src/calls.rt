@@ -5,7 +5,9 @@ use crate::Taken;
 use crate::told::notice_of;
 use record::Record;
 ghost use mathlib.Core.Path.{_≡_};
-ghost use Rattle.firmware.specs.Calls.{openedOf, takenOf};
+ghost use lib.ListN.{length};
+ghost use Rattle.request.specs.Writing.{bufferOf};
+ghost use Rattle.firmware.specs.Calls.{openedOf, takenOf, wroteOf};
 
 fn opened(cardlimit: u8, banlimit: u8, n1limit: u8, capability: &[u8], security: &[u8]) -> Opened
     ensures { λ r. ⌜ r ≡ openedOf cardlimit banlimit n1limit (now (capability .entry)) (now (security .entry)) ⌝ }
@@ -38,6 +40,21 @@ fn taken(r: Record, kind: u32, body: &[u8]) -> Taken
     }
 }
 
+// A request's length is below 256, so a refusal is told from it.
+fn asked(r: Record, access: u8, buffer: &mut [u8]) -> u32
+    ensures { λ a. ⌜ (a ≡ wroteOf r access (length (now (buffer .entry)))) × (now (buffer .exit) ≡ bufferOf r access (now (buffer .entry))) ⌝ }
+{
+    let w = request::write(r, access, buffer);
+    let n = w.answer;
+    let len = w.len;
+    let answer = record::number(n);
+    if answer == 0 {
+        len as u32
+    } else {
+        256 + answer as u32
+    }
+}
+
 // A new record, whatever was there before.
 #[no_mangle]
 pub extern "C" fn tjernfaug_new(
@@ -57,11 +74,24 @@ pub extern "C" fn tjernfaug_new(
 
 // An event as the event log has it: its kind and its body.
 #[no_mangle]
-pub extern "C" fn tjernfaug_event(r: &mut Record, kind: u32, body: &[u8], notice: &mut Notice) -> u32
+pub extern "C" fn tjernfaug_event(
+    r: &mut Record,
+    kind: u32,
+    body: &[u8],
+    notice: &mut Notice,
+) -> u32
     ensures { λ a. ⌜ (a ≡ takenOf (now (r .entry)) kind (now (body .entry)) .answer) × ((now (r .exit) ≡ takenOf (now (r .entry)) kind (now (body .entry)) .next) × (now (notice .exit) ≡ takenOf (now (r .entry)) kind (now (body .entry)) .notice)) ⌝ }
 {
     let o = taken(*r, kind, body);
     *r = o.next;
     *notice = o.notice;
     o.answer
+}
+
+// The registration request of an access, written to the buffer's front.
+#[no_mangle]
+pub extern "C" fn tjernfaug_request(r: &Record, access: u8, buffer: &mut [u8]) -> u32
+    ensures { λ a. ⌜ (a ≡ wroteOf (now (r .entry)) access (length (now (buffer .entry)))) × (now (buffer .exit) ≡ bufferOf (now (r .entry)) access (now (buffer .entry))) ⌝ }
+{
+    asked(*r, access, buffer)
 }

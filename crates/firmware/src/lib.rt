@@ -7,6 +7,7 @@ mod told;
 
 pub use calls::tjernfaug_event;
 pub use calls::tjernfaug_new;
+pub use calls::tjernfaug_request;
 pub use lent::handle;
 
 // What is told of a timer: 0 left, 1 stopped, 2 started, and then for how many seconds.
