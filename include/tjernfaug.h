@@ -1,4 +1,11 @@
-/* The message readings for C firmware. Link with libmessages.a, which `rt staticlib messages` writes to target/staticlib. */
+/*
+ * The registration record for C firmware.
+ * libmessages.a has the two message readings, libfirmware.a the record's calls: `rt staticlib messages` and `rt staticlib firmware` write them to target/staticlib.
+ *
+ * What holds for every call: each pointer is valid, aligned for its type, and not null, also where its length is 0: the library takes it so, by its language's rules, and does not test it.
+ * The storage behind a pointer that is not const overlaps no other argument. All of it is used during the call only, and nothing is kept.
+ * Beyond that no argument is bad: any octets are a record, any number is a kind, any octets are a body, and each has its answer.
+ */
 #ifndef TJERNFAUG_H
 #define TJERNFAUG_H
 
@@ -8,11 +15,128 @@
 /*
  * The cause of a registration reject, msg[0] to msg[len - 1]: 0 to 255.
  * For any other message it is 256 plus the refusal's number: 259 for one that is malformed or is no reject, an accept too.
- * The octets are read only, and only during the call. msg must not be null, also where len is 0: the library takes every pointer as valid.
  */
 uint32_t reject_cause(const uint8_t *msg, size_t len);
 
 /* The seconds of a timer octet (GPRS timer 2), 0 to 11160; 65535 for top bits 7, deactivated. */
 uint32_t timer_seconds(uint8_t octet);
+
+/* The device's numbers. A flag is 0 or 1; lengths and counts say how much of an array is in use. */
+struct tjernfaug_device {
+    uint8_t card;
+    uint32_t home;
+    uint8_t suci;
+    uint8_t cardlimit;
+    uint8_t banlimit;
+    uint8_t n1limit;
+    uint8_t t3247;
+    uint8_t capability;
+    uint8_t security;
+    uint8_t roaming;
+    uint8_t regional;
+};
+
+/* One access's numbers. A network and an area code are three octets, the first one highest. */
+struct tjernfaug_access {
+    uint8_t state;
+    uint8_t status;
+    uint8_t attempts;
+    uint8_t cards;
+    uint8_t t3510;
+    uint8_t t3511;
+    uint8_t t3502;
+    uint16_t wait;
+    uint32_t net;
+    uint32_t code;
+    uint8_t guti;
+    uint8_t visited;
+    uint32_t lastnet;
+    uint32_t lastcode;
+    uint8_t ksi;
+    uint8_t equivalents;
+    uint8_t entries;
+};
+
+struct tjernfaug_hot {
+    struct tjernfaug_device dev;
+    struct tjernfaug_access a0;
+    struct tjernfaug_access a1;
+};
+
+/* The network entries of an access, column by column. */
+struct tjernfaug_entries {
+    uint32_t nets[16];
+    uint8_t bans[16];
+    uint8_t n1s[16];
+    uint8_t forbidden[16];
+    uint8_t barred[16];
+};
+
+/*
+ * The record, which firmware keeps and lends. Its fields are there to be read; one that is written may make the record invalid, which is answer 1.
+ * The octets between the fields have no meaning and may change at any call.
+ */
+struct tjernfaug_record {
+    struct tjernfaug_hot hot;
+    struct tjernfaug_entries e0;
+    struct tjernfaug_entries e1;
+    uint64_t roaming[40];
+    uint64_t regional[40];
+    uint8_t guti0[10];
+    uint8_t guti1[10];
+    uint32_t equivalents0[15];
+    uint32_t equivalents1[15];
+    uint8_t suci[64];
+    uint8_t capability[13];
+    uint8_t security[8];
+};
+
+/* told: 0 left as it was, 1 stopped, 2 started (anew, where it ran) for so many seconds. */
+struct tjernfaug_timer {
+    uint32_t told;
+    uint32_t seconds;
+};
+
+struct tjernfaug_timers {
+    struct tjernfaug_timer t3510;
+    struct tjernfaug_timer t3511;
+    struct tjernfaug_timer t3502;
+};
+
+/* What firmware is to do after an event: the timers of access 0 and of access 1, T3247, and the requests, each 0 for none, else 1 plus the access that it is meant for. */
+struct tjernfaug_notice {
+    struct tjernfaug_timers c0;
+    struct tjernfaug_timers c1;
+    struct tjernfaug_timer t3247;
+    uint32_t restart;
+    uint32_t leave;
+    uint32_t update;
+};
+
+/* The library's layout on x86-64; tests/c/fuzz.c holds the library to it. */
+_Static_assert(sizeof(struct tjernfaug_record) == 1224, "the record's size");
+_Static_assert(_Alignof(struct tjernfaug_record) == 8, "the record's alignment");
+_Static_assert(sizeof(struct tjernfaug_notice) == 68, "the notice's size");
+_Static_assert(_Alignof(struct tjernfaug_notice) == 4, "the notice's alignment");
+
+/*
+ * A new record with these limits (1 to 10), 5GMM capability (1 to 13 octets) and UE security capability (2 to 8 octets). What r held before is not read.
+ * 0, or 1 where one of them is outside its range: r is then a new record with the smallest limits (1) and capabilities (00, and 00 00).
+ */
+uint32_t tjernfaug_new(struct tjernfaug_record *r, uint8_t cardlimit, uint8_t banlimit, uint8_t n1limit,
+                       const uint8_t *capability, size_t capability_len, const uint8_t *security, size_t security_len);
+
+/*
+ * An event in the event log's form: a log record is the length of what follows it (two octets, the low one first), the kind (the same) and the body.
+ *   1 card     home (3), SUCI (9 to 64)
+ *   2 start    access, manual, network (3), area code (3)
+ *   3 message  access, protected, draw for T3247 (2, the low one first), the message's octets
+ *   4 timer    1 T3510, 2 T3511, 3 T3502, 4 T3247; access (0 for T3247)
+ *   5 power
+ *   6 key      access, set
+ * The answer's number, 0 for taken. Every answer but 0 leaves r as it was; notice is always written.
+ */
+uint32_t tjernfaug_event(struct tjernfaug_record *r, uint32_t kind, const uint8_t *body, size_t len,
+                         struct tjernfaug_notice *notice);
 
 #endif

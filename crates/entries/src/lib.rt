@@ -7,6 +7,7 @@ ghost use Rattle.laws.specs.Upto.{upto, seekTo};
 ghost use Rattle.entries.specs.Entries.{sameNet, sizeOf, liftMark, bumped, putAt, raised, peekAt, seenIn, entriesOf, banned, none, entriesAfter};
 
 // Dense from 0 to a count that the access keeps; behind it nothing is looked at.
+#[repr(C)]
 pub struct Entries {
     pub nets: [u32; 16],
     pub bans: [u8; 16],

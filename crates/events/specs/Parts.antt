@@ -19,6 +19,7 @@ use Rattle.areas.specs.Areas.{areaOf, listedIn, listAfter, countAfter}
 use Rattle.rules.specs.declared.Event.{Event}
 use Rattle.rules.specs.declared.Ask.{Ask}
 use Rattle.rules.specs.declared.Plan.{Plan}
+use Rattle.rules.specs.Kinds.{sweepDeed, keepAccept, keepCard}
 use Rattle.rules.specs.Plan.{heardOf, askOf, planOf}
 use Rattle.events.specs.declared.Done.{Done}
 
@@ -47,7 +48,7 @@ plannedOf h e octets e0 e1 roaming regional = plannedBy h e octets (seenOf (askO
 
 -- T3247 out, a power cycle and a card change go over both accesses' entries, all else over the event's own
 unfoldable pub mineOf : ℕ → ℕ → ℕ → ℕ
-mineOf deed w me = cond (either (leb 4 deed) (eqb w me)) deed 0
+mineOf deed w me = cond (either (leb sweepDeed deed) (eqb w me)) deed 0
 
 unfoldable pub deedOf : Plan → ℕ → Deed
 deedOf p me = record {
@@ -124,10 +125,10 @@ atMost m n = cond (ltb n m) n m
 
 -- keep: 1 an accept's GUTI and equivalents, on its access; 2 a card's SUCI, all else of a new record
 abbrev pub isAccepted : Plan → ℕ → Bool
-isAccepted p me = both (eqb (p .work .keep) 1) (eqb (p .ask .access) me)
+isAccepted p me = both (eqb (p .work .keep) keepAccept) (eqb (p .ask .access) me)
 
 abbrev pub isCarded : Plan → Bool
-isCarded p = eqb (p .work .keep) 2
+isCarded p = eqb (p .work .keep) keepCard
 
 -- "GUTI replaced if given"
 unfoldable pub gutiAfter : Plan → ℕ → List ℕ → List ℕ → List ℕ

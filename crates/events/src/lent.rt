@@ -71,7 +71,7 @@ fn decide(h: Hot, e: Event, octets: &[u8], q: Ask, s: Seen, l: bool) -> Plan
 fn deed(p: Plan, me: u8) -> Deed
     ensures { λ r. ⌜ r ≡ deedOf p me ⌝ }
 {
-    let both = or2(4 <= p.work.deed, p.ask.access == me);
+    let both = or2(entries::SWEEP <= p.work.deed, p.ask.access == me);
     let kind = pick(both, p.work.deed, 0);
     Deed {
         kind: kind,

@@ -18,6 +18,7 @@ pub use new::new_access;
 pub use tests::valid;
 
 // The device's numbers. A flag is 0 or 1; lengths and counts say how much of an array is in use.
+#[repr(C)]
 pub struct Device {
     pub card: u8,
     pub home: u32,
@@ -33,6 +34,7 @@ pub struct Device {
 }
 
 // One access's numbers. The pending area is net and code; guti and visited say whether a GUTI and a last area are held.
+#[repr(C)]
 pub struct Access {
     pub state: u8,
     pub status: u8,
@@ -54,6 +56,7 @@ pub struct Access {
 }
 
 // What every event reads and may change: small, and handed on by value.
+#[repr(C)]
 pub struct Hot {
     pub dev: Device,
     pub a0: Access,
@@ -61,6 +64,7 @@ pub struct Hot {
 }
 
 // What a caller holds, by value or lent.
+#[repr(C)]
 pub struct Record {
     pub hot: Hot,
     pub e0: Entries,

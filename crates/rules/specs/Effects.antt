@@ -17,6 +17,7 @@ use Rattle.turns.specs.Rows.{startsT3247, toRoaming, toRegional}
 use Rattle.turns.specs.Turns.{still, started, keySet, accepted, t3510Out, t3511Out, t3502Out, cycled, renewed, rowTurn, otherTurn}
 use Rattle.rules.specs.declared.Work.{Work}
 use Rattle.rules.specs.declared.Effect.{Effect}
+use Rattle.rules.specs.Kinds.{noDeed, banDeed, barDeed, acceptDeed, sweepDeed, powerDeed, freshDeed, noTask, putTask, sweepTask, clearTask, keepNothing, keepAccept, keepCard}
 use Rattle.rules.specs.Hot.{accessOf, otherOf}
 use Rattle.rules.specs.Answers.{rowNow}
 
@@ -57,7 +58,7 @@ workOf deed roaming regional keep = record { deed = deed; roaming = roaming; reg
 
 -- nothing on the arrays
 abbrev pub idle : Work
-idle = workOf 0 0 0 0
+idle = workOf noDeed noTask noTask keepNothing
 
 -- an event of one access that touches no array and not T3247
 abbrev pub plain : Hot → ℕ → Turn → Bool → Effect
@@ -65,7 +66,7 @@ plain h w t restart = record { dev = h .dev; mine = t; theirs = still (otherOf h
 
 -- Card change: a new record with the same limits and capabilities, this card, both states 1
 unfoldable pub cardEffect : Hot → ℕ → ℕ → Effect
-cardEffect h home suci = record { dev = carded home suci (h .dev); mine = renewed; theirs = renewed; t3247 = Stop; work = workOf 6 3 3 2; restart = false }
+cardEffect h home suci = record { dev = carded home suci (h .dev); mine = renewed; theirs = renewed; t3247 = Stop; work = workOf freshDeed clearTask clearTask keepCard; restart = false }
 
 unfoldable pub startEffect : Hot → ℕ → ℕ → ℕ → Effect
 startEffect h w net code = plain h w (started net code (accessOf h w)) false
@@ -80,7 +81,7 @@ acceptEffect h w g = record {
   mine = accepted (g .given) (g .count) (cond (g .timed) (g .wait) 720) (accessOf h w);
   theirs = still (otherOf h w);
   t3247 = Leave;
-  work = workOf 3 0 0 1;
+  work = workOf acceptDeed noTask noTask keepAccept;
   restart = false;
 }
 
@@ -93,7 +94,7 @@ clockEffect h number w =
 
 -- T3247 out: stops; both accesses' entries and both lists are gone through
 unfoldable pub t3247Effect : Hot → Effect
-t3247Effect h = record { dev = h .dev; mine = still (h .a0); theirs = still (h .a1); t3247 = Stop; work = workOf 4 2 2 0; restart = false }
+t3247Effect h = record { dev = h .dev; mine = still (h .a0); theirs = still (h .a1); t3247 = Stop; work = workOf sweepDeed sweepTask sweepTask keepNothing; restart = false }
 
 unfoldable pub timerEffect : Hot → ℕ → ℕ → Effect
 timerEffect h number w = cond (eqb number 4) (t3247Effect h) (clockEffect h number w)
@@ -105,7 +106,7 @@ powerEffect h = record {
   mine = cycled (h .dev .card) (h .a0);
   theirs = cycled (h .dev .card) (h .a1);
   t3247 = Stop;
-  work = workOf 5 3 3 0;
+  work = workOf powerDeed clearTask clearTask keepNothing;
   restart = false;
 }
 
@@ -115,18 +116,18 @@ rejectT3247 t3247 sure cause draw = cond (both (eqb sure 0) (both (startsT3247 c
 
 -- the mark and the counter of the row: a ban, or N1 not allowed
 unfoldable pub rowDeed : Row → ℕ
-rowDeed row.CardBelow = 0
-rowDeed row.CardLimit = 0
-rowDeed row.CardProtected = 0
-rowDeed row.Away = 1
-rowDeed row.Home = 0
-rowDeed row.Area = 0
-rowDeed row.N1 = 2
-rowDeed row.Protocol = 0
-rowDeed row.Other = 0
+rowDeed row.CardBelow = noDeed
+rowDeed row.CardLimit = noDeed
+rowDeed row.CardProtected = noDeed
+rowDeed row.Away = banDeed
+rowDeed row.Home = noDeed
+rowDeed row.Area = noDeed
+rowDeed row.N1 = barDeed
+rowDeed row.Protocol = noDeed
+rowDeed row.Other = noDeed
 
 unfoldable pub rowWork : Row → ℕ → ℕ → Work
-rowWork r w cause = workOf (rowDeed r) (cond (toRoaming w cause r) 1 0) (cond (toRegional cause r) 1 0) 0
+rowWork r w cause = workOf (rowDeed r) (cond (toRoaming w cause r) putTask noTask) (cond (toRegional cause r) putTask noTask) keepNothing
 
 -- Reject, by its row
 unfoldable pub rejectEffect : Hot → ℕ → ℕ → ℕ → Bool → ℕ → Row → Effect

@@ -1,5 +1,6 @@
 -- The answers in their order of checks, the effect of each event, the plan that both make.
 pub mod Hot
+pub mod Kinds
 pub mod Answers
 pub mod Effects
 pub mod Plan

@@ -1,4 +1,6 @@
 // Effects of a taken event: numbers, timers, work on the arrays, requests.
+use crate::ACCEPTED;
+use crate::CARDED;
 use crate::Effect;
 use crate::Work;
 use crate::hot::access_of;
@@ -87,7 +89,7 @@ pub(crate) fn card_effect(h: Hot, home: u32, suci: u8) -> Effect
 {
     let dev = carded(home, suci, h.dev);
     let turn = renewed();
-    let work = work_of(6, 3, 3, 2);
+    let work = work_of(entries::FRESH, areas::CLEAR, areas::CLEAR, CARDED);
     Effect {
         dev,
         mine: turn,
@@ -124,7 +126,7 @@ pub(crate) fn accept_effect(h: Hot, w: u8, g: Accept) -> Effect
     let wait = wait_of(g.timed, g.wait, 720);
     let mine = accepted(g.given, g.count, wait, access_of(h, w));
     let theirs = still(other_of(h, w));
-    let work = work_of(3, 0, 0, 1);
+    let work = work_of(entries::ACCEPT, 0, 0, ACCEPTED);
     Effect {
         dev,
         mine,
@@ -154,7 +156,7 @@ fn t3247_effect(h: Hot) -> Effect
     let dev = h.dev;
     let mine = still(h.a0);
     let theirs = still(h.a1);
-    let work = work_of(4, 2, 2, 0);
+    let work = work_of(entries::SWEEP, areas::SWEEP, areas::SWEEP, 0);
     Effect {
         dev,
         mine,
@@ -180,7 +182,7 @@ pub(crate) fn power_effect(h: Hot) -> Effect
     let dev = h.dev;
     let mine = cycled(dev.card, h.a0);
     let theirs = cycled(dev.card, h.a1);
-    let work = work_of(5, 3, 3, 0);
+    let work = work_of(entries::POWER, areas::CLEAR, areas::CLEAR, 0);
     Effect {
         dev,
         mine,
@@ -214,10 +216,10 @@ fn row_deed(row: Row) -> u8
         Row::CardBelow => 0,
         Row::CardLimit => 0,
         Row::CardProtected => 0,
-        Row::Away => 1,
+        Row::Away => entries::BAN,
         Row::Home => 0,
         Row::Area => 0,
-        Row::N1 => 2,
+        Row::N1 => entries::BAR,
         Row::Protocol => 0,
         Row::Other => 0,
     }
@@ -226,8 +228,8 @@ fn row_deed(row: Row) -> u8
 fn row_work(row: Row, w: u8, cause: u8) -> Work
     ensures { λ r. ⌜ r ≡ rules.rowWork row w cause ⌝ }
 {
-    let roaming = pick(to_roaming(w, cause, row), 1, 0);
-    let regional = pick(to_regional(cause, row), 1, 0);
+    let roaming = pick(to_roaming(w, cause, row), areas::PUT, 0);
+    let regional = pick(to_regional(cause, row), areas::PUT, 0);
     work_of(row_deed(row), roaming, regional, 0)
 }
 

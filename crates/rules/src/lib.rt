@@ -72,7 +72,12 @@ pub struct Ask {
     pub sure: u8,
 }
 
-// What is to be done on the arrays, by the kinds of crates entries and areas; keep: 0 nothing, 1 an accept's GUTI and equivalents, 2 a card's SUCI.
+// What is kept of the octets: an accept's GUTI and equivalents, a card's SUCI.
+pub const ACCEPTED: u8 = 1;
+
+pub const CARDED: u8 = 2;
+
+// What is to be done on the arrays, by the kinds of crates entries and areas, 0 for nothing; and what is kept.
 pub struct Work {
     pub deed: u8,
     pub roaming: u8,

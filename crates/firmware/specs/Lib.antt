@@ -1,0 +1,3 @@
+-- What C firmware is told, and what its calls come to.
+pub mod Notice
+pub mod Calls

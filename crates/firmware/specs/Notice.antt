@@ -1,0 +1,38 @@
+-- A reply as numbers: "for each timer whether it was left, stopped (only if running) or started, with how many seconds; and requests (restart, leave, update)". Assumes nothing.
+use Prim.Native.Nat.{ℕ, _+_}
+use Rattle.turns.specs.declared.Told.{Told}
+use Rattle.turns.specs.declared.Told.the-variants.{Left, Stopped, Started}
+use Rattle.turns.specs.declared.Clocks.{Clocks}
+use Rattle.rules.specs.declared.Asked.{Asked}
+use Rattle.rules.specs.declared.Asked.the-variants.{No, On}
+use Rattle.rules.specs.declared.Reply.{Reply}
+use Rattle.firmware.specs.declared.Timer.{Timer}
+use Rattle.firmware.specs.declared.Timers.{Timers}
+use Rattle.firmware.specs.declared.Notice.{Notice}
+
+unfoldable pub timerOf : Told → Timer
+timerOf Left = record { told = 0; seconds = 0 }
+timerOf Stopped = record { told = 1; seconds = 0 }
+timerOf (Started seconds) = record { told = 2; seconds = seconds }
+
+unfoldable pub timersOf : Clocks → Timers
+timersOf c = record {
+  t3510 = timerOf (c .t3510);
+  t3511 = timerOf (c .t3511);
+  t3502 = timerOf (c .t3502);
+}
+
+-- none, or 1 plus the access
+unfoldable pub requestOf : Asked → ℕ
+requestOf No = 0
+requestOf (On access) = 1 + access
+
+unfoldable pub noticeOf : Reply → Notice
+noticeOf p = record {
+  c0 = timersOf (p .c0);
+  c1 = timersOf (p .c1);
+  t3247 = timerOf (p .t3247);
+  restart = requestOf (p .restart);
+  leave = requestOf (p .leave);
+  update = requestOf (p .update);
+}

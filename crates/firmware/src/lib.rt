@@ -1,0 +1,48 @@
+// The record lent to firmware: one call takes an event and updates the record in place, and the calls that C makes.
+use record::Record;
+
+mod calls;
+mod lent;
+mod told;
+
+pub use calls::tjernfaug_event;
+pub use calls::tjernfaug_new;
+pub use lent::handle;
+
+// What is told of a timer: 0 left, 1 stopped, 2 started, and then for how many seconds.
+#[repr(C)]
+pub struct Timer {
+    pub told: u32,
+    pub seconds: u32,
+}
+
+#[repr(C)]
+pub struct Timers {
+    pub t3510: Timer,
+    pub t3511: Timer,
+    pub t3502: Timer,
+}
+
+// A reply but for its answer, as numbers. A request is 0 for none, else 1 plus the access that it is meant for.
+#[repr(C)]
+pub struct Notice {
+    pub c0: Timers,
+    pub c1: Timers,
+    pub t3247: Timer,
+    pub restart: u32,
+    pub leave: u32,
+    pub update: u32,
+}
+
+// A new record, with the answer's number.
+pub struct Opened {
+    pub answer: u32,
+    pub next: Record,
+}
+
+// An event's answer by its number, what is told, and the record after it.
+pub struct Taken {
+    pub answer: u32,
+    pub notice: Notice,
+    pub next: Record,
+}

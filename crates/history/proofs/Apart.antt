@@ -1,0 +1,139 @@
+-- An unprotected message changes nothing on the other access: no row of an unprotected reject reaches it, an unprotected accept is refused. Assumes nothing.
+use Prim.Native.Nat.{ℕ, _<_}
+use mathlib.Core.Path.{_≡_, refl, _∙_, ap}
+use mathlib.Core.Bool.{Bool, true, false, cond, false≢true}
+use mathlib.Core.List.{List}
+use lib.Dec.{leb, ltb, eqb}
+use Rattle.record.specs.Tests.{both}
+use Rattle.record.specs.Answers.{isTaken}
+use Rattle.record.specs.Valid.{validOf}
+use Rattle.record.specs.declared.Access.{Access}
+use Rattle.record.specs.declared.Record.{Record}
+use Rattle.entries.specs.declared.Entries.{Entries}
+use Rattle.entries.specs.declared.Seen.{Seen}
+use Rattle.messages.specs.declared.Reading.{Reading}
+use Rattle.messages.specs.declared.Reading.the-variants as reading
+use Rattle.messages.specs.Message.{readingOf}
+use Rattle.turns.specs.declared.Row.the-variants.{CardBelow, CardLimit, Away, Home, Area, N1, Protocol, Other}
+use Rattle.turns.specs.declared.Turn.{Turn}
+use Rattle.turns.specs.Timers.{flagAfter}
+use Rattle.turns.specs.Access.{clocked}
+use Rattle.turns.specs.Rows.{isCard, isNetworkNo, isAreaNo, isN1No, isProtocol, rowOf}
+use Rattle.turns.specs.Turns.{still, otherTurn}
+use Rattle.rules.specs.declared.Effect.{Effect}
+use Rattle.rules.specs.declared.Event.{Event}
+use Rattle.rules.specs.declared.Event.the-variants.{Message}
+use Rattle.rules.specs.declared.Plan.{Plan}
+use Rattle.rules.specs.Hot.{accessOf, otherOf}
+use Rattle.rules.specs.Answers.{readAnswer, rowNow}
+use Rattle.rules.specs.Effects.{rowWork, rejectEffect}
+use Rattle.rules.specs.Plan.{heardOf, askOf, answerOf, messageEffect, effectOf, takenPlan}
+use Rattle.events.specs.Parts.{gutiAfter, equivalentsAfter}
+use Rattle.events.specs.Step.{stepOf}
+use Rattle.events.specs.declared.Outcome.{Outcome}
+use Rattle.validity.specs.Answered.{seenAt, answeredBy}
+use Rattle.validity.proofs.Refusal.{effectIn, taken-plan, refused}
+use Rattle.validity.proofs.Taken.{message-passed}
+use Rattle.validity.proofs.Next.{other-is}
+use Rattle.history.specs.Cell.{entriesIn}
+use Rattle.history.specs.Apart.{Half, halfOf}
+use Rattle.history.proofs.Next.{other-of, next, plan, idle-on, carry-guti, carry-equivalents, taken-access, taken-entries}
+use Rattle.history.proofs.Rows.{few}
+use Rattle.history.proofs.Events.{small}
+
+-- the rows of an unprotected reject leave the other access
+bare-rows : (b c d e f at-home below : Bool) (limit : ℕ) (a : Access)
+    → otherTurn (cond b (cond below CardBelow CardLimit) (cond c (cond at-home Home Away) (cond d Area (cond e N1 (cond f Protocol Other))))) limit a ≡ still a
+unfolding otherTurn
+bare-rows true c d e f at-home true limit a = refl
+bare-rows true c d e f at-home false limit a = refl
+bare-rows false true d e f true below limit a = refl
+bare-rows false true d e f false below limit a = refl
+bare-rows false false true e f at-home below limit a = refl
+bare-rows false false false true f at-home below limit a = refl
+bare-rows false false false false true at-home below limit a = refl
+bare-rows false false false false false at-home below limit a = refl
+
+still-is : (a : Access) → clocked (still a .orders) (still a .access) ≡ a
+unfolding clocked flagAfter
+still-is a = refl
+
+-- what is to keep is nothing
+guti-stays : (p : Plan) (me : ℕ) (octets guti : List ℕ) → p .work .keep ≡ 0 → gutiAfter p me octets guti ≡ guti
+unfolding gutiAfter
+guti-stays p me octets guti z = rw z
+
+kept-networks : (p : Plan) (me : ℕ) (octets equivalents : List ℕ) → p .work .keep ≡ 0 → equivalentsAfter p me octets equivalents ≡ equivalents
+unfolding equivalentsAfter
+kept-networks p me octets equivalents z = rw z
+
+halves : {a a′ : Access} {t t′ : Entries} {g g′ e e′ : List ℕ} → a ≡ a′ → t ≡ t′ → g ≡ g′ → e ≡ e′
+    → _≡_ {A = Half} (record { numbers = a; entries = t; guti = g; equivalents = e }) (record { numbers = a′; entries = t′; guti = g′; equivalents = e′ })
+halves p q s t = cc
+
+module _ (r : Record) (b draw : ℕ) (octets : List ℕ) where
+  abbrev event : Event
+  event = Message b 0 draw
+
+  bare-row : (cause : ℕ) → otherTurn (rowNow (r .hot) b 0 cause) (r .hot .dev .cardlimit) (otherOf (r .hot) b) ≡ still (otherOf (r .hot) b)
+  unfolding rowNow rowOf
+  bare-row cause =
+      bare-rows (isCard cause) (isNetworkNo cause) (both (isAreaNo cause) (eqb b 0)) (isN1No b cause) (isProtocol cause)
+      (eqb (accessOf (r .hot) b .net) (r .hot .dev .home)) (ltb (accessOf (r .hot) b .cards) (r .hot .dev .cardlimit)) (r .hot .dev .cardlimit) (otherOf (r .hot) b)
+
+  -- what a taken unprotected message does: it is a reject, nothing of the other access turns, and its own arrays but the entries stay
+  record Bare (e : Effect) : Type 0 where
+    theirs : e .theirs ≡ still (otherOf (r .hot) b)
+    deed : leb 4 (e .work .deed) ≡ false
+    keep : e .work .keep ≡ 0
+
+  bare : (m : Reading) (s : Seen) → isTaken (readAnswer (r .hot) b 0 m s) ≡ true → Bare (messageEffect (r .hot) b 0 draw m s)
+  unfolding readAnswer messageEffect rejectEffect rowWork isTaken
+  bare (reading.Accept g) s t = absurd (false≢true t)
+  bare (reading.Reject cause) s t = record { theirs = bare-row cause; deed = few (rowNow (r .hot) b 0 cause); keep = refl }
+  bare (reading.Bad f at) s t = absurd (false≢true t)
+
+  module _ (t : isTaken (answeredBy r event octets) ≡ true) (w : ℕ) (hw : w < 2) (q : eqb b w ≡ false) where
+    effect-bare : Bare (effectIn r event octets)
+    unfolding answeredBy answerOf effectOf heardOf
+    effect-bare = bare (readingOf octets) (seenAt r event) (message-passed (r .hot) b 0 draw (readingOf octets) (seenAt r event) t .2)
+
+    hb : b < 2
+    unfolding askOf
+    hb = small r event octets t
+
+    numbers-same : accessOf (next r event octets .hot) w ≡ accessOf (r .hot) w
+    unfolding askOf
+    numbers-same =
+        taken-access r event octets t hb w hw
+        ∙ ap (λ (s : Bool). cond s (clocked (effectIn r event octets .mine .orders) (effectIn r event octets .mine .access)) (clocked (effectIn r event octets .theirs .orders) (effectIn r event octets .theirs .access))) q
+        ∙ ap (λ (o : Turn). clocked (o .orders) (o .access)) (effect-bare .theirs)
+        ∙ still-is (otherOf (r .hot) b)
+        ∙ other-of (r .hot) b w hb hw q
+
+    entries-same : entriesIn (next r event octets) w ≡ entriesIn r w
+    unfolding askOf
+    entries-same = taken-entries r event octets t w hw ∙ idle-on r event octets (effectIn r event octets .work .deed) w (other-is (effectIn r event octets .work .deed) b w (effect-bare .deed) q)
+
+    plan-keep : plan r event octets .work .keep ≡ 0
+    unfolding takenPlan
+    plan-keep = effect-bare .keep
+
+    taken-same : halfOf (next r event octets) w ≡ halfOf r w
+    unfolding halfOf
+    taken-same =
+        halves numbers-same entries-same
+        (ap (λ (o : Outcome). cond (eqb w 0) (o .next .guti0) (o .next .guti1)) (taken-plan r event octets t) ∙ carry-guti r octets (plan r event octets) w hw
+        ∙ guti-stays (plan r event octets) w octets (cond (eqb w 0) (r .guti0) (r .guti1)) plan-keep)
+        (ap (λ (o : Outcome). cond (eqb w 0) (o .next .equivalents0) (o .next .equivalents1)) (taken-plan r event octets t) ∙ carry-equivalents r octets (plan r event octets) w hw
+        ∙ kept-networks (plan r event octets) w octets (cond (eqb w 0) (r .equivalents0) (r .equivalents1)) plan-keep)
+
+  -- An unprotected message, taken or refused, leaves the other access's whole record.
+  pub apart : (w : ℕ) → w < 2 → eqb b w ≡ false → halfOf (stepOf r event octets .next) w ≡ halfOf r w
+  unfolding stepOf
+  apart w hw q = go (validOf r) refl (isTaken (answeredBy r event octets)) refl
+    where
+      go : (s : Bool) → validOf r ≡ s → (s′ : Bool) → isTaken (answeredBy r event octets) ≡ s′ → halfOf (stepOf r event octets .next) w ≡ halfOf r w
+      go true v true t = rw v (taken-same t w hw q)
+      go true v false t = rw v (ap (λ (o : Outcome). halfOf (o .next) w) (refused r event octets t))
+      go false v s′ t = rw v

@@ -1,0 +1,13 @@
+-- What the history says is what the record holds.
+pub mod Said
+pub mod Columns
+pub mod Cells
+pub mod Next
+pub mod Rows
+pub mod Events
+pub mod Demand3
+pub mod Apart
+pub mod Facts
+pub mod Refusals
+pub mod Replayed
+pub mod Single

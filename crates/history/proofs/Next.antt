@@ -1,0 +1,174 @@
+-- The record after a taken event, in the parts that a cell is read from: by the event's effect. Assumes nothing.
+use Prim.Native.Nat.{ℕ, zero, suc, _<_}
+use mathlib.Core.Path.{_≡_, refl, _∙_, ap}
+use mathlib.Core.Bool.{Bool, true, false, cond, true≢false}
+use mathlib.Core.List.{List}
+use native.Mathlib.Omega.{arith}
+use lib.Dec.{eqb}
+use Rattle.record.specs.Answers.{isTaken}
+use Rattle.record.specs.declared.Access.{Access}
+use Rattle.record.specs.declared.Device.{Device}
+use Rattle.record.specs.declared.Hot.{Hot}
+use Rattle.record.specs.declared.Record.{Record}
+use Rattle.entries.specs.declared.Entries.{Entries}
+use Rattle.entries.specs.declared.Deed.{Deed}
+use Rattle.entries.specs.Entries.{entriesAfter}
+use Rattle.turns.specs.declared.Orders.{Orders}
+use Rattle.turns.specs.Access.{clocked}
+use Rattle.rules.specs.declared.Event.{Event}
+use Rattle.rules.specs.declared.Plan.{Plan}
+use Rattle.rules.specs.Hot.{accessOf, otherOf, hotOf}
+use Rattle.rules.specs.Effects.{ticked}
+use Rattle.rules.specs.Plan.{heardOf, hotAfter, takenPlan}
+use Rattle.events.specs.declared.Outcome.{Outcome}
+use Rattle.events.specs.Parts.{mineOf, deedOf, tableAfter, listed, doneOf, carriedOut, gutiAfter, equivalentsAfter, keptAfter}
+use Rattle.events.specs.Step.{together, joinedOf, advanceOf}
+use Rattle.validity.specs.Answered.{askIn, seenAt, answeredBy}
+use Rattle.validity.proofs.Refusal.{carry, effectIn, taken-plan}
+use Rattle.history.specs.Cell.{cellIn, entriesIn, cellOf}
+
+-- access w of two
+access-of : (d : Device) (b : ℕ) (mine theirs : Access) (w : ℕ) → b < 2 → w < 2 → accessOf (hotOf d b mine theirs) w ≡ cond (eqb b w) mine theirs
+unfolding accessOf hotOf
+access-of d zero mine theirs zero hb hw = refl
+access-of d zero mine theirs (suc zero) hb hw = refl
+access-of d (suc zero) mine theirs zero hb hw = refl
+access-of d (suc zero) mine theirs (suc zero) hb hw = refl
+access-of d zero mine theirs (suc (suc w)) hb hw = absurd (omega arith)
+access-of d (suc zero) mine theirs (suc (suc w)) hb hw = absurd (omega arith)
+access-of d (suc (suc b)) mine theirs w hb hw = absurd (omega arith)
+
+-- the other one of two
+pub other-of : (h : Hot) (b w : ℕ) → b < 2 → w < 2 → eqb b w ≡ false → otherOf h b ≡ accessOf h w
+unfolding accessOf otherOf
+other-of h zero zero hb hw q = absurd (true≢false q)
+other-of h zero (suc zero) hb hw q = refl
+other-of h (suc zero) zero hb hw q = refl
+other-of h (suc zero) (suc zero) hb hw q = absurd (true≢false q)
+other-of h zero (suc (suc w)) hb hw q = absurd (omega arith)
+other-of h (suc zero) (suc (suc w)) hb hw q = absurd (omega arith)
+other-of h (suc (suc b)) w hb hw q = absurd (omega arith)
+
+dev-of : (d : Device) (b : ℕ) (mine theirs : Access) → hotOf d b mine theirs .dev ≡ d
+unfolding hotOf
+dev-of d b mine theirs =
+    elim (eqb b 0) as (λ s. cond {A = Hot} s (record { dev = d; a0 = mine; a1 = theirs }) (record { dev = d; a0 = theirs; a1 = mine }) .dev ≡ d) [
+      | true ↦ refl
+      | false ↦ refl
+    ]
+
+net-of : (b : Bool) (o o′ : Orders) (x y : Access) → cond b (clocked o x) (clocked o′ y) .net ≡ cond b (x .net) (y .net)
+unfolding clocked
+net-of true o o′ x y = refl
+net-of false o o′ x y = refl
+
+entries-of : (b : Bool) (o o′ : Orders) (x y : Access) → cond b (clocked o x) (clocked o′ y) .entries ≡ cond b (x .entries) (y .entries)
+unfolding clocked
+entries-of true o o′ x y = refl
+entries-of false o o′ x y = refl
+
+-- A plan carried out.
+module _ (r : Record) (octets : List ℕ) (p : Plan) where
+  abbrev after : Record
+  after = carry r octets p .next
+
+  carry-access : (w : ℕ) → accessOf (after .hot) w ≡ accessOf (p .hot) w
+  unfolding accessOf joinedOf together carriedOut doneOf listed
+  carry-access w = refl
+
+  carry-home : after .hot .dev .home ≡ p .hot .dev .home
+  unfolding joinedOf together carriedOut doneOf listed
+  carry-home = refl
+
+  carry-ban : after .hot .dev .banlimit ≡ p .hot .dev .banlimit
+  unfolding joinedOf together carriedOut doneOf listed
+  carry-ban = refl
+
+  carry-n1 : after .hot .dev .n1limit ≡ p .hot .dev .n1limit
+  unfolding joinedOf together carriedOut doneOf listed
+  carry-n1 = refl
+
+  carry-entries : (w : ℕ) → w < 2 → entriesIn after w ≡ tableAfter p w (accessOf (r .hot) w .entries) (r .hot) (entriesIn r w)
+  unfolding entriesIn accessOf joinedOf together carriedOut
+  carry-entries zero h = refl
+  carry-entries (suc zero) h = refl
+  carry-entries (suc (suc w)) h = absurd (omega arith)
+
+  pub carry-guti : (w : ℕ) → w < 2 → cond (eqb w 0) (after .guti0) (after .guti1) ≡ gutiAfter p w octets (cond (eqb w 0) (r .guti0) (r .guti1))
+  unfolding joinedOf together carriedOut doneOf keptAfter
+  carry-guti zero h = refl
+  carry-guti (suc zero) h = refl
+  carry-guti (suc (suc w)) h = absurd (omega arith)
+
+  pub carry-equivalents : (w : ℕ) → w < 2
+      → cond (eqb w 0) (after .equivalents0) (after .equivalents1) ≡ equivalentsAfter p w octets (cond (eqb w 0) (r .equivalents0) (r .equivalents1))
+  unfolding joinedOf together carriedOut doneOf keptAfter
+  carry-equivalents zero h = refl
+  carry-equivalents (suc zero) h = refl
+  carry-equivalents (suc (suc w)) h = absurd (omega arith)
+
+module _ (r : Record) (e : Event) (octets : List ℕ) where
+  abbrev pub next : Record
+  next = advanceOf r e octets .next
+
+  -- the plan of the event if it is taken
+  abbrev pub plan : Plan
+  plan = takenPlan (r .hot) (askIn r e) (seenAt r e) (heardOf e octets) (effectIn r e octets)
+
+  -- what is done on access w: the deed, at the place that was seen
+  abbrev pub deedOn : ℕ → ℕ → Deed
+  deedOn deed w = record { kind = mineOf deed (askIn r e .access) w; at = seenAt r e .at; found = seenAt r e .found; net = askIn r e .net; sure = askIn r e .sure }
+
+  abbrev pub doneOn : ℕ → ℕ → Entries
+  doneOn deed w = entriesAfter (deedOn deed w) (accessOf (r .hot) w .entries) (r .hot .dev .banlimit) (r .hot .dev .n1limit) (entriesIn r w)
+
+  pub idle-on : (deed w : ℕ) → mineOf deed (askIn r e .access) w ≡ 0 → doneOn deed w ≡ entriesIn r w
+  unfolding entriesAfter
+  idle-on deed w z = rw z
+
+  module _ (t : isTaken (answeredBy r e octets) ≡ true) where
+    pub taken-home : next .hot .dev .home ≡ effectIn r e octets .dev .home
+    unfolding takenPlan hotAfter ticked
+    taken-home =
+        ap (λ (o : Outcome). o .next .hot .dev .home) (taken-plan r e octets t) ∙ carry-home r octets plan ∙ ap (λ (d : Device). d .home) (dev-of _ (askIn r e .access) _ _)
+
+    pub taken-ban : next .hot .dev .banlimit ≡ effectIn r e octets .dev .banlimit
+    unfolding takenPlan hotAfter ticked
+    taken-ban =
+        ap (λ (o : Outcome). o .next .hot .dev .banlimit) (taken-plan r e octets t) ∙ carry-ban r octets plan
+        ∙ ap (λ (d : Device). d .banlimit) (dev-of _ (askIn r e .access) _ _)
+
+    pub taken-n1 : next .hot .dev .n1limit ≡ effectIn r e octets .dev .n1limit
+    unfolding takenPlan hotAfter ticked
+    taken-n1 =
+        ap (λ (o : Outcome). o .next .hot .dev .n1limit) (taken-plan r e octets t) ∙ carry-n1 r octets plan
+        ∙ ap (λ (d : Device). d .n1limit) (dev-of _ (askIn r e .access) _ _)
+
+    pub taken-entries : (w : ℕ) → w < 2 → entriesIn next w ≡ doneOn (effectIn r e octets .work .deed) w
+    unfolding tableAfter takenPlan deedOf
+    taken-entries w hw = ap (λ (o : Outcome). entriesIn (o .next) w) (taken-plan r e octets t) ∙ carry-entries r octets plan w hw
+
+    module _ (hb : askIn r e .access < 2) (w : ℕ) (hw : w < 2) where
+      pub taken-access : accessOf (next .hot) w
+          ≡ cond (eqb (askIn r e .access) w) (clocked (effectIn r e octets .mine .orders) (effectIn r e octets .mine .access))
+          (clocked (effectIn r e octets .theirs .orders) (effectIn r e octets .theirs .access))
+      unfolding takenPlan hotAfter
+      taken-access =
+          ap (λ (o : Outcome). accessOf (o .next .hot) w) (taken-plan r e octets t) ∙ carry-access r octets plan w ∙ access-of _ (askIn r e .access) _ _ w hb hw
+
+      pub taken-net : accessOf (next .hot) w .net ≡ cond (eqb (askIn r e .access) w) (effectIn r e octets .mine .access .net) (effectIn r e octets .theirs .access .net)
+      taken-net =
+          ap (λ (a : Access). a .net) taken-access
+          ∙ net-of (eqb (askIn r e .access) w) (effectIn r e octets .mine .orders) (effectIn r e octets .theirs .orders) (effectIn r e octets .mine .access)
+          (effectIn r e octets .theirs .access)
+
+      -- the cell of network n after a taken event
+      pub taken-cell : (n : ℕ) → cellOf next w n
+          ≡ cellIn (cond (eqb (askIn r e .access) w) (effectIn r e octets .mine .access .entries) (effectIn r e octets .theirs .access .entries))
+          (doneOn (effectIn r e octets .work .deed) w) n
+      unfolding cellOf
+      taken-cell n =
+          rw (taken-entries w hw)
+          (ap (λ (k : ℕ). cellIn k (doneOn (effectIn r e octets .work .deed) w) n) (ap (λ (a : Access). a .entries) taken-access
+          ∙ entries-of (eqb (askIn r e .access) w) (effectIn r e octets .mine .orders) (effectIn r e octets .theirs .orders) (effectIn r e octets .mine .access)
+          (effectIn r e octets .theirs .access)))

@@ -1,0 +1,36 @@
+-- What a record holds of one network on one access. Assumes nothing.
+use Prim.Native.Nat.{ℕ}
+use mathlib.Core.Bool.{cond}
+use mathlib.Core.List.{List}
+use lib.Dec.{eqb}
+use Rattle.entries.specs.declared.Entries.{Entries}
+use Rattle.entries.specs.Entries.{sizeOf, placeIn, peekAt}
+use Rattle.record.specs.declared.Record.{Record}
+use Rattle.rules.specs.Hot.{accessOf}
+
+-- two counters and two marks, numbers as in the record: a mark that stands is 1
+pub record Cell : Type 0 where
+  pub ban : ℕ
+  pub n1 : ℕ
+  pub forbidden : ℕ
+  pub barred : ℕ
+
+-- a column at the network's place; 0 where it has no entry
+abbrev pub columnIn : ℕ → List ℕ → List ℕ → ℕ → ℕ
+columnIn count nets xs n = peekAt xs (placeIn count n nets) (sizeOf count)
+
+unfoldable pub cellIn : ℕ → Entries → ℕ → Cell
+cellIn count t n = record {
+  ban = columnIn count (t .nets) (t .bans) n;
+  n1 = columnIn count (t .nets) (t .n1s) n;
+  forbidden = columnIn count (t .nets) (t .forbidden) n;
+  barred = columnIn count (t .nets) (t .barred) n;
+}
+
+-- the entries of access w
+unfoldable pub entriesIn : Record → ℕ → Entries
+entriesIn r w = cond (eqb w 0) (r .e0) (r .e1)
+
+-- network n on access w
+unfoldable pub cellOf : Record → ℕ → ℕ → Cell
+cellOf r w n = cellIn (accessOf (r .hot) w .entries) (entriesIn r w) n

@@ -1,0 +1,7 @@
+-- What a record holds of one network, a run's answers, and what the history says.
+pub mod Run
+pub mod Cell
+pub mod History
+pub mod Apart
+pub mod Facts
+pub mod Replayed

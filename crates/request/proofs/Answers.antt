@@ -1,0 +1,77 @@
+-- The writer's returns, one for each answer: the checks in their order, and a refusal leaves the buffer. Assumes nothing.
+use Prim.Native.Nat.{ℕ, _≤_}
+use mathlib.Core.Path.{_≡_, refl, sym, _∙_}
+use mathlib.Core.Bool.{Bool, true, false, cond, not}
+use mathlib.Core.List.{List}
+use lib.ListN.{length}
+use lib.Dec.{leb, eqb}
+use borrow.Author.Tests.{eq-eqb, ne-eqb, not-true, not-false}
+use Rattle.record.specs.declared.Access.{Access}
+use Rattle.record.specs.declared.Record.{Record}
+use Rattle.record.specs.declared.Answer.the-variants.{Taken, Range, State, Short}
+use Rattle.record.specs.Tests.{both}
+use Rattle.record.specs.Valid.{validOf}
+use Rattle.record.specs.Answers.{isTaken}
+use Rattle.record.proofs.Bounds.{rest}
+use Rattle.request.specs.declared.Written.{Written}
+use Rattle.request.specs.Layout.{layout}
+use Rattle.request.specs.Writing.{accessOf, saysOf, fieldsOf, requestOf, answerOf, writtenOf, over, bufferOf}
+use Rattle.request.specs.Steps.{sentOf, sentOver}
+use Rattle.request.proofs.Ranges.{ready}
+
+-- an answer and a length picked at once, or each for itself
+told : (x : Bool) (k : ℕ) → _≡_ {A = Written} (cond x (record { answer = Taken; len = k }) (record { answer = Short; len = 0 })) (record { answer = cond x Taken Short; len = cond (isTaken (cond x Taken Short)) k 0 })
+unfolding isTaken
+told true k = refl
+told false k = refl
+
+left : (x : Bool) (o b : List ℕ) → cond x o b ≡ cond (isTaken (cond x Taken Short)) o b
+unfolding isTaken
+left true o b = refl
+left false o b = refl
+
+abbrev tested : Record → ℕ → Bool
+tested r access = both (leb access 1) (validOf r)
+
+pub out-of-range : (r : Record) (access : ℕ) (t : Bool) (b : List ℕ) → t ≡ tested r access → not t ≡ true
+    → (record { answer = Range; len = 0 } ≡ writtenOf r access (length b)) × (b ≡ bufferOf r access b)
+unfolding writtenOf bufferOf answerOf isTaken
+out-of-range r access t b e h =
+    let fails : tested r access ≡ false = sym e ∙ not-true t h in
+    (rw fails, rw fails)
+
+module _ (r : Record) (access : ℕ) (t : Bool) (own : Access) (e : t ≡ tested r access) (h : not t ≡ false) (o : own ≡ cond (eqb access 0) (r .hot .a0) (r .hot .a1)) where
+  holds : tested r access ≡ true
+  holds = sym e ∙ not-false t h
+
+  same : own ≡ accessOf access (r .hot)
+  unfolding accessOf
+  same = o
+
+  pub out-of-state : (b : List ℕ) → (own .state ≡ 4 → ⊥) → (record { answer = State; len = 0 } ≡ writtenOf r access (length b)) × (b ≡ bufferOf r access b)
+  unfolding writtenOf bufferOf answerOf isTaken
+  out-of-state b z =
+      let fails : eqb (accessOf access (r .hot) .state) 4 ≡ false = rw (← same) (ne-eqb (own .state) 4 z) in
+      (rw (holds, fails), rw (holds, fails))
+
+  module _ (s : own .state ≡ 4) where
+    four : accessOf access (r .hot) .state ≡ 4
+    four = rw (← same) s
+
+    pub allowed : (r .hot .dev .suci ≤ 64) × ((r .hot .dev .capability ≤ 13) × ((r .hot .dev .security ≤ 8) × (own .ksi ≤ 7)))
+    allowed =
+        let all = ready r access (rest (leb access 1) _ holds) four in
+        (all .suci .1, (all .capability .1, (all .security .1, rw same (all .ksi))))
+
+    answered : (n : ℕ) → answerOf r access n ≡ cond (leb (length (requestOf r access)) n) Taken Short
+    unfolding answerOf
+    answered n = rw (holds, eq-eqb _ _ four)
+
+    pub written : (nets b d : List ℕ) (w : Written) → nets ≡ cond (eqb access 0) (r .equivalents0) (r .equivalents1)
+        → w ≡ sentOf (layout (saysOf r access own nets)) (length b) → d ≡ sentOver (layout (saysOf r access own nets)) b
+        → (w ≡ writtenOf r access (length b)) × (d ≡ bufferOf r access b)
+    unfolding writtenOf bufferOf sentOf sentOver requestOf fieldsOf
+    written nets b d w f g k = (
+      g ∙ rw (answered (length b), same, f) (told (leb (length (requestOf r access)) (length b)) (length (requestOf r access))),
+      k ∙ rw (answered (length b), same, f) (left (leb (length (requestOf r access)) (length b)) (over (requestOf r access) b) b),
+    )

@@ -1,0 +1,7 @@
+-- Laws of the layout and its reading.
+pub mod Answers
+pub mod Parts
+pub mod Pieces
+pub mod Ranges
+pub mod Recorded
+pub mod RoundTrip

@@ -1,0 +1,104 @@
+-- What a request read back says: "Reading a request back accepts, elements in any order: ..". Assumes nothing.
+use Prim.Native.Nat.{ℕ, _+_, _*_, _/_, _%_}
+use mathlib.Core.Bool.{Bool, true, cond}
+use mathlib.Core.List.{List, []}
+use lib.ListN.{length, getD, take, drop}
+use lib.Dec.{ltb, leb, eqb}
+use Rattle.octets.specs.declared.Fault.{Fault}
+use Rattle.octets.specs.declared.Fault.the-variants.{Cut, First, Second, Kind}
+use Rattle.octets.specs.declared.Part.{Part}
+use Rattle.octets.specs.declared.Gathered.{Gathered}
+use Rattle.octets.specs.declared.Gathered.the-variants.{Broken, Whole}
+use Rattle.octets.specs.Element.{absent, gatherOf}
+use Rattle.record.specs.Tests.{both, either, within}
+use Rattle.request.specs.Layout.{Fields}
+use Rattle.request.specs.declared.Request.{Request}
+use Rattle.request.specs.declared.Asking.{Asking}
+use Rattle.request.specs.declared.Asking.the-variants as asking
+
+-- "octet 4 with low half 1 and high half 0 to 7"
+unfoldable pub isFourth : ℕ → Bool
+isFourth o = both (eqb (o % 16) 1) (leb (o / 16) 7)
+
+-- "identity F2 and 10 octets, or 01 and 9 to 64 octets in all"
+unfoldable pub isIdentity : ℕ → ℕ → Bool
+isIdentity o n = either (both (eqb o 0xF2) (eqb n 11)) (both (eqb o 0x01) (within 9 64 n))
+
+-- "2E present", no longer than its range, and one too short is absent
+unfoldable pub isSecurity : Part → Bool
+isSecurity q = both (q .held) (within 2 8 (q .len))
+
+-- "10 .. or not", no longer than its range
+unfoldable pub isCapability : Part → Bool
+isCapability p = cond (p .held) (leb (p .len) 13) true
+
+unfoldable pub isRequest : List ℕ → ℕ → Part → Part → Bool
+isRequest s n p q = both (isFourth (getD s 3 0)) (both (isIdentity (getD s 6 0) n) (both (isCapability p) (isSecurity q)))
+
+-- a capability of no octets is too short: absent
+unfoldable pub capabilityOf : Part → Part
+capabilityOf p = cond (eqb (p .len) 0) absent p
+
+unfoldable pub saidOf : List ℕ → ℕ → Part → Part → Part → Request
+saidOf s n p q t = record {
+  kind = getD s 3 0 % 16;
+  ksi = getD s 3 0 / 16;
+  identity = record { held = true; start = 6; len = n };
+  capability = capabilityOf p;
+  security = q;
+  last = t;
+}
+
+unfoldable pub judgedOf : List ℕ → ℕ → Part → Part → Part → Asking
+judgedOf s n p q t = cond (isRequest s n p q) (asking.Request (saidOf s n p q t)) asking.Unfit
+
+-- what the elements make of a request: a malformed one tells
+unfoldable pub askedOf : List ℕ → ℕ → Gathered → Asking
+askedOf s n (Broken f at) = asking.Bad f at
+askedOf s n (Whole p q t) = judgedOf s n p q t
+
+-- octet 4 and an identity with two-octet length, all of it in the message; then the elements
+unfoldable pub partsReading : List ℕ → ℕ → Asking
+partsReading s n = cond (ltb (length s) (6 + n)) (asking.Bad Cut (length s)) (askedOf s n (gatherOf true s (6 + n) 0x10 0x2E 0x52))
+
+unfoldable pub restReading : List ℕ → Asking
+restReading s = cond (ltb (length s) 6) (asking.Bad Cut (length s)) (partsReading s (getD s 4 0 * 256 + getD s 5 0))
+
+-- the octet at a place has to be there and to be the one asked for; then comes the rest
+unfoldable pub openedBy : List ℕ → ℕ → ℕ → Fault → Asking → Asking
+openedBy s at octet fault rest = cond (ltb at (length s)) (cond (eqb (getD s at 0) octet) rest (asking.Bad fault at)) (asking.Bad Cut at)
+
+-- 41 request
+unfoldable pub typeReading : List ℕ → Asking
+typeReading s = openedBy s 2 0x41 Kind (restReading s)
+
+-- "All begin 7E 00 and a type": octet by octet, so that of two faults the one at the lower offset is told
+unfoldable pub askingOf : List ℕ → Asking
+askingOf s = openedBy s 0 0x7E First (openedBy s 1 0x00 Second (typeReading s))
+
+-- the octets of a part
+unfoldable pub cutOf : List ℕ → Part → List ℕ
+cutOf s p = cond (p .held) (take (p .len) (drop (p .start) s)) []
+
+-- what octets say, if they are a request
+pub data Said : Type 0 where
+  says : Fields → Said
+  nothing : Said
+
+unfoldable pub toldBy : List ℕ → Asking → Said
+toldBy s (asking.Request q) = says (record {
+  kind = q .kind;
+  ksi = q .ksi;
+  identity = cutOf s (q .identity);
+  capability = cutOf s (q .capability);
+  security = cutOf s (q .security);
+  last = cutOf s (q .last);
+})
+toldBy s (asking.Bad f at) = nothing
+toldBy s asking.Unfit = nothing
+
+-- this paper's number for each case: 3 for all that is refused
+abbrev pub askingNumber : Asking → ℕ
+askingNumber (asking.Request q) = 0
+askingNumber (asking.Bad f at) = 3
+askingNumber asking.Unfit = 3

@@ -1,0 +1,69 @@
+-- The writing of a request: what a record says in it, the checks, and the buffer. Assumes nothing.
+use Prim.Native.Nat.{ℕ, _/_, _%_}
+use mathlib.Core.Bool.{cond}
+use mathlib.Core.List.{List, [], _∷_, _++_}
+use lib.ListN.{length, take, drop}
+use lib.Dec.{leb, eqb}
+use Rattle.record.specs.Tests.{both}
+use Rattle.record.specs.Valid.{validOf}
+use Rattle.record.specs.Answers.{isTaken}
+use Rattle.record.specs.declared.Access.{Access}
+use Rattle.record.specs.declared.Hot.{Hot}
+use Rattle.record.specs.declared.Record.{Record}
+use Rattle.record.specs.declared.Answer.{Answer}
+use Rattle.record.specs.declared.Answer.the-variants.{Taken, Range, State, Short}
+use Rattle.request.specs.Identity.{identityOf}
+use Rattle.request.specs.Layout.{Fields, layout}
+use Rattle.request.specs.declared.Written.{Written}
+
+unfoldable pub accessOf : ℕ → Hot → Access
+accessOf access h = cond (eqb access 0) (h .a0) (h .a1)
+
+-- F2 and ten octets for each access
+unfoldable pub gutisOf : List ℕ → List ℕ → List ℕ
+gutisOf guti0 guti1 = (0xF2 ∷ guti0) ++ (0xF2 ∷ guti1)
+
+-- three octets, the first one highest
+abbrev pub octets3 : ℕ → List ℕ
+octets3 n = (n / 65536 % 256) ∷ (n / 256 % 256) ∷ (n % 256) ∷ []
+
+-- a network with a three-octet code, if a last area is held
+unfoldable pub lastOf : Access → List ℕ
+lastOf a = cond (eqb (a .visited) 0) [] (octets3 (a .lastnet) ++ octets3 (a .lastcode))
+
+-- what an access says with this identity and these capabilities
+unfoldable pub sayingOf : Access → List ℕ → List ℕ → List ℕ → Fields
+sayingOf a identity capability security = record { kind = 1; ksi = a .ksi; identity = identity; capability = capability; security = security; last = lastOf a }
+
+-- what a record says in the request over an access, a of the access's numbers and its equivalents
+unfoldable pub saysOf : Record → ℕ → Access → List ℕ → Fields
+saysOf r access a equivalents =
+    sayingOf a
+    (identityOf (gutisOf (r .guti0) (r .guti1)) (take (r .hot .dev .suci) (r .suci)) access (r .hot .a0 .guti) (r .hot .a1 .guti) (a .net) equivalents (a .equivalents))
+    (take (r .hot .dev .capability) (r .capability))
+    (take (r .hot .dev .security) (r .security))
+
+unfoldable pub fieldsOf : Record → ℕ → Fields
+fieldsOf r access = saysOf r access (accessOf access (r .hot)) (cond (eqb access 0) (r .equivalents0) (r .equivalents1))
+
+unfoldable pub requestOf : Record → ℕ → List ℕ
+requestOf r access = layout (fieldsOf r access)
+
+-- "1, 6, 12 for writing a request", over a buffer of n octets
+unfoldable pub answerOf : Record → ℕ → ℕ → Answer
+answerOf r access n =
+    cond (both (leb access 1) (validOf r))
+    (cond (eqb (accessOf access (r .hot) .state) 4)
+    (cond (leb (length (requestOf r access)) n) Taken Short)
+    State)
+    Range
+
+unfoldable pub writtenOf : Record → ℕ → ℕ → Written
+writtenOf r access n = record { answer = answerOf r access n; len = cond (isTaken (answerOf r access n)) (length (requestOf r access)) 0 }
+
+-- "a longer one keeps its further octets"
+unfoldable pub over : List ℕ → List ℕ → List ℕ
+over octets buffer = octets ++ drop (length octets) buffer
+
+unfoldable pub bufferOf : Record → ℕ → List ℕ → List ℕ
+bufferOf r access buffer = cond (isTaken (answerOf r access (length buffer))) (over (requestOf r access) buffer) buffer

@@ -1,0 +1,37 @@
+// The registration request: its identity, its writing and its reading.
+use octets::Fault;
+use octets::Part;
+use record::Answer;
+
+mod identity;
+mod joins;
+mod reading;
+mod writing;
+
+pub use identity::choose;
+pub use reading::number;
+pub use reading::read;
+pub use writing::write;
+
+// What a request says, each part as an offset and a length in its octets.
+pub struct Request {
+    pub kind: u8,
+    pub ksi: u8,
+    pub identity: Part,
+    pub capability: Part,
+    pub security: Part,
+    pub last: Part,
+}
+
+// A refusal is a fault and its offset, or a well-formed request that breaks the layout.
+pub enum Asking {
+    Request(Request),
+    Bad(Fault, usize),
+    Unfit,
+}
+
+// An answer, and how many octets were written.
+pub struct Written {
+    pub answer: Answer,
+    pub len: usize,
+}

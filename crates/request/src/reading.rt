@@ -1,0 +1,155 @@
+// The reading of a request.
+use crate::Asking;
+use crate::Request;
+use crate::joins::and;
+use crate::joins::octet;
+use crate::joins::or;
+use crate::joins::wide;
+use octets::Fault;
+use octets::Gathered;
+use octets::Part;
+ghost use mathlib.Core.Path.{_≡_};
+ghost use Prim.Native.Nat.{_<_};
+ghost use Rattle.request.specs.Reading.{isFourth, isIdentity, isSecurity, isCapability, isRequest, capabilityOf, saidOf, judgedOf, partsReading, restReading, typeReading, askingOf, askingNumber};
+
+fn fourth(o: u8) -> bool
+    ensures { λ r. ⌜ r ≡ isFourth o ⌝ }
+{
+    and(o % 16 == 1, o / 16 <= 7)
+}
+
+fn identity(o: u8, n: usize) -> bool
+    ensures { λ r. ⌜ r ≡ isIdentity o n ⌝ }
+{
+    let guti = and(o == 0xF2, n == 11);
+    let suci = and(o == 0x01, and(9 <= n, n <= 64));
+    or(guti, suci)
+}
+
+fn security(q: Part) -> bool
+    ensures { λ r. ⌜ r ≡ isSecurity q ⌝ }
+{
+    and(q.held, and(2 <= q.len, q.len <= 8))
+}
+
+fn capability(p: Part) -> bool
+    ensures { λ r. ⌜ r ≡ isCapability p ⌝ }
+{
+    if p.held { p.len <= 13 } else { true }
+}
+
+fn fits(msg: &[u8], n: usize, p: Part, q: Part) -> bool
+    ensures { λ r. ⌜ r ≡ isRequest (now (msg .entry)) n p q ⌝ }
+{
+    let a = fourth(octet(msg, 3));
+    let b = identity(octet(msg, 6), n);
+    let c = and(capability(p), security(q));
+    and(a, and(b, c))
+}
+
+fn held(p: Part) -> Part
+    ensures { λ r. ⌜ r ≡ capabilityOf p ⌝ }
+{
+    if p.len == 0 {
+        return Part {
+            held: false,
+            start: 0,
+            len: 0,
+        };
+    }
+    p
+}
+
+fn said(msg: &[u8], n: usize, p: Part, q: Part, t: Part) -> Request
+    ensures { λ r. ⌜ r ≡ saidOf (now (msg .entry)) n p q t ⌝ }
+{
+    let o = octet(msg, 3);
+    let capability = held(p);
+    Request {
+        kind: o % 16,
+        ksi: o / 16,
+        identity: Part {
+            held: true,
+            start: 6,
+            len: n,
+        },
+        capability,
+        security: q,
+        last: t,
+    }
+}
+
+fn judged(msg: &[u8], n: usize, p: Part, q: Part, t: Part) -> Asking
+    ensures { λ r. ⌜ r ≡ judgedOf (now (msg .entry)) n p q t ⌝ }
+{
+    if fits(msg, n, p, q) {
+        return Asking::Request(said(msg, n, p, q, t));
+    }
+    Asking::Unfit
+}
+
+fn read_parts(msg: &[u8], n: usize) -> Asking
+    requires { ⌜ n < 65536 ⌝ }
+    ensures { λ r. ⌜ r ≡ partsReading (now (msg .entry)) n ⌝ }
+{
+    if msg.len() < 6 + n {
+        return Asking::Bad(Fault::Cut, msg.len());
+    }
+    match octets::gather(msg, 6 + n, true, 0x10, 0x2E, 0x52) {
+        Gathered::Broken(f, at) => Asking::Bad(f, at),
+        Gathered::Whole(p, q, t) => judged(msg, n, p, q, t),
+    }
+}
+
+fn read_rest(msg: &[u8]) -> Asking
+    ensures { λ r. ⌜ r ≡ restReading (now (msg .entry)) ⌝ }
+{
+    if msg.len() < 6 {
+        return Asking::Bad(Fault::Cut, msg.len());
+    }
+    let high = wide(msg[4]);
+    let low = wide(msg[5]);
+    read_parts(msg, high * 256 + low)
+}
+
+fn read_type(msg: &[u8]) -> Asking
+    ensures { λ r. ⌜ r ≡ typeReading (now (msg .entry)) ⌝ }
+{
+    if msg.len() <= 2 {
+        return Asking::Bad(Fault::Cut, 2);
+    }
+    if msg[2] != 0x41 {
+        return Asking::Bad(Fault::Kind, 2);
+    }
+    read_rest(msg)
+}
+
+// All begin 7E 00 and a type, read octet by octet: the fault at the lowest offset is told.
+pub fn read(msg: &[u8]) -> Asking
+    ensures { λ r. ⌜ r ≡ askingOf (now (msg .entry)) ⌝ }
+{
+    if msg.len() == 0 {
+        return Asking::Bad(Fault::Cut, 0);
+    }
+    if msg[0] != 0x7E {
+        return Asking::Bad(Fault::First, 0);
+    }
+    if msg.len() <= 1 {
+        return Asking::Bad(Fault::Cut, 1);
+    }
+    if msg[1] != 0x00 {
+        return Asking::Bad(Fault::Second, 1);
+    }
+    read_type(msg)
+}
+
+// The number that document 01 has for a reading.
+pub fn number(a: Asking) -> u8
+    ensures { λ r. ⌜ r ≡ askingNumber a ⌝ }
+{
+    match a {
+        Asking::Request(_) => 0,
+        Asking::Bad(_, _) => 3,
+        Asking::Unfit => 3,
+    }
+}

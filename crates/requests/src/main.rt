@@ -1,0 +1,300 @@
+// Writes requests of records of each shape and reads them back; then reads requests written by hand.
+use libc::STDOUT_FILENO;
+use octets::Fault;
+use octets::Part;
+use record::Access;
+use record::Hot;
+use record::Record;
+use request::Asking;
+use request::Request;
+
+// What a record holds: octets of the SUCI and the capabilities; of each access the same numbers.
+struct Shape {
+    suci: u8,
+    capability: u8,
+    security: u8,
+    guti0: u8,
+    guti1: u8,
+    net: u32,
+    equivalents: u8,
+    visited: u8,
+    ksi: u8,
+}
+
+fn access(s: Shape, guti: u8) -> Access {
+    let mut a = record::new_access(4);
+    a.t3510 = 1;
+    a.net = s.net;
+    a.guti = guti;
+    a.visited = s.visited;
+    a.lastnet = 0x00F220;
+    a.lastcode = 0x00002A;
+    a.ksi = s.ksi;
+    a.equivalents = s.equivalents;
+    a
+}
+
+// A record with no card, in state 0.
+fn fresh() -> Record {
+    let capability = [0u8; 1];
+    let security = [0u8; 2];
+    let m = record::fresh(3, 3, 3, &capability, &security);
+    m.made
+}
+
+fn numbers(s: Shape) -> Hot {
+    let r = fresh();
+    let mut h = r.hot;
+    let mut d = h.dev;
+    d.card = 1;
+    d.suci = s.suci;
+    d.capability = s.capability;
+    d.security = s.security;
+    h.dev = d;
+    let a0 = access(s, s.guti0);
+    let a1 = access(s, s.guti1);
+    h.a0 = a0;
+    h.a1 = a1;
+    h
+}
+
+// 01 00 F1 10 F0 FF 00 00, then 07 and on.
+fn suci() -> [u8; 64] {
+    let mut s = [0u8; 64];
+    s[0] = 0x01;
+    s[2] = 0xF1;
+    s[3] = 0x10;
+    s[4] = 0xF0;
+    s[5] = 0xFF;
+    let mut i = 8;
+    while i < 64 {
+        s[i] = (i - 1) as u8;
+        i += 1;
+    }
+    s
+}
+
+// 00 and on.
+fn capability() -> [u8; 13] {
+    let mut s = [0u8; 13];
+    let mut i = 1;
+    while i < 13 {
+        s[i] = i as u8;
+        i += 1;
+    }
+    s
+}
+
+// The GUTIs are of the networks 00 F1 10 and 00 F2 20; each access's equivalent is the other's.
+fn made(s: Shape) -> Record {
+    let suci = suci();
+    let capability = capability();
+    let security = [0xF0, 0xF0, 0x01, 0x02, 0x03, 0x04, 0x05, 0x06];
+    let mut r = record::empty(numbers(s), suci, capability, security);
+    let guti0 = [0x00, 0xF1, 0x10, 0x80, 0x01, 0xC5, 0xD1, 0xC2, 0xB3, 0xA4];
+    let guti1 = [0x00, 0xF2, 0x20, 0x11, 0x22, 0x83, 0x0A, 0x0B, 0x0C, 0x0D];
+    r.guti0 = guti0;
+    r.guti1 = guti1;
+    let equivalents0 = [0x00F220u32; 15];
+    let equivalents1 = [0x00F110u32; 15];
+    r.equivalents0 = equivalents0;
+    r.equivalents1 = equivalents1;
+    r
+}
+
+fn say(s: &[u8]) {
+    io::write_all(STDOUT_FILENO, s);
+}
+
+fn number(n: u64) {
+    say(b" ");
+    io::print_decimal(STDOUT_FILENO, n);
+}
+
+fn digit(x: u8) -> u8 {
+    let y = x % 16;
+    if y < 10 { 48 + y } else { 55 + y }
+}
+
+fn octet(x: u8) {
+    let two = [32, digit(x / 16), digit(x)];
+    say(&two);
+}
+
+fn octets(s: &[u8]) {
+    let mut i = 0;
+    while i < s.len() {
+        octet(s[i]);
+        i += 1;
+    }
+    say(b"\n");
+}
+
+fn part(name: &[u8], p: Part) {
+    if p.held {
+        say(name);
+        number(p.start as u64);
+        number(p.len as u64);
+    }
+}
+
+fn request(q: Request) {
+    say(b"request");
+    number(q.kind as u64);
+    number(q.ksi as u64);
+    part(b" identity", q.identity);
+    part(b" capability", q.capability);
+    part(b" security", q.security);
+    part(b" last", q.last);
+}
+
+fn fault(f: Fault) {
+    match f {
+        Fault::Cut => say(b"cut"),
+        Fault::First => say(b"first"),
+        Fault::Second => say(b"second"),
+        Fault::Kind => say(b"type"),
+        Fault::Past => say(b"past"),
+        Fault::Strange => say(b"strange"),
+    }
+}
+
+fn asking(a: Asking) {
+    match a {
+        Asking::Request(q) => request(q),
+        Asking::Bad(f, at) => {
+            fault(f);
+            number(at as u64);
+        }
+        Asking::Unfit => say(b"unfit"),
+    }
+    say(b"\n");
+}
+
+fn tell(msg: &[u8]) {
+    asking(request::read(msg));
+}
+
+// The answer and the length, the whole buffer, and what reading the written octets says.
+fn send(r: Record, access: u8, buffer: &mut [u8]) {
+    let w = request::write(r, access, buffer);
+    let answer = w.answer;
+    say(b"answer");
+    number(record::number(answer) as u64);
+    say(b" length");
+    number(w.len as u64);
+    say(b":");
+    octets(buffer);
+    let n = w.len;
+    if n <= buffer.len() {
+        tell(&buffer[..n]);
+    }
+}
+
+// A buffer of AA with this many octets of room.
+fn sent(r: Record, access: u8, room: usize) {
+    let mut buffer = [0xAAu8; 128];
+    if room <= 128 {
+        send(r, access, &mut buffer[..room]);
+    }
+}
+
+fn short() -> Shape {
+    Shape {
+        suci: 9,
+        capability: 1,
+        security: 2,
+        guti0: 0,
+        guti1: 0,
+        net: 0x00F110,
+        equivalents: 0,
+        visited: 0,
+        ksi: 7,
+    }
+}
+
+fn sucis() {
+    let mut s = short();
+    sent(made(s), 0, 19);
+    sent(made(s), 1, 24);
+    sent(made(s), 0, 18);
+    sent(made(s), 0, 0);
+    s.suci = 64;
+    sent(made(s), 0, 80);
+    s.capability = 13;
+    s.security = 8;
+    s.visited = 1;
+    s.ksi = 6;
+    sent(made(s), 0, 102);
+    sent(made(s), 0, 101);
+}
+
+fn gutis() {
+    let mut s = short();
+    s.guti0 = 1;
+    s.visited = 1;
+    s.ksi = 3;
+    sent(made(s), 0, 31);
+    sent(made(s), 0, 33);
+    sent(made(s), 1, 30);
+    s.guti1 = 1;
+    s.ksi = 0;
+    s.visited = 0;
+    s.net = 0x00F220;
+    sent(made(s), 0, 24);
+    sent(made(s), 1, 24);
+    s.net = 0x00F330;
+    sent(made(s), 0, 24);
+    sent(made(s), 1, 24);
+    s.equivalents = 1;
+    sent(made(s), 0, 24);
+    sent(made(s), 1, 24);
+    s.guti0 = 0;
+    sent(made(s), 0, 24);
+    s.ksi = 7;
+    sent(made(s), 1, 21);
+}
+
+fn refusals() {
+    let mut s = short();
+    sent(made(s), 2, 19);
+    s.ksi = 8;
+    sent(made(s), 0, 19);
+    sent(fresh(), 0, 19);
+}
+
+fn orders() {
+    let turned =
+        b"\x7E\x00\x41\x31\x00\x0B\xF2\x00\xF1\x10\x80\x01\xC5\xD1\xC2\xB3\xA4\x52\x00\xF2\x20\x00\x00\x2A\x9F\x2E\x02\xF0\xF0\x10\x01\x00";
+    tell(turned);
+    let twice =
+        b"\x7E\x00\x41\x71\x00\x09\x01\x00\xF1\x10\xF0\xFF\x00\x00\x07\x10\x00\x2E\x02\xF0\xF0\x10\x01\x55\x2E\x03\x01\x02\x03";
+    tell(twice);
+}
+
+fn cuts() {
+    tell(b"\x7E\x00\x41");
+    tell(b"\x7E\x00\x41\x71\x00");
+    tell(b"\x7E\x00\x41\x71\x00\x09\x01\x00");
+    tell(b"\x7E\x00\x44\x0B");
+    tell(b"\x7E\x00\x41\x71\x00\x00");
+    tell(b"\x7E\x00\x41\x71\x00\x00\x05\x00");
+    tell(b"\x7E\x00\x41\x71\x00\x00\x2E\x02\xF0");
+}
+
+// No 2E, the wrong type, the wrong ngKSI, a GUTI of nine octets.
+fn unfits() {
+    tell(b"\x7E\x00\x41\x71\x00\x09\x01\x00\xF1\x10\xF0\xFF\x00\x00\x07");
+    tell(b"\x7E\x00\x41\x72\x00\x09\x01\x00\xF1\x10\xF0\xFF\x00\x00\x07\x2E\x02\xF0\xF0");
+    tell(b"\x7E\x00\x41\x81\x00\x09\x01\x00\xF1\x10\xF0\xFF\x00\x00\x07\x2E\x02\xF0\xF0");
+    tell(b"\x7E\x00\x41\x71\x00\x09\xF2\x00\xF1\x10\xF0\xFF\x00\x00\x07\x2E\x02\xF0\xF0");
+}
+
+fn main() {
+    sucis();
+    gutis();
+    refusals();
+    orders();
+    cuts();
+    unfits();
+}

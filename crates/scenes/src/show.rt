@@ -1,0 +1,292 @@
+// Replies and records as text.
+ghost use Prim.Native.Nat.{_≤_};
+use entries::Entries;
+use libc::STDOUT_FILENO;
+use messages::octet;
+use record::Access;
+use record::Device;
+use record::Record;
+use rules::Asked;
+use rules::Reply;
+use turns::Clocks;
+use turns::Told;
+
+fn put(s: &[u8]) {
+    io::write_all(STDOUT_FILENO, s);
+}
+
+fn number(n: u64) {
+    io::print_decimal(STDOUT_FILENO, n);
+}
+
+fn digits(n: u64, width: usize) {
+    io::print_hex(STDOUT_FILENO, n, width);
+}
+
+fn field(name: &[u8], n: u64) {
+    put(name);
+    number(n);
+}
+
+fn comma(i: usize) {
+    if 0 < i {
+        put(b",");
+    }
+}
+
+fn dash(n: usize) {
+    if n == 0 {
+        put(b"-");
+    }
+}
+
+fn hex(s: &[u8], n: usize) {
+    dash(n);
+    let mut i = 0;
+    while i < n {
+        digits(octet(s, i) as u64, 2);
+        i += 1;
+    }
+}
+
+fn told(t: Told) {
+    match t {
+        Told::Left => put(b" left"),
+        Told::Stopped => put(b" stopped"),
+        Told::Started(n) => field(b" started:", n as u64),
+    }
+}
+
+fn asked(name: &[u8], a: Asked) {
+    put(name);
+    match a {
+        Asked::No => put(b"-"),
+        Asked::On(n) => number(n as u64),
+    }
+}
+
+fn clock(name: &[u8], a: Told, b: Told) {
+    put(name);
+    told(a);
+    told(b);
+}
+
+fn clocks(a: Clocks, b: Clocks) {
+    let first = a.t3510;
+    let second = b.t3510;
+    clock(b" T3510", first, second);
+    let third = a.t3511;
+    let fourth = b.t3511;
+    clock(b" T3511", third, fourth);
+    let fifth = a.t3502;
+    let sixth = b.t3502;
+    clock(b" T3502", fifth, sixth);
+}
+
+fn answer(name: &[u8], r: Reply) {
+    let a = r.answer;
+    field(name, record::number(a) as u64);
+}
+
+fn reply(r: Reply) {
+    answer(b"= ", r);
+    let a = r.c0;
+    let b = r.c1;
+    clocks(a, b);
+    put(b" T3247");
+    let t = r.t3247;
+    told(t);
+    let restart = r.restart;
+    asked(b" restart ", restart);
+    let leave = r.leave;
+    asked(b" leave ", leave);
+    let update = r.update;
+    asked(b" update ", update);
+}
+
+fn mark(x: u64) {
+    if x % 2 == 0 {
+        put(b":u");
+    } else {
+        put(b":p");
+    }
+}
+
+fn listed(x: u64) {
+    digits(x / 2, 12);
+    mark(x);
+}
+
+fn areas(name: &[u8], count: u8, list: [u64; 40]) {
+    put(name);
+    let n = areas::size(count);
+    dash(n);
+    let mut i = 0;
+    while i < n {
+        comma(i);
+        listed(list[i]);
+        i += 1;
+    }
+}
+
+fn card(d: Device, suci: [u8; 64]) {
+    field(b" | card ", d.card as u64);
+    put(b" home ");
+    digits(d.home as u64, 6);
+    put(b" suci ");
+    hex(&suci, d.suci as usize);
+    field(b" limits ", d.cardlimit as u64);
+    field(b" ", d.banlimit as u64);
+    field(b" ", d.n1limit as u64);
+}
+
+fn capability(n: u8, octets: [u8; 13]) {
+    put(b" cap ");
+    hex(&octets, n as usize);
+}
+
+fn security(n: u8, octets: [u8; 8]) {
+    put(b" sec ");
+    hex(&octets, n as usize);
+}
+
+fn device(r: Record) {
+    let d = r.hot.dev;
+    let suci = r.suci;
+    card(d, suci);
+    let c = r.capability;
+    capability(d.capability, c);
+    let s = r.security;
+    security(d.security, s);
+    field(b" T3247 ", d.t3247 as u64);
+    let roaming = r.roaming;
+    areas(b" roaming ", d.roaming, roaming);
+    let regional = r.regional;
+    areas(b" regional ", d.regional, regional);
+}
+
+fn mode(a: Access) {
+    field(b" state ", a.state as u64);
+    field(b" status ", a.status as u64);
+    field(b" attempts ", a.attempts as u64);
+    field(b" T3510 ", a.t3510 as u64);
+    field(b" T3511 ", a.t3511 as u64);
+    field(b" T3502 ", a.t3502 as u64);
+    field(b" length ", a.wait as u64);
+    put(b" pending ");
+    digits(a.net as u64, 6);
+    digits(a.code as u64, 6);
+}
+
+fn ten(held: u8) -> usize {
+    if held == 0 { 0 } else { 10 }
+}
+
+fn last(held: u8, net: u32, code: u32) {
+    put(b" last ");
+    if held == 0 {
+        put(b"-");
+    } else {
+        digits(net as u64, 6);
+        digits(code as u64, 6);
+    }
+}
+
+fn identity(a: Access, guti: [u8; 10]) {
+    put(b" guti ");
+    hex(&guti, ten(a.guti));
+    last(a.visited, a.lastnet, a.lastcode);
+    field(b" ksi ", a.ksi as u64);
+}
+
+fn fifteen(count: u8) -> usize
+    ensures { λ r. ⌜ r ≤ 15 ⌝ }
+{
+    if count < 15 { count as usize } else { 15 }
+}
+
+fn equivalents(count: u8, list: [u32; 15]) {
+    put(b" equivalents ");
+    let n = fifteen(count);
+    dash(n);
+    let mut i = 0;
+    while i < n {
+        comma(i);
+        digits(list[i] as u64, 6);
+        i += 1;
+    }
+}
+
+fn flag(x: u8, s: &[u8]) {
+    if x == 0 {
+        put(b"-");
+    } else {
+        put(s);
+    }
+}
+
+fn entry(net: u32, ban: u8, n1: u8, forbidden: u8, barred: u8) {
+    digits(net as u64, 6);
+    field(b":", ban as u64);
+    field(b":", n1 as u64);
+    put(b":");
+    flag(forbidden, b"F");
+    flag(barred, b"N");
+}
+
+fn table(count: u8, e: Entries) {
+    put(b" entries ");
+    let n = entries::size(count);
+    dash(n);
+    let mut i = 0;
+    while i < n {
+        comma(i);
+        entry(e.nets[i], e.bans[i], e.n1s[i], e.forbidden[i], e.barred[i]);
+        i += 1;
+    }
+}
+
+fn access(a: Access, guti: [u8; 10], list: [u32; 15], e: Entries) {
+    mode(a);
+    identity(a, guti);
+    equivalents(a.equivalents, list);
+    field(b" cards ", a.cards as u64);
+    table(a.entries, e);
+}
+
+// An event's own line: number, answer, both states, T3247.
+pub(crate) fn line(count: u64, p: Reply, r: Record) {
+    number(count);
+    answer(b" ", p);
+    let h = r.hot;
+    field(b" ", h.a0.state as u64);
+    field(b" ", h.a1.state as u64);
+    field(b" ", h.dev.t3247 as u64);
+    put(b"\n");
+}
+
+fn first(r: Record) {
+    put(b" | 0");
+    let a = r.hot.a0;
+    let guti = r.guti0;
+    let list = r.equivalents0;
+    let e = r.e0;
+    access(a, guti, list, e);
+}
+
+fn second(r: Record) {
+    put(b" | 1");
+    let a = r.hot.a1;
+    let guti = r.guti1;
+    let list = r.equivalents1;
+    let e = r.e1;
+    access(a, guti, list, e);
+}
+
+pub(crate) fn full(p: Reply, r: Record) {
+    reply(p);
+    device(r);
+    first(r);
+    second(r);
+    put(b"\n");
+}

@@ -1,0 +1,257 @@
+// The second program of docs/src behind the C interface, for fuzz.c to compare with. It takes valid records only.
+#![allow(dead_code)]
+#[path = "../../docs/src/log.rs"]
+mod log;
+#[path = "../../docs/src/message.rs"]
+mod message;
+#[path = "../../docs/src/record.rs"]
+mod record;
+
+use record::{Access, Areas, Change, Entry, Limits, List, Listed, Record, Reply, T3247, T3502, T3510, T3511};
+
+// The structs of include/tjernfaug.h.
+#[repr(C)]
+pub struct CDevice {
+    card: u8,
+    home: u32,
+    suci: u8,
+    limits: [u8; 3],
+    t3247: u8,
+    capability: u8,
+    security: u8,
+    roaming: u8,
+    regional: u8,
+}
+
+#[repr(C)]
+pub struct CAccess {
+    state: u8,
+    status: u8,
+    attempts: u8,
+    cards: u8,
+    t3510: u8,
+    t3511: u8,
+    t3502: u8,
+    wait: u16,
+    net: u32,
+    code: u32,
+    guti: u8,
+    visited: u8,
+    lastnet: u32,
+    lastcode: u32,
+    ksi: u8,
+    equivalents: u8,
+    entries: u8,
+}
+
+#[repr(C)]
+pub struct CEntries {
+    nets: [u32; 16],
+    bans: [u8; 16],
+    n1s: [u8; 16],
+    forbidden: [u8; 16],
+    barred: [u8; 16],
+}
+
+#[repr(C)]
+pub struct CRecord {
+    dev: CDevice,
+    access: [CAccess; 2],
+    entries: [CEntries; 2],
+    roaming: [u64; 40],
+    regional: [u64; 40],
+    guti: [[u8; 10]; 2],
+    equivalents: [[u32; 15]; 2],
+    suci: [u8; 64],
+    capability: [u8; 13],
+    security: [u8; 8],
+}
+
+#[repr(C)]
+pub struct CNotice {
+    clocks: [[[u32; 2]; 3]; 2],
+    t3247: [u32; 2],
+    requests: [u32; 3],
+}
+
+fn triple(n: u32) -> [u8; 3] {
+    let [_, a, b, c] = n.to_be_bytes();
+    [a, b, c]
+}
+
+fn number(octets: &[u8]) -> u32 {
+    octets.iter().fold(0, |n, &octet| n << 8 | octet as u32)
+}
+
+fn area(net: u32, code: u32) -> [u8; 6] {
+    let (n, c) = (triple(net), triple(code));
+    [n[0], n[1], n[2], c[0], c[1], c[2]]
+}
+
+fn areas(items: &[u64]) -> Areas {
+    let mut list = Areas::new();
+    for item in items {
+        list.push(Listed { area: area((item >> 25) as u32, (item >> 1) as u32 & 0xFFFFFF), protected: item & 1 == 1 });
+    }
+    list
+}
+
+fn items(areas: &Areas) -> [u64; 40] {
+    let mut items = [0; 40];
+    for (item, held) in items.iter_mut().zip(areas.iter()) {
+        let (net, code) = (number(&held.area[..3]) as u64, number(&held.area[3..]) as u64);
+        *item = (net << 24 | code) << 1 | held.protected as u64;
+    }
+    items
+}
+
+fn padded<const N: usize>(octets: &[u8]) -> [u8; N] {
+    let mut all = [0; N];
+    all[..octets.len()].copy_from_slice(octets);
+    all
+}
+
+fn access_in(r: &CRecord, i: usize) -> Access {
+    let (a, e) = (&r.access[i], &r.entries[i]);
+    let mut entries = List::new();
+    for j in 0..a.entries as usize {
+        entries.push(Entry { network: triple(e.nets[j]), ban: e.bans[j], n1: e.n1s[j], forbidden: e.forbidden[j] == 1, n1_barred: e.barred[j] == 1 });
+    }
+    let mut equivalents = List::new();
+    for &net in &r.equivalents[i][..a.equivalents as usize] {
+        equivalents.push(triple(net));
+    }
+    Access {
+        state: a.state,
+        status: a.status,
+        attempts: a.attempts,
+        t3510: a.t3510 == 1,
+        t3511: a.t3511 == 1,
+        t3502: a.t3502 == 1,
+        t3502_length: a.wait,
+        pending: area(a.net, a.code),
+        guti: (a.guti == 1).then_some(r.guti[i]),
+        last: (a.visited == 1).then_some(area(a.lastnet, a.lastcode)),
+        ksi: a.ksi,
+        equivalents,
+        cards: a.cards,
+        entries,
+    }
+}
+
+fn record_in(r: &CRecord) -> Record {
+    let d = &r.dev;
+    let suci = if d.card == 1 { &r.suci[..d.suci as usize] } else { &[] };
+    Record {
+        card: d.card == 1,
+        home: triple(d.home),
+        suci: List::of(suci),
+        limits: Limits { card: d.limits[0], ban: d.limits[1], n1: d.limits[2] },
+        capability: List::of(&r.capability[..d.capability as usize]),
+        security: List::of(&r.security[..d.security as usize]),
+        t3247: d.t3247 == 1,
+        roaming: areas(&r.roaming[..d.roaming as usize]),
+        regional: areas(&r.regional[..d.regional as usize]),
+        access: [access_in(r, 0), access_in(r, 1)],
+    }
+}
+
+fn access_out(a: &Access) -> CAccess {
+    let last = a.last.unwrap_or_default();
+    CAccess {
+        state: a.state,
+        status: a.status,
+        attempts: a.attempts,
+        cards: a.cards,
+        t3510: a.t3510 as u8,
+        t3511: a.t3511 as u8,
+        t3502: a.t3502 as u8,
+        wait: a.t3502_length,
+        net: number(&a.pending[..3]),
+        code: number(&a.pending[3..]),
+        guti: a.guti.is_some() as u8,
+        visited: a.last.is_some() as u8,
+        lastnet: number(&last[..3]),
+        lastcode: number(&last[3..]),
+        ksi: a.ksi,
+        equivalents: a.equivalents.len() as u8,
+        entries: a.entries.len() as u8,
+    }
+}
+
+fn entries_out(a: &Access) -> CEntries {
+    let mut e = CEntries { nets: [0; 16], bans: [0; 16], n1s: [0; 16], forbidden: [0; 16], barred: [0; 16] };
+    for (i, entry) in a.entries.iter().enumerate() {
+        e.nets[i] = number(&entry.network);
+        e.bans[i] = entry.ban;
+        e.n1s[i] = entry.n1;
+        e.forbidden[i] = entry.forbidden as u8;
+        e.barred[i] = entry.n1_barred as u8;
+    }
+    e
+}
+
+fn equivalents_out(a: &Access) -> [u32; 15] {
+    let mut all = [0; 15];
+    for (to, net) in all.iter_mut().zip(a.equivalents.iter()) {
+        *to = number(net);
+    }
+    all
+}
+
+fn record_out(r: &Record) -> CRecord {
+    let [a, b] = &r.access;
+    CRecord {
+        dev: CDevice {
+            card: r.card as u8,
+            home: number(&r.home),
+            suci: r.suci.len() as u8,
+            limits: [r.limits.card, r.limits.ban, r.limits.n1],
+            t3247: r.t3247 as u8,
+            capability: r.capability.len() as u8,
+            security: r.security.len() as u8,
+            roaming: r.roaming.len() as u8,
+            regional: r.regional.len() as u8,
+        },
+        access: [access_out(a), access_out(b)],
+        entries: [entries_out(a), entries_out(b)],
+        roaming: items(&r.roaming),
+        regional: items(&r.regional),
+        guti: [a.guti.unwrap_or_default(), b.guti.unwrap_or_default()],
+        equivalents: [equivalents_out(a), equivalents_out(b)],
+        suci: padded(&r.suci),
+        capability: padded(&r.capability),
+        security: padded(&r.security),
+    }
+}
+
+fn told(change: Change) -> [u32; 2] {
+    match change {
+        Change::Left => [0, 0],
+        Change::Stopped => [1, 0],
+        Change::Started(seconds) => [2, seconds as u32],
+    }
+}
+
+fn notice_out(p: &Reply) -> CNotice {
+    let clocks = |a: usize| [T3510, T3511, T3502].map(|timer| told(p.timers[timer + a]));
+    let request = |asked: Option<u8>| asked.map_or(0, |access| 1 + access as u32);
+    CNotice { clocks: [clocks(0), clocks(1)], t3247: told(p.timers[T3247]), requests: [p.restart, p.leave, p.update].map(request) }
+}
+
+/// What is not held becomes zero.
+#[no_mangle]
+pub unsafe extern "C" fn second_tidy(r: &mut CRecord) {
+    *r = record_out(&record_in(r));
+}
+
+#[no_mangle]
+pub unsafe extern "C" fn second_event(r: &mut CRecord, kind: u32, body: *const u8, len: usize, notice: &mut CNotice) -> u32 {
+    let mut octets = (kind as u16).to_le_bytes().to_vec();
+    octets.extend_from_slice(std::slice::from_raw_parts(body, len));
+    let mut held = record_in(r);
+    let reply = if kind < 65536 { log::apply(&mut held, &octets) } else { Reply::of(record::RANGE) };
+    *r = record_out(&held);
+    *notice = notice_out(&reply);
+    reply.answer as u32
+}

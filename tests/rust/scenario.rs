@@ -1,0 +1,355 @@
+// An event log as readable text, and back.
+//
+//   scenario to-log     text on standard input, log on standard output
+//   scenario to-text    log on standard input, text on standard output
+//
+// One event a line, words split by spaces; `#` begins a comment; empty lines count for
+// nothing. A network is MCC-MNC, as 001-01 or 310-260, or six hex digits where it is no
+// network code. An access is 0 or 1, a cause and a draw are decimal, octets are hex.
+//
+//   card NETWORK SUCI
+//   start ACCESS NETWORK area CODE [manual]
+//   reject ACCESS CAUSE protected|unprotected [draw SECONDS]
+//   accept ACCESS protected|unprotected [draw SECONDS] [guti OCTETS]
+//          [equivalents NETWORK,NETWORK..] [T3502 OCTET]
+//   message ACCESS protected|unprotected [draw SECONDS] OCTETS
+//   timer T3510|T3511|T3502 ACCESS
+//   timer T3247
+//   power
+//   key ACCESS SET
+//   raw OCTETS            any other record: kind and body
+//
+// A draw left out is 1800. Octets of `message` and `raw` may be split by spaces. A log and
+// its text hold the same: to-text and then to-log gives the log back, octet for octet.
+
+use std::fmt::Write as _;
+use std::io::{self, Read, Write};
+use std::process::ExitCode;
+
+type Parsed<T> = Result<T, String>;
+
+const TIMERS: [&str; 4] = ["T3510", "T3511", "T3502", "T3247"];
+
+fn octets(word: &str) -> Parsed<Vec<u8>> {
+    let bad = || format!("`{word}` is not a row of hex octets");
+    if word.len() % 2 != 0 || !word.bytes().all(|digit| digit.is_ascii_hexdigit()) {
+        return Err(bad());
+    }
+    let pair = |at| u8::from_str_radix(&word[at..at + 2], 16).map_err(|_| bad());
+    (0..word.len()).step_by(2).map(pair).collect()
+}
+
+fn sized(word: &str, count: usize) -> Parsed<Vec<u8>> {
+    let got = octets(word)?;
+    if got.len() == count {
+        return Ok(got);
+    }
+    Err(format!("`{word}` has {} octets, not {count}", got.len()))
+}
+
+fn number<T: std::str::FromStr>(word: &str, what: &str) -> Parsed<T> {
+    word.parse().map_err(|_| format!("`{word}` is no {what}"))
+}
+
+/// Three octets: MCC2 MCC1, MNC3 MCC3, MNC2 MNC1, the third MNC digit F where there is none.
+fn network(word: &str) -> Parsed<Vec<u8>> {
+    let Some((mcc, mnc)) = word.split_once('-') else {
+        return sized(word, 3)
+            .map_err(|_| format!("`{word}` is no network: 001-01 or six hex digits"));
+    };
+    let digits: Vec<u8> = mcc.bytes().chain(mnc.bytes()).collect();
+    if mcc.len() != 3 || !(2..=3).contains(&mnc.len()) || !digits.iter().all(u8::is_ascii_digit) {
+        return Err(format!("`{word}` is no network: three digits, `-`, two or three digits"));
+    }
+    let digit = |at: usize| digits.get(at).map_or(15, |digit| digit - b'0');
+    Ok(vec![digit(1) << 4 | digit(0), digit(5) << 4 | digit(2), digit(4) << 4 | digit(3)])
+}
+
+/// The words of a line that are still to be read.
+struct Words<'a>(Vec<&'a str>);
+
+impl<'a> Words<'a> {
+    fn of(line: &'a str) -> Words<'a> {
+        let text = line.split('#').next().unwrap_or("");
+        Words(text.split_whitespace().rev().collect())
+    }
+
+    fn next(&mut self, what: &str) -> Parsed<&'a str> {
+        self.0.pop().ok_or_else(|| format!("{what} is missing"))
+    }
+
+    /// Whether the next word is this one; it is then read.
+    fn takes(&mut self, word: &str) -> bool {
+        let found = self.0.last() == Some(&word);
+        if found {
+            self.0.pop();
+        }
+        found
+    }
+
+    fn rest(&mut self) -> String {
+        self.0.drain(..).rev().collect()
+    }
+
+    fn access(&mut self) -> Parsed<u8> {
+        let word = self.next("the access")?;
+        number(word, "access: 0 (mobile) or 1 (Wi-Fi)")
+    }
+
+    fn protection(&mut self) -> Parsed<u8> {
+        match self.next("`protected` or `unprotected`")? {
+            "protected" => Ok(1),
+            "unprotected" => Ok(0),
+            word => Err(format!("`{word}` stands for `protected` or `unprotected`")),
+        }
+    }
+
+    fn draw(&mut self) -> Parsed<u16> {
+        if !self.takes("draw") {
+            return Ok(1800);
+        }
+        let word = self.next("the draw's seconds")?;
+        number(word, "draw: seconds from 0 to 65535")
+    }
+}
+
+/// The accept's octets, its elements in the order of the format above.
+fn accept(words: &mut Words) -> Parsed<Vec<u8>> {
+    let mut message = vec![0x7E, 0x00, 0x42, 0x01, 0x01];
+    if words.takes("guti") {
+        message.extend([0x77, 0x00, 0x0B, 0xF2]);
+        message.extend(sized(words.next("the GUTI")?, 10)?);
+    }
+    if words.takes("equivalents") {
+        let list = words.next("the equivalent networks")?;
+        let networks: Parsed<Vec<_>> = list.split(',').map(network).collect();
+        let held = networks?.concat();
+        let length = u8::try_from(held.len()).map_err(|_| "more than 85 equivalent networks")?;
+        message.extend([0x4A, length]);
+        message.extend(held);
+    }
+    if words.takes("T3502") {
+        message.extend([0x16, 0x01, sized(words.next("T3502's octet")?, 1)?[0]]);
+    }
+    Ok(message)
+}
+
+fn heard(access: u8, protected: u8, draw: u16, message: &[u8]) -> Vec<u8> {
+    let [low, high] = draw.to_le_bytes();
+    [&[3, 0, access, protected, low, high], message].concat()
+}
+
+fn card(words: &mut Words) -> Parsed<Vec<u8>> {
+    let home = network(words.next("the home network")?)?;
+    Ok([vec![1, 0], home, octets(words.next("the SUCI")?)?].concat())
+}
+
+fn start(words: &mut Words) -> Parsed<Vec<u8>> {
+    let access = words.access()?;
+    let started = network(words.next("the network")?)?;
+    if !words.takes("area") {
+        return Err("`area` and the area code are missing".into());
+    }
+    let code = sized(words.next("the area code")?, 3)?;
+    let manual = u8::from(words.takes("manual"));
+    Ok([vec![2, 0, access, manual], started, code].concat())
+}
+
+fn reject(words: &mut Words) -> Parsed<Vec<u8>> {
+    let access = words.access()?;
+    let cause = number(words.next("the cause")?, "cause: 0 to 255")?;
+    let protected = words.protection()?;
+    Ok(heard(access, protected, words.draw()?, &[0x7E, 0x00, 0x44, cause]))
+}
+
+fn timer(words: &mut Words) -> Parsed<Vec<u8>> {
+    let name = words.next("the timer")?;
+    let place = TIMERS.iter().position(|timer| *timer == name);
+    let place = place.ok_or_else(|| format!("`{name}` is no timer: {}", TIMERS.join(", ")))?;
+    let access = if place == 3 && words.0.is_empty() { 0 } else { words.access()? };
+    Ok(vec![4, 0, place as u8 + 1, access])
+}
+
+fn raw(words: &mut Words) -> Parsed<Vec<u8>> {
+    let got = octets(&words.rest())?;
+    if got.len() < 2 {
+        return Err("a record has at least its two kind octets".into());
+    }
+    Ok(got)
+}
+
+/// A line's record, kind and body.
+fn record(words: &mut Words) -> Parsed<Vec<u8>> {
+    match words.next("the event")? {
+        "card" => card(words),
+        "start" => start(words),
+        "reject" => reject(words),
+        "accept" => {
+            let (access, protected) = (words.access()?, words.protection()?);
+            Ok(heard(access, protected, words.draw()?, &accept(words)?))
+        }
+        "message" => {
+            let (access, protected) = (words.access()?, words.protection()?);
+            Ok(heard(access, protected, words.draw()?, &octets(&words.rest())?))
+        }
+        "timer" => timer(words),
+        "power" => Ok(vec![5, 0]),
+        "key" => {
+            let access = words.access()?;
+            Ok(vec![6, 0, access, number(words.next("the key set")?, "key set: 0 to 255")?])
+        }
+        "raw" => raw(words),
+        word => Err(format!(
+            "`{word}` is no event: card, start, reject, accept, message, timer, power, key or raw"
+        )),
+    }
+}
+
+fn line(text: &str) -> Parsed<Vec<u8>> {
+    let mut words = Words::of(text);
+    if words.0.is_empty() {
+        return Ok(Vec::new());
+    }
+    let held = record(&mut words)?;
+    if let Some(word) = words.0.last() {
+        return Err(format!("`{word}` is not expected here"));
+    }
+    let length = u16::try_from(held.len()).map_err(|_| "a record has at most 65535 octets")?;
+    Ok([&length.to_le_bytes(), &held[..]].concat())
+}
+
+fn to_log(text: &str) -> Parsed<Vec<u8>> {
+    let mut log = Vec::new();
+    for (place, held) in text.lines().enumerate() {
+        log.extend(line(held).map_err(|error| format!("line {}: {error}", place + 1))?);
+    }
+    Ok(log)
+}
+
+fn hex(held: &[u8]) -> String {
+    held.iter().fold(String::new(), |mut text, octet| {
+        let _ = write!(text, "{octet:02X}");
+        text
+    })
+}
+
+fn network_text(held: &[u8]) -> String {
+    let [a, b, c] = [held[0], held[1], held[2]];
+    let digits = [a & 15, a >> 4, b & 15, c & 15, c >> 4, b >> 4];
+    let digit = |place: usize| char::from(b'0' + digits[place]);
+    if digits[..5].iter().any(|digit| *digit > 9) || !(digits[5] < 10 || digits[5] == 15) {
+        return hex(held);
+    }
+    let mnc: String = (3..if digits[5] == 15 { 5 } else { 6 }).map(digit).collect();
+    format!("{}{}{}-{mnc}", digit(0), digit(1), digit(2))
+}
+
+/// The words of an accept with these elements, if they are written as the format has them.
+fn accept_text(mut rest: &[u8]) -> Option<String> {
+    let mut text = String::new();
+    if let [0x77, 0x00, 0x0B, 0xF2, behind @ ..] = rest {
+        let _ = write!(text, " guti {}", hex(behind.get(..10)?));
+        rest = &behind[10..];
+    }
+    if let [0x4A, length, behind @ ..] = rest {
+        let list = behind.get(..*length as usize)?;
+        if list.is_empty() || list.len() % 3 != 0 {
+            return None;
+        }
+        let networks: Vec<_> = list.chunks(3).map(network_text).collect();
+        let _ = write!(text, " equivalents {}", networks.join(","));
+        rest = &behind[list.len()..];
+    }
+    if let [0x16, 0x01, octet, behind @ ..] = rest {
+        let _ = write!(text, " T3502 {octet:02X}");
+        rest = behind;
+    }
+    rest.is_empty().then_some(text)
+}
+
+fn message_text(access: u8, protected: u8, draw: u16, message: &[u8]) -> String {
+    let way = if protected == 1 { "protected" } else { "unprotected" };
+    if let [0x7E, 0x00, 0x44, cause] = message {
+        return format!("reject {access} {cause} {way} draw {draw}");
+    }
+    if let [0x7E, 0x00, 0x42, 0x01, 0x01, rest @ ..] = message {
+        if let Some(elements) = accept_text(rest) {
+            return format!("accept {access} {way} draw {draw}{elements}");
+        }
+    }
+    format!("message {access} {way} draw {draw} {}", hex(message)).trim_end().into()
+}
+
+fn text_of(held: &[u8]) -> String {
+    match held {
+        [1, 0, h1, h2, h3, suci @ ..] if !suci.is_empty() => {
+            format!("card {} {}", network_text(&[*h1, *h2, *h3]), hex(suci))
+        }
+        [2, 0, access, manual @ (0 | 1), n1, n2, n3, code @ ..] if code.len() == 3 => {
+            let manual = if *manual == 1 { " manual" } else { "" };
+            format!("start {access} {} area {}{manual}", network_text(&[*n1, *n2, *n3]), hex(code))
+        }
+        [3, 0, access, protected @ (0 | 1), low, high, message @ ..] => {
+            message_text(*access, *protected, u16::from_le_bytes([*low, *high]), message)
+        }
+        [4, 0, 4, 0] => "timer T3247".into(),
+        [4, 0, number @ 1..=4, access] => {
+            format!("timer {} {access}", TIMERS[*number as usize - 1])
+        }
+        [5, 0] => "power".into(),
+        [6, 0, access, set] => format!("key {access} {set}"),
+        _ => format!("raw {}", hex(held)),
+    }
+}
+
+/// The record at an offset, kind and body; none where the log is cut or the length below 2.
+fn record_at(log: &[u8], at: usize) -> Option<&[u8]> {
+    let length = log.get(at..at + 2)?;
+    let length = u16::from_le_bytes([length[0], length[1]]) as usize;
+    log.get(at + 2..at + 2 + length).filter(|held| held.len() >= 2)
+}
+
+/// The text, up to a bad record if there is one.
+fn to_text(log: &[u8]) -> (String, Parsed<()>) {
+    let mut text = String::new();
+    let mut at = 0;
+    while at < log.len() {
+        let Some(held) = record_at(log, at) else {
+            return (text, Err(format!("bad log at {at}")));
+        };
+        text.push_str(&text_of(held));
+        text.push('\n');
+        at += 2 + held.len();
+    }
+    (text, Ok(()))
+}
+
+fn job() -> Parsed<()> {
+    let mut input = Vec::new();
+    io::stdin().read_to_end(&mut input).map_err(|error| error.to_string())?;
+    let (output, ended) = match std::env::args().nth(1).as_deref() {
+        Some("to-log") => {
+            let text = String::from_utf8(input).map_err(|_| "the text is not UTF-8")?;
+            (to_log(&text)?, Ok(()))
+        }
+        Some("to-text") => {
+            let (text, ended) = to_text(&input);
+            (text.into_bytes(), ended)
+        }
+        _ => {
+            return Err("say to-log or to-text; the log or the text comes on standard input".into())
+        }
+    };
+    io::stdout().write_all(&output).map_err(|error| error.to_string())?;
+    ended
+}
+
+fn main() -> ExitCode {
+    match job() {
+        Ok(()) => ExitCode::SUCCESS,
+        Err(error) => {
+            eprintln!("scenario: {error}");
+            ExitCode::FAILURE
+        }
+    }
+}

@@ -1,0 +1,337 @@
+// Draws a replay as an SVG picture, time going down, one row for each event.
+//
+//   timeline EVENTS <FULL >SVG
+//
+// FULL is what `regrun-rust --full` prints (docs/src/full.rs has its format); EVENTS has a line
+// of text for each event, as `scenario to-text` writes it. Columns: the event and its answer;
+// the state of access 0 and of access 1 with the attempt counter; T3247; and for each network
+// that an access ever held an entry of, its counters against their limits and its marks.
+
+use std::collections::BTreeMap;
+use std::fmt::Write as _;
+use std::io::{self, Read};
+use std::process::ExitCode;
+
+type Parsed<T> = Result<T, String>;
+
+const STATES: [(&str, &str); 7] = [
+    ("no card", "#cfcfcf"),
+    ("normal", "#d9ead3"),
+    ("limited", "#f9cb9c"),
+    ("attempting", "#fff2cc"),
+    ("initiated", "#cfe2f3"),
+    ("registered", "#93c47d"),
+    ("search", "#f4cccc"),
+];
+
+const ANSWERS: [&str; 13] = [
+    "taken",
+    "out of range",
+    "ignored",
+    "malformed",
+    "table full",
+    "no card",
+    "wrong state",
+    "same network",
+    "listed",
+    "area listed",
+    "unprotected accept",
+    "not running",
+    "short buffer",
+];
+
+const ROW: usize = 26;
+const TOP: usize = 96;
+const EVENT: usize = 470;
+const LANE: usize = 172;
+
+/// A network's entry on an access after an event.
+struct Entry {
+    ban: String,
+    n1: String,
+    marks: String,
+}
+
+/// What is drawn of one access after an event.
+struct Access {
+    state: usize,
+    attempts: String,
+    cards: String,
+    entries: BTreeMap<String, Entry>,
+}
+
+/// One event's row.
+struct Step {
+    answer: usize,
+    t3247: bool,
+    told: String,
+    limits: [String; 3],
+    areas: [usize; 2],
+    access: Vec<Access>,
+}
+
+/// The word behind `name` in a part of a line.
+fn after<'a>(part: &'a [&'a str], name: &str) -> Parsed<&'a str> {
+    let at = part.iter().position(|word| *word == name);
+    let word = at.and_then(|at| part.get(at + 1));
+    word.copied().ok_or_else(|| format!("no `{name}`"))
+}
+
+fn listed(word: &str) -> impl Iterator<Item = &str> {
+    word.split(',').filter(|item| *item != "-")
+}
+
+fn digits(hex: &str) -> String {
+    let half: Vec<char> = hex.chars().collect();
+    if half.len() != 6 {
+        return hex.into();
+    }
+    let mnc: String = [half[5], half[4], half[2]].iter().filter(|digit| **digit != 'f').collect();
+    format!("{}{}{}-{mnc}", half[1], half[0], half[3])
+}
+
+fn entry(text: &str) -> Parsed<(String, Entry)> {
+    let parts: Vec<&str> = text.split(':').collect();
+    let [network, ban, n1, marks] = parts[..] else {
+        return Err(format!("`{text}` is no entry"));
+    };
+    let held = Entry { ban: ban.into(), n1: n1.into(), marks: marks.into() };
+    Ok((digits(network), held))
+}
+
+fn access(part: &[&str]) -> Parsed<Access> {
+    let state = after(part, "state")?;
+    Ok(Access {
+        state: state
+            .parse()
+            .ok()
+            .filter(|state| *state < STATES.len())
+            .ok_or(format!("state {state}"))?,
+        attempts: after(part, "attempts")?.into(),
+        cards: after(part, "cards")?.into(),
+        entries: listed(after(part, "entries")?).map(entry).collect::<Parsed<_>>()?,
+    })
+}
+
+/// Timers started and stopped, and what is asked, in words.
+fn told(part: &[&str]) -> Parsed<String> {
+    let mut text = Vec::new();
+    for (name, count) in [("T3510", 2), ("T3511", 2), ("T3502", 2), ("T3247", 1)] {
+        let at = part.iter().position(|word| *word == name).ok_or(format!("no `{name}`"))?;
+        for change in part.iter().skip(at + 1).take(count).filter(|change| **change != "left") {
+            let seconds =
+                change.strip_prefix("started:").map(|seconds| format!("{name} runs {seconds} s"));
+            text.push(seconds.unwrap_or(format!("{name} stops")));
+        }
+    }
+    for name in ["restart", "leave", "update"] {
+        let access = after(part, name)?;
+        if access != "-" {
+            text.push(format!("asks: {name} {access}"));
+        }
+    }
+    Ok(text.join(", "))
+}
+
+fn step(line: &str) -> Parsed<Step> {
+    let parts: Vec<Vec<&str>> =
+        line.split('|').map(|part| part.split_whitespace().collect()).collect();
+    let [reply, device, zero, one] = &parts[..] else {
+        return Err("four parts are expected".into());
+    };
+    let answer = after(reply, "=")?;
+    let at = device.iter().position(|word| *word == "limits").ok_or("no `limits`")?;
+    let limit =
+        |place| device.get(at + place).map_or(String::new(), |word: &&str| word.to_string());
+    Ok(Step {
+        answer: answer
+            .parse()
+            .ok()
+            .filter(|n| *n < ANSWERS.len())
+            .ok_or(format!("answer {answer}"))?,
+        t3247: after(device, "T3247")? == "1",
+        told: told(reply)?,
+        limits: [limit(1), limit(2), limit(3)],
+        areas: [
+            listed(after(device, "roaming")?).count(),
+            listed(after(device, "regional")?).count(),
+        ],
+        access: vec![access(zero)?, access(one)?],
+    })
+}
+
+fn steps(full: &str) -> Parsed<Vec<Step>> {
+    let lines = full.lines().enumerate().filter(|(_, line)| line.starts_with('='));
+    lines
+        .map(|(at, line)| step(line).map_err(|error| format!("line {}: {error}", at + 1)))
+        .collect()
+}
+
+/// The SVG text and how to add to it.
+struct Picture(String);
+
+impl Picture {
+    fn bar(&mut self, x: usize, y: usize, width: usize, fill: &str) {
+        let _ = writeln!(
+            self.0,
+            r#"<rect x="{x}" y="{y}" width="{width}" height="{ROW}" fill="{fill}"/>"#
+        );
+    }
+
+    fn text(&mut self, x: usize, y: usize, style: &str, text: &str) {
+        let text = text.replace('&', "&amp;").replace('<', "&lt;");
+        let _ = writeln!(self.0, r#"<text x="{x}" y="{y}" {style}>{text}</text>"#);
+    }
+}
+
+fn head(picture: &mut Picture, x: usize, first: &str, second: &str) {
+    picture.text(x + 6, TOP - 26, r#"font-weight="bold""#, first);
+    picture.text(x + 6, TOP - 10, r##"fill="#555""##, second);
+}
+
+fn state_lane(picture: &mut Picture, x: usize, which: usize, steps: &[Step]) {
+    head(picture, x, &format!("access {which}"), if which == 0 { "mobile" } else { "Wi-Fi" });
+    for (row, step) in steps.iter().enumerate() {
+        let held = &step.access[which];
+        let (name, fill) = STATES[held.state];
+        let y = TOP + row * ROW;
+        picture.bar(x, y, LANE - 8, fill);
+        let first = row == 0 || steps[row - 1].access[which].state != held.state;
+        if first {
+            picture.text(x + 6, y + 17, "", &format!("{} {name}", held.state));
+        }
+        let counted = [("tries", &held.attempts), ("card", &held.cards)];
+        let text = counted.iter().filter(|(_, n)| *n != "0").map(|(name, n)| format!("{name} {n}"));
+        let text: Vec<String> = text.collect();
+        let end = r##"font-size="10" text-anchor="end" fill="#555""##;
+        picture.text(x + LANE - 12, y + 17, end, &text.join(" "));
+    }
+}
+
+fn clock_lane(picture: &mut Picture, x: usize, steps: &[Step]) {
+    head(picture, x, "T3247", "and area lists");
+    for (row, step) in steps.iter().enumerate() {
+        let y = TOP + row * ROW;
+        if step.t3247 {
+            picture.bar(x, y, 14, "#674ea7");
+        }
+        let areas = [("roaming", step.areas[0]), ("regional", step.areas[1])];
+        let text = areas.iter().filter(|(_, n)| *n != 0).map(|(name, n)| format!("{name} {n}"));
+        let text: Vec<String> = text.collect();
+        picture.text(x + 20, y + 17, r#"font-size="10""#, &text.join(" "));
+    }
+}
+
+fn entry_lane(picture: &mut Picture, x: usize, which: usize, network: &str, steps: &[Step]) {
+    head(picture, x, network, &format!("on access {which}"));
+    for (row, step) in steps.iter().enumerate() {
+        let Some(entry) = step.access[which].entries.get(network) else { continue };
+        let y = TOP + row * ROW;
+        let fill = match entry.marks.as_str() {
+            "F-" => "#e06666",
+            "-N" => "#f6b26b",
+            "FN" => "#a61c00",
+            _ => "#eeeeee",
+        };
+        picture.bar(x, y, LANE - 8, fill);
+        let mut text = format!("ban {}/{}", entry.ban, step.limits[1]);
+        if entry.n1 != "0" {
+            let _ = write!(text, " N1 {}/{}", entry.n1, step.limits[2]);
+        }
+        picture.text(x + 6, y + 17, "", &text);
+    }
+}
+
+fn events(picture: &mut Picture, labels: &[&str], steps: &[Step]) {
+    head(picture, 0, "event", "answer, timers and requests below");
+    for (row, step) in steps.iter().enumerate() {
+        let y = TOP + row * ROW;
+        let label = labels.get(row).copied().unwrap_or("");
+        let short: String = if label.chars().count() > 62 {
+            label.chars().take(60).chain("..".chars()).collect()
+        } else {
+            label.into()
+        };
+        picture.text(6, y + 12, "", &format!("{} {short}", row + 1));
+        let colour = if step.answer == 0 { "#38761d" } else { "#990000" };
+        let style = format!(r#"font-size="10" fill="{colour}""#);
+        let told = if step.told.is_empty() { String::new() } else { format!(": {}", step.told) };
+        picture.text(
+            24,
+            y + 23,
+            &style,
+            &format!("{} {}{told}", step.answer, ANSWERS[step.answer]),
+        );
+    }
+}
+
+fn legend(picture: &mut Picture, y: usize) {
+    let lines = [
+        "Counters stand against their limits. A row shows the record after its event; rows are events, not times.",
+        "Red: forbidden. Orange: N1 not allowed. Dark red: both. Grey: entry without a mark. Violet: T3247 runs.",
+    ];
+    for (place, text) in lines.iter().enumerate() {
+        picture.text(6, y + 20 + place * 16, r##"font-size="11" fill="#333""##, text);
+    }
+}
+
+/// Each network that an access ever held an entry of.
+fn held(steps: &[Step]) -> Vec<(usize, &String)> {
+    let mut lanes: Vec<(usize, &String)> = Vec::new();
+    for step in steps {
+        for (which, access) in step.access.iter().enumerate() {
+            lanes.extend(access.entries.keys().map(|name| (which, name)));
+        }
+    }
+    lanes.sort();
+    lanes.dedup();
+    lanes
+}
+
+fn draw(labels: &[&str], steps: &[Step]) -> String {
+    let lanes = held(steps);
+    let width = (EVENT + (3 + lanes.len()) * LANE + 8).max(780);
+    let bottom = TOP + steps.len() * ROW;
+    let mut picture = Picture(String::from("<svg xmlns=\"http://www.w3.org/2000/svg\" "));
+    let _ = write!(picture.0, r#"width="{width}" height="{}" "#, bottom + 48);
+    picture.0.push_str("font-family=\"sans-serif\" font-size=\"12\">\n");
+    picture.0.push_str("<rect width=\"100%\" height=\"100%\" fill=\"white\"/>\n");
+    let title = "What the replay makes of both accesses";
+    picture.text(6, 24, r#"font-size="16" font-weight="bold""#, title);
+    state_lane(&mut picture, EVENT, 0, steps);
+    state_lane(&mut picture, EVENT + LANE, 1, steps);
+    clock_lane(&mut picture, EVENT + 2 * LANE, steps);
+    for (place, (which, name)) in lanes.iter().enumerate() {
+        entry_lane(&mut picture, EVENT + (3 + place) * LANE, *which, name, steps);
+    }
+    for row in 0..=steps.len() {
+        let y = TOP + row * ROW;
+        let _ = writeln!(picture.0, r##"<path d="M0 {y}H{width}" stroke="#dddddd"/>"##);
+    }
+    events(&mut picture, labels, steps);
+    legend(&mut picture, bottom);
+    picture.0.push_str("</svg>\n");
+    picture.0
+}
+
+fn job() -> Parsed<String> {
+    let named = std::env::args().nth(1).ok_or("name the file with the events' text")?;
+    let labels = std::fs::read_to_string(&named).map_err(|error| format!("{named}: {error}"))?;
+    let mut full = String::new();
+    io::stdin().read_to_string(&mut full).map_err(|error| error.to_string())?;
+    let steps = steps(&full)?;
+    Ok(draw(&labels.lines().collect::<Vec<_>>(), &steps))
+}
+
+fn main() -> ExitCode {
+    match job() {
+        Ok(svg) => {
+            print!("{svg}");
+            ExitCode::SUCCESS
+        }
+        Err(error) => {
+            eprintln!("timeline: {error}");
+            ExitCode::FAILURE
+        }
+    }
+}
