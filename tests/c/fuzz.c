@@ -1,7 +1,7 @@
 /*
  * Random octets through the C interface: as a record, as a kind and a body, and as changes to a record that lives on random events.
  * Held: the layout of the header, answer 1 exactly where the record is invalid by a second reading of document 01, a refusal's record unchanged, nothing written outside what is lent,
- * and for a valid record the answer, the notice and the record of the second program.
+ * and for a valid record the answer, the notice, the record and the request of the second program, which reads that request back as the record's.
  * Usage: fuzz [SECONDS [SEED]]
  */
 #include <stdbool.h>
@@ -14,8 +14,10 @@
 /* The second program: an event, and what is not held made zero. */
 uint32_t second_event(struct tjernfaug_record *r, uint32_t kind, const uint8_t *body, size_t len, struct tjernfaug_notice *notice);
 void second_tidy(struct tjernfaug_record *r);
+uint32_t second_request(const struct tjernfaug_record *r, uint8_t access, uint8_t *buffer, size_t len);
+bool second_reads(const struct tjernfaug_record *r, uint8_t access, const uint8_t *octets, size_t len);
 
-enum { GUARD = 64, BODY = 96 };
+enum { GUARD = 64, BODY = 96, BUFFER = 120 };
 
 /* What is lent, between octets that must stay. */
 struct lent {
@@ -28,7 +30,7 @@ struct lent {
 
 static struct lent lent;
 static uint64_t seed = 1;
-static unsigned long rounds, taken, refused, invalid;
+static unsigned long rounds, taken, refused, invalid, written;
 
 static void fail(const char *what)
 {
@@ -225,6 +227,57 @@ static void power(void)
         fail("answer 1 is not where the record is invalid");
 }
 
+/* The request of the lent record, into a buffer of its own size that held other octets. */
+static void request(uint8_t access)
+{
+    size_t len = draw(BUFFER + 1);
+    uint8_t was[BUFFER], want[BUFFER], *buffer = malloc(len + 1);
+    struct tjernfaug_record before = lent.record;
+    scatter(was, sizeof was);
+    memcpy(want, was, sizeof want);
+    memcpy(buffer, was, len);
+    uint32_t said = tjernfaug_request(&lent.record, access, buffer, len);
+    uint32_t other = valid(&before) ? second_request(&before, access, want, len) : 257;
+    if (said != other || memcmp(buffer, want, len))
+        fail("the request is not the second program's");
+    if (said < 256 && !second_reads(&before, access, buffer, said))
+        fail("the request does not read back");
+    if (!same(before, lent.record))
+        fail("writing a request changed the record");
+    written += said < 256;
+    free(buffer);
+}
+
+/* A record that is often one that writes a request: an identity of each kind, with and without a last area, lengths from end to end. */
+static void write_random(const struct tjernfaug_record *live)
+{
+    lent.record = *live;
+    struct tjernfaug_device *d = &lent.record.hot.dev;
+    struct tjernfaug_access *a = draw(2) ? &lent.record.hot.a0 : &lent.record.hot.a1;
+    scatter(lent.record.capability, sizeof lent.record.capability);
+    scatter(lent.record.security, sizeof lent.record.security);
+    scatter(lent.record.suci, sizeof lent.record.suci);
+    lent.record.suci[0] = 1;
+    d->suci = (uint8_t)(9 + draw(56));
+    d->capability = (uint8_t)(1 + draw(13));
+    d->security = (uint8_t)(2 + draw(7));
+    lent.record.hot.a0.guti = (uint8_t)draw(2);
+    lent.record.hot.a1.guti = (uint8_t)draw(2);
+    for (size_t i = 0; i < 3; i++) {
+        lent.record.guti0[i] = (uint8_t)(a->net >> (16 - 8 * i)) ^ (draw(3) == 0);
+        lent.record.guti1[i] = (uint8_t)(a->net >> (16 - 8 * i)) ^ (draw(3) == 0);
+    }
+    a->equivalents = (uint8_t)draw(16);
+    for (size_t i = 0; i < a->equivalents; i++)
+        (a == &lent.record.hot.a0 ? lent.record.equivalents0 : lent.record.equivalents1)[i] = a->net ^ (draw(2) << 16 | draw(2) << 8 | draw(2));
+    a->state = d->card ? 4 : 0;
+    a->ksi = (uint8_t)draw(8);
+    a->visited = (uint8_t)draw(2);
+    a->lastnet = draw(1 << 24);
+    a->lastcode = draw(1 << 24);
+    request((uint8_t)(draw(20) ? a != &lent.record.hot.a0 : draw(256)));
+}
+
 int main(int argc, char **argv)
 {
     static const uint8_t capability[] = {0x00}, security[] = {0xF0, 0xF0};
@@ -240,7 +293,10 @@ int main(int argc, char **argv)
         if (!valid(&lent.record))
             fail("an event made the record invalid");
         live = lent.record;
+        write_random(&live);
+        lent.record = live;
         scatter((uint8_t *)&lent.record + draw(sizeof lent.record), 1);
+        request((uint8_t)draw(2));
         power();
         lent.record = live;
         scatter((uint8_t *)&lent.record.hot + draw(sizeof lent.record.hot), 1);
@@ -253,6 +309,6 @@ int main(int argc, char **argv)
         if (hand(draw(9), body, draw(BODY + 1)) != 1 && !good)
             fail("random octets were taken as a record");
     }
-    printf("fuzz: %lu rounds, %lu events taken, %lu refused, %lu of them for an invalid record\n", rounds, taken, refused, invalid);
+    printf("fuzz: %lu rounds, %lu events taken, %lu refused, %lu of them for an invalid record; %lu requests written\n", rounds, taken, refused, invalid, written);
     return 0;
 }

@@ -6,6 +6,8 @@ mod log;
 mod message;
 #[path = "../../docs/src/record.rs"]
 mod record;
+#[path = "../../docs/src/request.rs"]
+mod request;
 
 use record::{Access, Areas, Change, Entry, Limits, List, Listed, Record, Reply, T3247, T3502, T3510, T3511};
 
@@ -254,4 +256,25 @@ pub unsafe extern "C" fn second_event(r: &mut CRecord, kind: u32, body: *const u
     *r = record_out(&held);
     *notice = notice_out(&reply);
     reply.answer as u32
+}
+
+#[no_mangle]
+pub unsafe extern "C" fn second_request(r: &CRecord, access: u8, buffer: *mut u8, len: usize) -> u32 {
+    let buffer = std::slice::from_raw_parts_mut(buffer, len);
+    request::write(&record_in(r), access, buffer).map_or_else(|answer| 256 + answer as u32, |length| length as u32)
+}
+
+/// Whether octets, read as a request, say what the record says over an access.
+#[no_mangle]
+pub unsafe extern "C" fn second_reads(r: &CRecord, access: u8, octets: *const u8, len: usize) -> bool {
+    let (held, octets) = (record_in(r), std::slice::from_raw_parts(octets, len));
+    let a = &held.access[access as usize];
+    let Ok(said) = request::read(octets) else { return false };
+    let shown = a.ksi < 7;
+    let capability = said.capability.map(|part| &octets[part]);
+    let area = said.area.map(|part| &octets[part]);
+    said.ksi == a.ksi
+        && octets[said.security] == held.security[..]
+        && capability == shown.then_some(&held.capability[..])
+        && area == a.last.as_ref().filter(|_| shown).map(|last| &last[..])
 }
