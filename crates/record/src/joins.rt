@@ -1,17 +1,30 @@
-// Joins of tests: bools go in, a bool comes out.
+// Joins of tests, and a pick by a test: bools go in, a choice comes out.
 ghost use mathlib.Core.Path.{_≡_};
-ghost use Rattle.record.specs.Tests.{both, either, within};
+ghost use mathlib.Core.Bool.{cond};
+ghost use Rattle.record.specs.Tests.{both, either, flip, within};
 
-pub(crate) fn and(a: bool, b: bool) -> bool
+pub fn and(a: bool, b: bool) -> bool
     ensures { λ r. ⌜ r ≡ both a b ⌝ }
 {
     if a { b } else { false }
 }
 
-pub(crate) fn or(a: bool, b: bool) -> bool
+pub fn or(a: bool, b: bool) -> bool
     ensures { λ r. ⌜ r ≡ either a b ⌝ }
 {
     if a { true } else { b }
+}
+
+pub fn not(a: bool) -> bool
+    ensures { λ r. ⌜ r ≡ flip a ⌝ }
+{
+    if a { false } else { true }
+}
+
+pub fn pick(first: bool, x: u8, y: u8) -> u8
+    ensures { λ r. ⌜ r ≡ cond first x y ⌝ }
+{
+    if first { x } else { y }
 }
 
 // Longer lists are made of fours: the last place takes the rest of the list.

@@ -7,14 +7,21 @@ mod code;
 mod columns;
 mod joins;
 mod new;
+mod sides;
 mod tests;
 
 pub use answers::number;
 pub use answers::taken;
 pub use code::network;
+pub use joins::and;
+pub use joins::not;
+pub use joins::or;
+pub use joins::pick;
 pub use new::empty;
 pub use new::fresh;
 pub use new::new_access;
+pub use sides::access_of;
+pub use sides::other_of;
 pub use tests::valid;
 
 // The device's numbers. A flag is 0 or 1; lengths and counts say how much of an array is in use. Here and below the widest

@@ -12,7 +12,7 @@ use lib.Dec.{ltb, eqb}
 use borrow.Author.Tests.{ne-eqb, le-leb, lt-leb}
 use Rattle.record.specs.declared.Access.{Access}
 use Rattle.record.specs.declared.Answer.the-variants.{Taken, Short}
-use Rattle.request.specs.Identity.{slotOf, partOf, identityOf}
+use Rattle.identity.specs.Identity.{slotOf, partOf, identityOf}
 use Rattle.request.specs.Layout.{headOf, lengthed, bare, opening, elements, octetsOf, shown, layout}
 use Rattle.request.specs.Writing.{lastOf, sayingOf, over, gutisOf}
 use Rattle.request.specs.Steps.{spliced, sizedOf, areaOf, shownCount, areaCount, pieces, sentOf, sentOver}

@@ -16,7 +16,7 @@ use Rattle.record.specs.Answers.{isTaken}
 use Rattle.record.specs.Tests.{both}
 use Rattle.record.specs.Valid.{validOf}
 use Rattle.record.proofs.Bounds.{rest}
-use Rattle.request.specs.Identity.{slotOf, partOf, identityOf}
+use Rattle.identity.specs.Identity.{slotOf, partOf, identityOf}
 use Rattle.request.specs.Layout.{Fit, shown}
 use Rattle.request.specs.Reading.{askingOf, toldBy}
 use Rattle.request.specs.Reading.Said.{says}

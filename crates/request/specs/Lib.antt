@@ -1,5 +1,4 @@
 -- The registration request, as document 01 has it in its section Messages.
-pub mod Identity
 pub mod Layout
 pub mod Reading
 pub mod Steps

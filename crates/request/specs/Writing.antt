@@ -12,7 +12,7 @@ use Rattle.record.specs.declared.Hot.{Hot}
 use Rattle.record.specs.declared.Record.{Record}
 use Rattle.record.specs.declared.Answer.{Answer}
 use Rattle.record.specs.declared.Answer.the-variants.{Taken, Range, State, Short}
-use Rattle.request.specs.Identity.{identityOf}
+use Rattle.identity.specs.Identity.{identityOf}
 use Rattle.request.specs.Layout.{Fields, layout}
 use Rattle.request.specs.declared.Written.{Written}
 

@@ -1,14 +1,12 @@
-// The registration request: its identity, its writing and its reading.
+// The registration request: its writing and its reading.
 use octets::Fault;
 use octets::Part;
 use record::Answer;
 
-mod identity;
-mod joins;
+mod places;
 mod reading;
 mod writing;
 
-pub use identity::choose;
 pub use reading::number;
 pub use reading::read;
 pub use writing::write;

@@ -1,13 +1,13 @@
 // The reading of a request.
 use crate::Asking;
 use crate::Request;
-use crate::joins::and;
-use crate::joins::octet;
-use crate::joins::or;
-use crate::joins::wide;
+use crate::places::octet;
+use crate::places::wide;
 use octets::Fault;
 use octets::Gathered;
 use octets::Part;
+use record::and;
+use record::or;
 ghost use mathlib.Core.Path.{_≡_};
 ghost use Prim.Native.Nat.{_<_};
 ghost use Rattle.request.specs.Reading.{isFourth, isIdentity, isSecurity, isCapability, isRequest, capabilityOf, saidOf, judgedOf, partsReading, restReading, typeReading, askingOf, askingNumber};

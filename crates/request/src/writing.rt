@@ -1,7 +1,7 @@
 // The writing of a request, piece behind piece, into a lent buffer.
 use crate::Written;
-use crate::identity::choose;
-use crate::joins::wide;
+use crate::places::wide;
+use identity::choose;
 use record::Access;
 use record::Answer;
 use record::Device;
