@@ -1,6 +1,6 @@
 // What an event sets in an access's numbers: one setter for each group that document 01's rows name.
 use crate::Orders;
-use crate::timers::flag_after;
+use crate::flags::flag_after;
 use record::Access;
 ghost use mathlib.Core.Path.{_≡_};
 ghost use mathlib.Core.Bool.{cond};

@@ -2,20 +2,20 @@
 use record::Access;
 
 mod access;
+mod flags;
 mod rows;
-mod timers;
 mod turns;
 
 pub use access::clocked;
+pub use flags::clocks_of;
+pub use flags::flag_after;
+pub use flags::told_of;
 pub use rows::is_card;
 pub use rows::needs_entry;
 pub use rows::row_of;
 pub use rows::starts_t3247;
 pub use rows::to_regional;
 pub use rows::to_roaming;
-pub use timers::clocks_of;
-pub use timers::flag_after;
-pub use timers::told_of;
 pub use turns::accepted;
 pub use turns::area;
 pub use turns::away;

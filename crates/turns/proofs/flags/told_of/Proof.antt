@@ -1,8 +1,8 @@
 -- Order by order, as the definition. Assumes nothing.
 use Rattle.turns.specs.Timers.{toldOf}
 use borrow.Author.Needs.{needs}
-use Rattle.turns.proofs.timers.told_of.Statement.{statement}
-use Rattle.turns.proofs.timers.told_of.Tie as tie
+use Rattle.turns.proofs.flags.told_of.Statement.{statement}
+use Rattle.turns.proofs.flags.told_of.Tie as tie
 
 enum-told : tie.Need-enum-told
 enum-told c = search needs

@@ -1,8 +1,8 @@
 -- Each timer is told by its own order. Assumes nothing.
 use Rattle.turns.specs.Timers.{clocksOf}
 use borrow.Author.Needs.{needs}
-use Rattle.turns.proofs.timers.clocks_of.Statement.{statement}
-use Rattle.turns.proofs.timers.clocks_of.Tie as tie
+use Rattle.turns.proofs.flags.clocks_of.Statement.{statement}
+use Rattle.turns.proofs.flags.clocks_of.Tie as tie
 
 told-of-requires : tie.Need-told-of-requires
 told-of-requires c κs = search needs

@@ -1,8 +1,8 @@
 -- Order by order, as the definition. Assumes nothing.
 use Rattle.turns.specs.Timers.{flagAfter}
 use borrow.Author.Needs.{needs}
-use Rattle.turns.proofs.timers.flag_after.Statement.{statement}
-use Rattle.turns.proofs.timers.flag_after.Tie as tie
+use Rattle.turns.proofs.flags.flag_after.Statement.{statement}
+use Rattle.turns.proofs.flags.flag_after.Tie as tie
 
 enum-told : tie.Need-enum-told
 enum-told c = search needs
