@@ -12,7 +12,6 @@ ghost use mathlib.Core.Path.{_≡_};
 ghost use mathlib.Core.Bool.{cond, true, false};
 ghost use Rattle.entries.specs.Entries.{entriesOf};
 ghost use Rattle.areas.specs.Areas.{listAfter, countAfter};
-ghost use Rattle.rules.specs.Plan.{askOf};
 ghost use Rattle.events.specs.Parts.{seenBy, listedOf, plannedBy, mineOf, deedOf, tableAfter, taskOf, listed, partsOf, partsAfter};
 
 fn or2(a: bool, b: bool) -> bool
@@ -59,12 +58,11 @@ fn listing(q: Ask, h: Hot, roaming: &[u64; 40], regional: &[u64; 40]) -> bool
     false
 }
 
-fn decide(h: Hot, e: Event, octets: &[u8], q: Ask, s: Seen, l: bool) -> Plan
-    requires { ⌜ q ≡ askOf h e ⌝ }
+fn decide(h: Hot, e: Event, octets: &[u8], s: Seen, l: bool) -> Plan
     ensures { λ r. ⌜ r ≡ plannedBy h e (now (octets .entry)) s l ⌝ }
 {
     let m = rules::heard(e, octets);
-    rules::plan_of(h, e, q, s, l, m, octets)
+    rules::plan_of(h, e, s, l, m, octets)
 }
 
 // The deed on an access's entries.
@@ -156,7 +154,7 @@ pub fn core(
     let q = rules::ask_of(h, e);
     let s = see(q, h, nets0, forbidden0, barred0, nets1, forbidden1, barred1);
     let l = listing(q, h, roaming, regional);
-    let p = decide(h, e, octets, q, s, l);
+    let p = decide(h, e, octets, s, l);
     table(
         p,
         0,

@@ -20,7 +20,7 @@ use Rattle.turns.specs.Timers.{flagAfter}
 use Rattle.turns.specs.Access.{clocked}
 use Rattle.turns.specs.Rows.{isCard, isNetworkNo, isAreaNo, isN1No, isProtocol, rowOf}
 use Rattle.turns.specs.Turns.{still, otherTurn}
-use Rattle.rules.specs.declared.Effect.{Effect}
+use Rattle.rules.specs.Effects.{Effect}
 use Rattle.rules.specs.declared.Event.{Event}
 use Rattle.rules.specs.declared.Event.the-variants.{Message}
 use Rattle.rules.specs.declared.Plan.{Plan}

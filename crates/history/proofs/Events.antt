@@ -25,7 +25,7 @@ use Rattle.turns.specs.Access.{moved, pending, keyed, taught}
 use Rattle.turns.specs.Rows.{needsEntry}
 use Rattle.turns.specs.Turns.{started, keySet, t3511Out, t3502Out, renewed}
 use Rattle.turns.specs.Turns as turns
-use Rattle.rules.specs.declared.Effect.{Effect}
+use Rattle.rules.specs.Effects.{Effect}
 use Rattle.rules.specs.declared.Event.{Event}
 use Rattle.rules.specs.declared.Event.the-variants.{Card, Start, Message, Timer, Power, Key, Unknown}
 use Rattle.rules.specs.Hot.{accessOf, otherOf}

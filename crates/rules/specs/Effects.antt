@@ -16,10 +16,18 @@ use Rattle.turns.specs.Timers.{flagAfter}
 use Rattle.turns.specs.Rows.{startsT3247, toRoaming, toRegional}
 use Rattle.turns.specs.Turns.{still, started, keySet, accepted, t3510Out, t3511Out, t3502Out, cycled, renewed, rowTurn, otherTurn}
 use Rattle.rules.specs.declared.Work.{Work}
-use Rattle.rules.specs.declared.Effect.{Effect}
 use Rattle.rules.specs.Kinds.{noDeed, banDeed, barDeed, acceptDeed, sweepDeed, powerDeed, freshDeed, noTask, putTask, sweepTask, clearTask, keepNothing, keepAccept, keepCard}
 use Rattle.rules.specs.Hot.{accessOf, otherOf}
 use Rattle.rules.specs.Answers.{rowNow}
+
+-- a taken event: the device's numbers, the turn of its access and of the other one, T3247, the work, and whether a restart is asked
+pub record Effect : Type 0 where
+  pub dev : Device
+  pub mine : Turn
+  pub theirs : Turn
+  pub t3247 : Order
+  pub work : Work
+  pub restart : Bool
 
 -- the device's numbers with T3247 running or not
 unfoldable pub ticked : ℕ → Device → Device

@@ -27,11 +27,10 @@ use Rattle.rules.specs.declared.Asked.{Asked}
 use Rattle.rules.specs.declared.Asked.the-variants.{No, On}
 use Rattle.rules.specs.declared.Reply.{Reply}
 use Rattle.rules.specs.declared.Ask.{Ask}
-use Rattle.rules.specs.declared.Effect.{Effect}
 use Rattle.rules.specs.declared.Plan.{Plan}
 use Rattle.rules.specs.Hot.{accessOf, hotOf}
 use Rattle.rules.specs.Answers.{startAnswer, messageAnswer, timerAnswer, keyAnswer, cardAnswer, rowNow}
-use Rattle.rules.specs.Effects.{ticked, idle, plain, cardEffect, startEffect, keyEffect, acceptEffect, timerEffect, powerEffect, rejectEffect}
+use Rattle.rules.specs.Effects.{Effect, ticked, idle, plain, cardEffect, startEffect, keyEffect, acceptEffect, timerEffect, powerEffect, rejectEffect}
 
 -- the octets beside a message event, read; those of another event are none
 unfoldable pub heardOf : Event → List ℕ → Reading

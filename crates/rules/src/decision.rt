@@ -1,8 +1,8 @@
 // What an event comes to: its answer; if taken its effect, else nothing changed.
 use crate::Ask;
-use crate::Effect;
 use crate::Event;
 use crate::Plan;
+use crate::Sides;
 use crate::answers::card_answer;
 use crate::answers::key_answer;
 use crate::answers::message_answer;
@@ -20,7 +20,6 @@ use crate::effects::start_effect;
 use crate::effects::ticked;
 use crate::effects::timer_effect;
 use crate::hot::access_of;
-use crate::hot::hot_of;
 use crate::replies::refused_reply;
 use crate::replies::taken_reply;
 use entries::Seen;
@@ -46,6 +45,7 @@ ghost use Rattle.turns.specs.Turns as events;
 ghost use Rattle.rules.specs.Hot.{accessOf};
 ghost use Rattle.rules.specs.Effects as effects;
 ghost use Rattle.rules.specs.Plan as rules;
+ghost use Rattle.rules.specs.Sides.{sidesOf, hotBy, planBy};
 
 pub fn heard(e: Event, octets: &[u8]) -> Reading
     ensures { λ r. ⌜ r ≡ rules.heardOf e (now (octets .entry)) ⌝ }
@@ -131,14 +131,14 @@ fn answer_of(h: Hot, e: Event, s: Seen, listed: bool, m: Reading, octets: &[u8])
 }
 
 // An event that changes nothing of its access.
-fn none(h: Hot, w: u8) -> Effect
-    ensures { λ r. ⌜ r ≡ effects.plain h w (events.still (accessOf h w)) false ⌝ }
+fn none(h: Hot, w: u8) -> Sides
+    ensures { λ r. ⌜ r ≡ sidesOf w (effects.plain h w (events.still (accessOf h w)) false) ⌝ }
 {
     plain(h, w, still(access_of(h, w)), false)
 }
 
-fn message_effect(h: Hot, w: u8, sure: u8, draw: u16, m: Reading, s: Seen) -> Effect
-    ensures { λ r. ⌜ r ≡ rules.messageEffect h w sure draw m s ⌝ }
+fn message_effect(h: Hot, w: u8, sure: u8, draw: u16, m: Reading, s: Seen) -> Sides
+    ensures { λ r. ⌜ r ≡ sidesOf w (rules.messageEffect h w sure draw m s) ⌝ }
 {
     match m {
         Reading::Accept(g) => accept_effect(h, w, g),
@@ -151,9 +151,9 @@ fn message_effect(h: Hot, w: u8, sure: u8, draw: u16, m: Reading, s: Seen) -> Ef
 }
 
 // A card that was taken has a SUCI of at most 64 octets.
-fn effect_of(h: Hot, e: Event, s: Seen, m: Reading, octets: &[u8]) -> Effect
+fn effect_of(h: Hot, e: Event, s: Seen, m: Reading, octets: &[u8]) -> Sides
     requires { ⌜ ((home : ℕ) → e ≡ Event.Card home → length (now octets) < 256) ⌝ }
-    ensures { λ r. ⌜ r ≡ rules.effectOf h e s m (now (octets .entry)) ⌝ }
+    ensures { λ r. ⌜ r ≡ sidesOf (rules.askOf h e .access) (rules.effectOf h e s m (now (octets .entry))) ⌝ }
 {
     match e {
         Event::Card(home) => card_effect(h, home, octets.len() as u8),
@@ -177,13 +177,17 @@ fn turned(t: Turn) -> Access
     clocked(t.orders, t.access)
 }
 
-fn hot_after(h: Hot, w: u8, e: Effect) -> Hot
-    ensures { λ r. ⌜ r ≡ rules.hotAfter h w e ⌝ }
+fn hot_after(h: Hot, e: Sides) -> Hot
+    ensures { λ r. ⌜ r ≡ hotBy h e ⌝ }
 {
     let order = e.t3247;
     let d = h.dev;
     let dev = ticked(turns::flag_after(order, d.t3247), e.dev);
-    hot_of(dev, w, turned(e.mine), turned(e.theirs))
+    Hot {
+        dev,
+        a0: turned(e.t0),
+        a1: turned(e.t1),
+    }
 }
 
 fn no_gift() -> Accept
@@ -210,11 +214,11 @@ fn gift_of(m: Reading) -> Accept
     }
 }
 
-fn taken_plan(h: Hot, q: Ask, s: Seen, m: Reading, e: Effect) -> Plan
-    ensures { λ r. ⌜ r ≡ rules.takenPlan h q s m e ⌝ }
+fn taken_plan(h: Hot, q: Ask, s: Seen, m: Reading, e: Sides) -> Plan
+    ensures { λ r. ⌜ r ≡ planBy h q s m e ⌝ }
 {
     let reply = taken_reply(h, q.access, e);
-    let hot = hot_after(h, q.access, e);
+    let hot = hot_after(h, e);
     let work = e.work;
     let gift = gift_of(m);
     Plan {
@@ -245,6 +249,7 @@ fn refused_plan(h: Hot, q: Ask, s: Seen, m: Reading, n: Answer) -> Plan
 }
 
 fn decided_by(n: Answer, h: Hot, e: Event, q: Ask, s: Seen, m: Reading, octets: &[u8]) -> Plan
+    requires { ⌜ q ≡ rules.askOf h e ⌝ }
     requires { ⌜ (isTaken n ≡ true → (home : ℕ) → e ≡ Event.Card home → length (now octets) < 256) ⌝ }
     ensures { λ r. ⌜ r ≡ rules.decidedBy n h e q s m (now (octets .entry)) ⌝ }
 {
@@ -255,9 +260,10 @@ fn decided_by(n: Answer, h: Hot, e: Event, q: Ask, s: Seen, m: Reading, octets: 
     refused_plan(h, q, s, m, n)
 }
 
-pub fn plan_of(h: Hot, e: Event, q: Ask, s: Seen, listed: bool, m: Reading, octets: &[u8]) -> Plan
-    ensures { λ r. ⌜ r ≡ rules.planOf h e q s listed m (now (octets .entry)) ⌝ }
+pub fn plan_of(h: Hot, e: Event, s: Seen, listed: bool, m: Reading, octets: &[u8]) -> Plan
+    ensures { λ r. ⌜ r ≡ rules.planOf h e (rules.askOf h e) s listed m (now (octets .entry)) ⌝ }
 {
+    let q = ask_of(h, e);
     let n = answer_of(h, e, s, listed, m, octets);
     decided_by(n, h, e, q, s, m, octets)
 }

@@ -1,10 +1,11 @@
 // Effects of a taken event: numbers, timers, work on the arrays, requests.
 use crate::ACCEPTED;
 use crate::CARDED;
-use crate::Effect;
+use crate::Sides;
 use crate::Work;
 use crate::hot::access_of;
 use crate::hot::other_of;
+use crate::hot::side;
 use crate::joins::and;
 use crate::joins::pick;
 use messages::Accept;
@@ -31,6 +32,7 @@ ghost use mathlib.Core.Path.{_≡_};
 ghost use mathlib.Core.Bool.{cond};
 ghost use Rattle.turns.specs.declared.Order.the-variants.{Leave, Run};
 ghost use Rattle.rules.specs.Effects as rules;
+ghost use Rattle.rules.specs.Sides.{sidesOf};
 
 pub(crate) fn ticked(t3247: u8, d: Device) -> Device
     ensures { λ r. ⌜ r ≡ rules.ticked t3247 d ⌝ }
@@ -68,46 +70,48 @@ pub(crate) fn idle() -> Work
 }
 
 // An event of one access that touches no array and not T3247.
-pub(crate) fn plain(h: Hot, w: u8, t: Turn, restart: bool) -> Effect
-    ensures { λ r. ⌜ r ≡ rules.plain h w t restart ⌝ }
+pub(crate) fn plain(h: Hot, w: u8, t: Turn, restart: bool) -> Sides
+    ensures { λ r. ⌜ r ≡ sidesOf w (rules.plain h w t restart) ⌝ }
 {
     let dev = h.dev;
     let theirs = still(other_of(h, w));
     let work = idle();
-    Effect {
+    let t0 = side(w, t, theirs);
+    let t1 = side(w, theirs, t);
+    Sides {
         dev,
-        mine: t,
-        theirs,
+        t0,
+        t1,
         t3247: Order::Leave,
         work,
         restart,
     }
 }
 
-pub(crate) fn card_effect(h: Hot, home: u32, suci: u8) -> Effect
-    ensures { λ r. ⌜ r ≡ rules.cardEffect h home suci ⌝ }
+pub(crate) fn card_effect(h: Hot, home: u32, suci: u8) -> Sides
+    ensures { λ r. ⌜ r ≡ sidesOf 0 (rules.cardEffect h home suci) ⌝ }
 {
     let dev = carded(home, suci, h.dev);
     let turn = renewed();
     let work = work_of(entries::FRESH, areas::CLEAR, areas::CLEAR, CARDED);
-    Effect {
+    Sides {
         dev,
-        mine: turn,
-        theirs: turn,
+        t0: turn,
+        t1: turn,
         t3247: Order::Stop,
         work,
         restart: false,
     }
 }
 
-pub(crate) fn start_effect(h: Hot, w: u8, net: u32, code: u32) -> Effect
-    ensures { λ r. ⌜ r ≡ rules.startEffect h w net code ⌝ }
+pub(crate) fn start_effect(h: Hot, w: u8, net: u32, code: u32) -> Sides
+    ensures { λ r. ⌜ r ≡ sidesOf w (rules.startEffect h w net code) ⌝ }
 {
     plain(h, w, started(net, code, access_of(h, w)), false)
 }
 
-pub(crate) fn key_effect(h: Hot, w: u8, set: u8) -> Effect
-    ensures { λ r. ⌜ r ≡ rules.keyEffect h w set ⌝ }
+pub(crate) fn key_effect(h: Hot, w: u8, set: u8) -> Sides
+    ensures { λ r. ⌜ r ≡ sidesOf w (rules.keyEffect h w set) ⌝ }
 {
     plain(h, w, key_set(set, access_of(h, w)), false)
 }
@@ -119,26 +123,28 @@ fn wait_of(timed: bool, wait: u16, other: u16) -> u16
     if timed { wait } else { other }
 }
 
-pub(crate) fn accept_effect(h: Hot, w: u8, g: Accept) -> Effect
-    ensures { λ r. ⌜ r ≡ rules.acceptEffect h w g ⌝ }
+pub(crate) fn accept_effect(h: Hot, w: u8, g: Accept) -> Sides
+    ensures { λ r. ⌜ r ≡ sidesOf w (rules.acceptEffect h w g) ⌝ }
 {
     let dev = h.dev;
     let wait = wait_of(g.timed, g.wait, 720);
     let mine = accepted(g.given, g.count, wait, access_of(h, w));
     let theirs = still(other_of(h, w));
     let work = work_of(entries::ACCEPT, 0, 0, ACCEPTED);
-    Effect {
+    let t0 = side(w, mine, theirs);
+    let t1 = side(w, theirs, mine);
+    Sides {
         dev,
-        mine,
-        theirs,
+        t0,
+        t1,
         t3247: Order::Leave,
         work,
         restart: false,
     }
 }
 
-fn clock_effect(h: Hot, number: u8, w: u8) -> Effect
-    ensures { λ r. ⌜ r ≡ rules.clockEffect h number w ⌝ }
+fn clock_effect(h: Hot, number: u8, w: u8) -> Sides
+    ensures { λ r. ⌜ r ≡ sidesOf w (rules.clockEffect h number w) ⌝ }
 {
     let a = access_of(h, w);
     if number == 1 {
@@ -150,43 +156,45 @@ fn clock_effect(h: Hot, number: u8, w: u8) -> Effect
     plain(h, w, t3502_out(a), true)
 }
 
-fn t3247_effect(h: Hot) -> Effect
-    ensures { λ r. ⌜ r ≡ rules.t3247Effect h ⌝ }
+fn t3247_effect(h: Hot, w: u8) -> Sides
+    ensures { λ r. ⌜ r ≡ sidesOf w (rules.t3247Effect h) ⌝ }
 {
     let dev = h.dev;
     let mine = still(h.a0);
     let theirs = still(h.a1);
     let work = work_of(entries::SWEEP, areas::SWEEP, areas::SWEEP, 0);
-    Effect {
+    let t0 = side(w, mine, theirs);
+    let t1 = side(w, theirs, mine);
+    Sides {
         dev,
-        mine,
-        theirs,
+        t0,
+        t1,
         t3247: Order::Stop,
         work,
         restart: false,
     }
 }
 
-pub(crate) fn timer_effect(h: Hot, number: u8, w: u8) -> Effect
-    ensures { λ r. ⌜ r ≡ rules.timerEffect h number w ⌝ }
+pub(crate) fn timer_effect(h: Hot, number: u8, w: u8) -> Sides
+    ensures { λ r. ⌜ r ≡ sidesOf w (rules.timerEffect h number w) ⌝ }
 {
     if number == 4 {
-        return t3247_effect(h);
+        return t3247_effect(h, w);
     }
     clock_effect(h, number, w)
 }
 
-pub(crate) fn power_effect(h: Hot) -> Effect
-    ensures { λ r. ⌜ r ≡ rules.powerEffect h ⌝ }
+pub(crate) fn power_effect(h: Hot) -> Sides
+    ensures { λ r. ⌜ r ≡ sidesOf 0 (rules.powerEffect h) ⌝ }
 {
     let dev = h.dev;
-    let mine = cycled(dev.card, h.a0);
-    let theirs = cycled(dev.card, h.a1);
+    let t0 = cycled(dev.card, h.a0);
+    let t1 = cycled(dev.card, h.a1);
     let work = work_of(entries::POWER, areas::CLEAR, areas::CLEAR, 0);
-    Effect {
+    Sides {
         dev,
-        mine,
-        theirs,
+        t0,
+        t1,
         t3247: Order::Stop,
         work,
         restart: false,
@@ -241,18 +249,20 @@ pub(crate) fn reject_effect(
     found: bool,
     cause: u8,
     row: Row,
-) -> Effect
-    ensures { λ r. ⌜ r ≡ rules.rejectEffect h w sure draw found cause row ⌝ }
+) -> Sides
+    ensures { λ r. ⌜ r ≡ sidesOf w (rules.rejectEffect h w sure draw found cause row) ⌝ }
 {
     let dev = h.dev;
     let mine = row_turn(row, w, dev.cardlimit, cause, found, access_of(h, w));
     let theirs = other_turn(row, dev.cardlimit, other_of(h, w));
     let t3247 = reject_t3247(dev.t3247, sure, cause, draw);
     let work = row_work(row, w, cause);
-    Effect {
+    let t0 = side(w, mine, theirs);
+    let t1 = side(w, theirs, mine);
+    Sides {
         dev,
-        mine,
-        theirs,
+        t0,
+        t1,
         t3247,
         work,
         restart: false,

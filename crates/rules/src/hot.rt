@@ -1,9 +1,11 @@
 // The two accesses of the record's numbers.
 use record::Access;
-use record::Device;
 use record::Hot;
+use turns::Turn;
 ghost use mathlib.Core.Path.{_≡_};
-ghost use Rattle.rules.specs.Hot.{accessOf, otherOf, hotOf};
+ghost use mathlib.Core.Bool.{cond};
+ghost use lib.Dec.{eqb};
+ghost use Rattle.rules.specs.Hot.{accessOf, otherOf};
 
 pub(crate) fn access_of(h: Hot, w: u8) -> Access
     ensures { λ r. ⌜ r ≡ accessOf h w ⌝ }
@@ -17,19 +19,9 @@ pub(crate) fn other_of(h: Hot, w: u8) -> Access
     if w == 0 { h.a1 } else { h.a0 }
 }
 
-pub(crate) fn hot_of(d: Device, w: u8, mine: Access, theirs: Access) -> Hot
-    ensures { λ r. ⌜ r ≡ hotOf d w mine theirs ⌝ }
+// The turn of access 0, of an event's own access and the other one; turned round, that of access 1.
+pub(crate) fn side(w: u8, mine: Turn, theirs: Turn) -> Turn
+    ensures { λ r. ⌜ r ≡ cond (eqb w 0) mine theirs ⌝ }
 {
-    if w == 0 {
-        return Hot {
-            dev: d,
-            a0: mine,
-            a1: theirs,
-        };
-    }
-    Hot {
-        dev: d,
-        a0: theirs,
-        a1: mine,
-    }
+    if w == 0 { mine } else { theirs }
 }

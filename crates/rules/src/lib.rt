@@ -85,11 +85,11 @@ pub struct Work {
     pub keep: u8,
 }
 
-// A taken event: the device's numbers, the turn of its access and of the other one, T3247, the work, and whether a restart is asked.
-pub struct Effect {
+// A taken event: the device's numbers, the turns of access 0 and 1, T3247, the work, and whether a restart is asked. The turns are sorted out at each event, so that an access that it leaves alone is handed on as it is.
+pub struct Sides {
     pub dev: Device,
-    pub mine: Turn,
-    pub theirs: Turn,
+    pub t0: Turn,
+    pub t1: Turn,
     pub t3247: Order,
     pub work: Work,
     pub restart: bool,

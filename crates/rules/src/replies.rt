@@ -1,18 +1,17 @@
 // What the caller is told: the answer, each timer, and what is asked of it.
 use crate::Asked;
-use crate::Effect;
 use crate::Reply;
+use crate::Sides;
 use crate::joins::pick;
 use record::Answer;
 use record::Hot;
 use turns::Clocks;
-use turns::Orders;
 use turns::Told;
 use turns::clocks_of;
 use turns::told_of;
 ghost use mathlib.Core.Path.{_≡_};
-ghost use mathlib.Core.Bool.{cond};
 ghost use Rattle.rules.specs.Plan as rules;
+ghost use Rattle.rules.specs.Sides.{replyBy};
 
 fn asked_on(wanted: bool, w: u8) -> Asked
     ensures { λ r. ⌜ r ≡ rules.askedOn wanted w ⌝ }
@@ -20,21 +19,15 @@ fn asked_on(wanted: bool, w: u8) -> Asked
     if wanted { Asked::On(w) } else { Asked::No }
 }
 
-fn orders_by(first: bool, a: Orders, b: Orders) -> Orders
-    ensures { λ r. ⌜ r ≡ cond first a b ⌝ }
+pub(crate) fn taken_reply(h: Hot, w: u8, e: Sides) -> Reply
+    ensures { λ r. ⌜ r ≡ replyBy h w e ⌝ }
 {
-    if first { a } else { b }
-}
-
-pub(crate) fn taken_reply(h: Hot, w: u8, e: Effect) -> Reply
-    ensures { λ r. ⌜ r ≡ rules.takenReply h w e ⌝ }
-{
-    let mine = e.mine;
-    let theirs = e.theirs;
+    let t0 = e.t0;
+    let t1 = e.t1;
     let order = e.t3247;
     let dev = h.dev;
-    let c0 = clocks_of(orders_by(w == 0, mine.orders, theirs.orders), h.a0);
-    let c1 = clocks_of(orders_by(w == 0, theirs.orders, mine.orders), h.a1);
+    let c0 = clocks_of(t0.orders, h.a0);
+    let c1 = clocks_of(t1.orders, h.a1);
     let t3247 = told_of(order, dev.t3247);
     let restart = asked_on(e.restart, w);
     Reply {

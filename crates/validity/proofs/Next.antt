@@ -17,7 +17,7 @@ use Rattle.turns.specs.declared.Order.{Order}
 use Rattle.turns.specs.declared.Turn.{Turn}
 use Rattle.turns.specs.Timers.{flagAfter}
 use Rattle.rules.specs.declared.Plan.{Plan}
-use Rattle.rules.specs.declared.Effect.{Effect}
+use Rattle.rules.specs.Effects.{Effect}
 use Rattle.rules.specs.Effects.{ticked, workOf}
 use Rattle.rules.specs.Hot.{hotOf}
 use Rattle.rules.specs.Plan.{askAt, hotAfter, takenPlan}

@@ -12,7 +12,7 @@ plan-of-requires c κs = search needs
 
 returns : tie.Need-returns
 unfolding plannedBy
-returns c = rw (← c .before .before .before .pre, ← c .before .heard .ensures) (c .plan-of .ensures)
+returns c = rw (← c .before .heard .ensures) (c .plan-of .ensures)
 
 pub decide-spec : {M : Type 1} → statement M
 decide-spec = tie.close (tie.spec heard-requires plan-of-requires returns)

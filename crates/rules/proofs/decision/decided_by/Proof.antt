@@ -1,7 +1,8 @@
--- The test of the answer picks the plan. Assumes nothing.
+-- The test of the answer picks the plan; a taken event goes by access, which makes the same plan. Assumes nothing.
 use Rattle.rules.specs.Plan.{decidedBy}
 use mathlib.Core.Path.{sym, _∙_}
 use borrow.Author.Needs.{needs}
+use Rattle.rules.proofs.Sorted.{sorted}
 use Rattle.rules.proofs.decision.decided_by.Statement.{statement}
 use Rattle.rules.proofs.decision.decided_by.Tie as tie
 
@@ -9,14 +10,14 @@ taken-requires : tie.Need-taken-requires
 taken-requires c κs = search needs
 
 effect-of-requires : tie.Need-effect-of-requires
-effect-of-requires c κs = c .before .before .before .pre (sym (c .before .taken .ensures) ∙ c .if1 .taken)
+effect-of-requires c κs = c .before .before .before .pre .1 (sym (c .before .taken .ensures) ∙ c .if1 .taken)
 
 taken-plan-requires : tie.Need-taken-plan-requires
 taken-plan-requires c κs = search needs
 
 returns : tie.Need-returns
 unfolding decidedBy
-returns c = rw (← c .before .before .before .taken .ensures, c .before .before .if1 .taken, c .taken-plan .ensures, c .before .effect-of .ensures)
+returns c = rw (← c .before .before .before .taken .ensures, c .before .before .if1 .taken, c .taken-plan .ensures, c .before .effect-of .ensures, ← c .before .before .before .before .before .pre .0, sorted)
 
 refused-plan-requires : tie.Need-refused-plan-requires
 refused-plan-requires c κs = search needs

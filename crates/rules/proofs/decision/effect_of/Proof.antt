@@ -1,5 +1,5 @@
 -- Event by event, as the definition; the length of a card that is taken fits an octet. Assumes nothing.
-use Rattle.rules.specs.Plan.{effectOf}
+use Rattle.rules.specs.Plan.{askOf, effectOf}
 use native.Mathlib.Omega.{arith}
 use borrow.Author.Needs.{needs}
 use Rattle.rules.proofs.decision.effect_of.Statement.{statement}
@@ -51,31 +51,31 @@ none-requires : tie.Need-none-requires
 none-requires c κs = search needs
 
 returns : tie.Need-returns
-unfolding effectOf
+unfolding effectOf askOf
 returns c = rw (c .before .before .e .given .1) (c .card-effect .ensures)
 
 returns-2 : tie.Need-returns-2
-unfolding effectOf
+unfolding effectOf askOf
 returns-2 c = rw (c .before .before .e2 .given .1) (c .start-effect .ensures)
 
 returns-3 : tie.Need-returns-3
-unfolding effectOf
+unfolding effectOf askOf
 returns-3 c = rw (c .before .before .e3 .given .1) (c .message-effect .ensures)
 
 returns-4 : tie.Need-returns-4
-unfolding effectOf
+unfolding effectOf askOf
 returns-4 c = rw (c .before .before .e4 .given .1) (c .timer-effect .ensures)
 
 returns-5 : tie.Need-returns-5
-unfolding effectOf
+unfolding effectOf askOf
 returns-5 c = rw (c .before .enum-told .given .1) (c .power-effect .ensures)
 
 returns-6 : tie.Need-returns-6
-unfolding effectOf
+unfolding effectOf askOf
 returns-6 c = rw (c .before .before .e5 .given .1) (c .key-effect .ensures)
 
 returns-7 : tie.Need-returns-7
-unfolding effectOf
+unfolding effectOf askOf
 returns-7 c = rw (c .before .enum-told2 .given .1) (c .none .ensures)
 
 pub effect-of-spec : {M : Type 1} → statement M

@@ -1,5 +1,5 @@
 -- Each part is what its function ensures. Assumes nothing.
-use Rattle.rules.specs.Plan.{hotAfter}
+use Rattle.rules.specs.Sides.{hotBy}
 use borrow.Author.Needs.{needs}
 use Rattle.rules.proofs.decision.hot_after.Statement.{statement}
 use Rattle.rules.proofs.decision.hot_after.Tie as tie
@@ -16,20 +16,10 @@ turned-requires c κs = search needs
 turned-requires-2 : tie.Need-turned-requires-2
 turned-requires-2 c κs = search needs
 
-hot-of-requires : tie.Need-hot-of-requires
-hot-of-requires c κs = search needs
-
 returns : tie.Need-returns
-unfolding hotAfter
-returns c = rw (c .hot-of .ensures, c .before .turned2 .ensures, c .before .before .turned .ensures, c .before .before .before .ticked .ensures, c .before .before .before .before .flag-after .ensures)
+unfolding hotBy
+returns c = rw (c .turned2 .ensures, c .before .turned .ensures, c .before .before .ticked .ensures, c .before .before .before .flag-after .ensures)
 
 pub hot-after-spec : {M : Type 1} → statement M
 hot-after-spec =
-    tie.close
-    (tie.spec
-    flag-after-requires
-    ticked-requires
-    turned-requires
-    turned-requires-2
-    hot-of-requires
-    returns)
+    tie.close (tie.spec flag-after-requires ticked-requires turned-requires turned-requires-2 returns)

@@ -1,5 +1,5 @@
 -- Each part is what its function ensures. Assumes nothing.
-use Rattle.rules.specs.Plan.{takenPlan}
+use Rattle.rules.specs.Sides.{planBy}
 use borrow.Author.Needs.{needs}
 use Rattle.rules.proofs.decision.taken_plan.Statement.{statement}
 use Rattle.rules.proofs.decision.taken_plan.Tie as tie
@@ -14,7 +14,7 @@ gift-of-requires : tie.Need-gift-of-requires
 gift-of-requires c κs = search needs
 
 returns : tie.Need-returns
-unfolding takenPlan
+unfolding planBy
 returns c = rw (c .gift-of .ensures, c .before .before .hot-after .ensures, c .before .before .before .taken-reply .ensures)
 
 pub taken-plan-spec : {M : Type 1} → statement M

@@ -1,5 +1,6 @@
--- Each part is what its function ensures. Assumes nothing.
+-- Each part is what its function ensures; the turns go to their sides. Assumes nothing.
 use Rattle.rules.specs.Effects.{acceptEffect}
+use Rattle.rules.specs.Sides.{sidesOf}
 use borrow.Author.Needs.{needs}
 use Rattle.rules.proofs.effects.accept_effect.Statement.{statement}
 use Rattle.rules.proofs.effects.accept_effect.Tie as tie
@@ -22,9 +23,15 @@ still-requires c κs = search needs
 work-of-requires : tie.Need-work-of-requires
 work-of-requires c κs = search needs
 
+side-requires : tie.Need-side-requires
+side-requires c κs = search needs
+
+side-requires-2 : tie.Need-side-requires-2
+side-requires-2 c κs = search needs
+
 returns : tie.Need-returns
-unfolding acceptEffect
-returns c = rw (c .work-of .ensures, c .before .still .ensures, c .before .before .other-of .ensures, c .before .before .before .accepted .ensures, c .before .before .before .before .access-of .ensures, c .before .before .before .before .before .wait-of .ensures)
+unfolding sidesOf acceptEffect
+returns c = rw (c .side2 .ensures, c .before .side .ensures, c .before .before .work-of .ensures, c .before .before .before .still .ensures, c .before .before .before .before .other-of .ensures, c .before .before .before .before .before .accepted .ensures, c .before .before .before .before .before .before .access-of .ensures, c .before .before .before .before .before .before .before .wait-of .ensures)
 
 pub accept-effect-spec : {M : Type 1} → statement M
 accept-effect-spec =
@@ -36,4 +43,6 @@ accept-effect-spec =
     other-of-requires
     still-requires
     work-of-requires
+    side-requires
+    side-requires-2
     returns)

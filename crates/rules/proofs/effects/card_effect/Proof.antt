@@ -1,5 +1,6 @@
--- Each part is what its function ensures. Assumes nothing.
+-- Each part is what its function ensures; it has no access of its own, so that access 0's turn comes first. Assumes nothing.
 use Rattle.rules.specs.Effects.{cardEffect}
+use Rattle.rules.specs.Sides.{sidesOf}
 use borrow.Author.Needs.{needs}
 use Rattle.rules.proofs.effects.card_effect.Statement.{statement}
 use Rattle.rules.proofs.effects.card_effect.Tie as tie
@@ -14,7 +15,7 @@ work-of-requires : tie.Need-work-of-requires
 work-of-requires c κs = search needs
 
 returns : tie.Need-returns
-unfolding cardEffect
+unfolding sidesOf cardEffect
 returns c = rw (c .work-of .ensures, c .before .renewed .ensures, c .before .before .carded .ensures)
 
 pub card-effect-spec : {M : Type 1} → statement M

@@ -1,4 +1,5 @@
--- Each part is what its function ensures. Assumes nothing.
+-- Each part is what its function ensures; the turns go to their sides. Assumes nothing.
+use Rattle.rules.specs.Sides.{sidesOf}
 use borrow.Author.Needs.{needs}
 use Rattle.rules.proofs.effects.plain.Statement.{statement}
 use Rattle.rules.proofs.effects.plain.Tie as tie
@@ -12,8 +13,15 @@ still-requires c κs = search needs
 idle-requires : tie.Need-idle-requires
 idle-requires c κs = search needs
 
+side-requires : tie.Need-side-requires
+side-requires c κs = search needs
+
+side-requires-2 : tie.Need-side-requires-2
+side-requires-2 c κs = search needs
+
 returns : tie.Need-returns
-returns c = rw (c .idle .ensures, c .before .still .ensures, c .before .before .other-of .ensures)
+unfolding sidesOf
+returns c = rw (c .side2 .ensures, c .before .side .ensures, c .before .before .idle .ensures, c .before .before .before .still .ensures, c .before .before .before .before .other-of .ensures)
 
 pub plain-spec : {M : Type 1} → statement M
-plain-spec = tie.close (tie.spec other-of-requires still-requires idle-requires returns)
+plain-spec = tie.close (tie.spec other-of-requires still-requires idle-requires side-requires side-requires-2 returns)

@@ -1,5 +1,6 @@
--- Each part is what its function ensures. Assumes nothing.
+-- Each part is what its function ensures; it has no access of its own, so that access 0's turn comes first. Assumes nothing.
 use Rattle.rules.specs.Effects.{powerEffect}
+use Rattle.rules.specs.Sides.{sidesOf}
 use borrow.Author.Needs.{needs}
 use Rattle.rules.proofs.effects.power_effect.Statement.{statement}
 use Rattle.rules.proofs.effects.power_effect.Tie as tie
@@ -14,7 +15,7 @@ work-of-requires : tie.Need-work-of-requires
 work-of-requires c κs = search needs
 
 returns : tie.Need-returns
-unfolding powerEffect
+unfolding sidesOf powerEffect
 returns c = rw (c .work-of .ensures, c .before .cycled2 .ensures, c .before .before .cycled .ensures)
 
 pub power-effect-spec : {M : Type 1} → statement M

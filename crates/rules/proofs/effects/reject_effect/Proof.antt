@@ -1,5 +1,6 @@
--- Each part is what its function ensures. Assumes nothing.
+-- Each part is what its function ensures; the turns go to their sides. Assumes nothing.
 use Rattle.rules.specs.Effects.{rejectEffect}
+use Rattle.rules.specs.Sides.{sidesOf}
 use borrow.Author.Needs.{needs}
 use Rattle.rules.proofs.effects.reject_effect.Statement.{statement}
 use Rattle.rules.proofs.effects.reject_effect.Tie as tie
@@ -22,9 +23,15 @@ reject-t3247-requires c κs = search needs
 row-work-requires : tie.Need-row-work-requires
 row-work-requires c κs = search needs
 
+side-requires : tie.Need-side-requires
+side-requires c κs = search needs
+
+side-requires-2 : tie.Need-side-requires-2
+side-requires-2 c κs = search needs
+
 returns : tie.Need-returns
-unfolding rejectEffect
-returns c = rw (c .row-work .ensures, c .before .reject-t3247 .ensures, c .before .before .other-turn .ensures, c .before .before .before .other-of .ensures, c .before .before .before .before .row-turn .ensures, c .before .before .before .before .before .access-of .ensures)
+unfolding sidesOf rejectEffect
+returns c = rw (c .side2 .ensures, c .before .side .ensures, c .before .before .row-work .ensures, c .before .before .before .reject-t3247 .ensures, c .before .before .before .before .other-turn .ensures, c .before .before .before .before .before .other-of .ensures, c .before .before .before .before .before .before .row-turn .ensures, c .before .before .before .before .before .before .before .access-of .ensures)
 
 pub reject-effect-spec : {M : Type 1} → statement M
 reject-effect-spec =
@@ -36,4 +43,6 @@ reject-effect-spec =
     other-turn-requires
     reject-t3247-requires
     row-work-requires
+    side-requires
+    side-requires-2
     returns)

@@ -1,5 +1,6 @@
--- Each part is what its function ensures. Assumes nothing.
+-- Each part is what its function ensures; the turns go to their sides. Assumes nothing.
 use Rattle.rules.specs.Effects.{t3247Effect}
+use Rattle.rules.specs.Sides.{sidesOf}
 use borrow.Author.Needs.{needs}
 use Rattle.rules.proofs.effects.t3247_effect.Statement.{statement}
 use Rattle.rules.proofs.effects.t3247_effect.Tie as tie
@@ -13,9 +14,15 @@ still-requires-2 c κs = search needs
 work-of-requires : tie.Need-work-of-requires
 work-of-requires c κs = search needs
 
+side-requires : tie.Need-side-requires
+side-requires c κs = search needs
+
+side-requires-2 : tie.Need-side-requires-2
+side-requires-2 c κs = search needs
+
 returns : tie.Need-returns
-unfolding t3247Effect
-returns c = rw (c .work-of .ensures, c .before .still2 .ensures, c .before .before .still .ensures)
+unfolding sidesOf t3247Effect
+returns c = rw (c .side2 .ensures, c .before .side .ensures, c .before .before .work-of .ensures, c .before .before .before .still2 .ensures, c .before .before .before .before .still .ensures)
 
 pub t3247-effect-spec : {M : Type 1} → statement M
-t3247-effect-spec = tie.close (tie.spec still-requires still-requires-2 work-of-requires returns)
+t3247-effect-spec = tie.close (tie.spec still-requires still-requires-2 work-of-requires side-requires side-requires-2 returns)

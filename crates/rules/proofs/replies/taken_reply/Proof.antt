@@ -1,17 +1,11 @@
 -- Each part is what its function ensures. Assumes nothing.
-use Rattle.rules.specs.Plan.{takenReply}
+use Rattle.rules.specs.Sides.{replyBy}
 use borrow.Author.Needs.{needs}
 use Rattle.rules.proofs.replies.taken_reply.Statement.{statement}
 use Rattle.rules.proofs.replies.taken_reply.Tie as tie
 
-orders-by-requires : tie.Need-orders-by-requires
-orders-by-requires c κs = search needs
-
 clocks-of-requires : tie.Need-clocks-of-requires
 clocks-of-requires c κs = search needs
-
-orders-by-requires-2 : tie.Need-orders-by-requires-2
-orders-by-requires-2 c κs = search needs
 
 clocks-of-requires-2 : tie.Need-clocks-of-requires-2
 clocks-of-requires-2 c κs = search needs
@@ -23,16 +17,14 @@ asked-on-requires : tie.Need-asked-on-requires
 asked-on-requires c κs = search needs
 
 returns : tie.Need-returns
-unfolding takenReply
-returns c = rw (c .asked-on .ensures, c .before .told-of .ensures, c .before .before .clocks-of2 .ensures, c .before .before .before .orders-by2 .ensures, c .before .before .before .before .clocks-of .ensures, c .before .before .before .before .before .orders-by .ensures)
+unfolding replyBy
+returns c = rw (c .asked-on .ensures, c .before .told-of .ensures, c .before .before .clocks-of2 .ensures, c .before .before .before .clocks-of .ensures)
 
 pub taken-reply-spec : {M : Type 1} → statement M
 taken-reply-spec =
     tie.close
     (tie.spec
-    orders-by-requires
     clocks-of-requires
-    orders-by-requires-2
     clocks-of-requires-2
     told-of-requires
     asked-on-requires

@@ -1,0 +1,2 @@
+-- Laws of the plan's definitions.
+pub mod Sorted
