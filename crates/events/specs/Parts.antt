@@ -19,7 +19,7 @@ use Rattle.areas.specs.Areas.{areaOf, listedIn, listAfter, countAfter}
 use Rattle.rules.specs.declared.Event.{Event}
 use Rattle.rules.specs.declared.Ask.{Ask}
 use Rattle.rules.specs.declared.Plan.{Plan}
-use Rattle.rules.specs.Kinds.{sweepDeed, keepAccept, keepCard}
+use Rattle.effects.specs.Kinds.{sweepDeed, keepAccept, keepCard}
 use Rattle.rules.specs.Plan.{heardOf, askOf, planOf}
 use Rattle.events.specs.declared.Done.{Done}
 

@@ -17,7 +17,7 @@ use Rattle.record.specs.declared.Answer.{Answer}
 use Rattle.record.specs.declared.Answer.the-variants as answer
 use Rattle.rules.specs.declared.Event.{Event}
 use Rattle.rules.specs.declared.Event.the-variants.{Card, Start, Message, Timer, Power, Key, Unknown}
-use Rattle.rules.specs.Hot.{accessOf}
+use Rattle.record.specs.Sides.{accessOf}
 use Rattle.rules.specs.Plan.{refusedReply}
 use Rattle.events.specs.declared.Outcome.{Outcome}
 use Rattle.events.specs.Step.{advanceOf, stepOf}

@@ -14,9 +14,9 @@ use Rattle.turns.specs.Timers as clocks
 use Rattle.turns.specs.Access as access
 use Rattle.turns.specs.Rows as rows
 use Rattle.turns.specs.Turns as turns
-use Rattle.rules.specs.Hot as hot
-use Rattle.rules.specs.Answers as checks
-use Rattle.rules.specs.Effects as effects
+use Rattle.record.specs.Sides as hot
+use Rattle.checks.specs.Answers as checks
+use Rattle.effects.specs.Effects as effects
 use Rattle.rules.specs.Plan as plan
 use Rattle.events.specs.Parts as parts
 use Rattle.events.specs.Step as step

@@ -17,8 +17,8 @@ use Rattle.turns.specs.declared.Orders.{Orders}
 use Rattle.turns.specs.Access.{clocked}
 use Rattle.rules.specs.declared.Event.{Event}
 use Rattle.rules.specs.declared.Plan.{Plan}
-use Rattle.rules.specs.Hot.{accessOf, otherOf, hotOf}
-use Rattle.rules.specs.Effects.{ticked}
+use Rattle.record.specs.Sides.{accessOf, otherOf, hotOf}
+use Rattle.effects.specs.Effects.{ticked}
 use Rattle.rules.specs.Plan.{heardOf, hotAfter, takenPlan}
 use Rattle.events.specs.declared.Outcome.{Outcome}
 use Rattle.events.specs.Parts.{mineOf, deedOf, tableAfter, listed, doneOf, carriedOut, gutiAfter, equivalentsAfter, keptAfter}

@@ -21,7 +21,7 @@ use Rattle.validity.specs.Run.{Heard, Octets, AllOctets, runOf}
 use Rattle.validity.proofs.Kept.{step-advances, step-valid}
 use Rattle.validity.proofs.Sizes.{step-sized, made-sized}
 use Rattle.record.proofs.MadeValid.{made-valid}
-use Rattle.rules.specs.Hot.{accessOf}
+use Rattle.record.specs.Sides.{accessOf}
 use Rattle.history.specs.Cell.{cellOf, entriesIn}
 use Rattle.history.specs.History.{saidOf}
 use Rattle.history.specs.Run.{answersOf}

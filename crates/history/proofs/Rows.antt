@@ -14,7 +14,7 @@ use Rattle.turns.specs.declared.Row.the-variants.{CardBelow, CardLimit, CardPro
 use Rattle.turns.specs.Access.{moved, forgotten, emptied, counted, entered}
 use Rattle.turns.specs.Rows.{isCard, isNetworkNo, isAreaNo, isN1No, isProtocol, rowOf, needsEntry}
 use Rattle.turns.specs.Turns.{tried, failed, t3510Out, cardBelow, cardLimit, cardProtected, away, home, area, n1, rowTurn, otherTurn}
-use Rattle.rules.specs.Effects.{rowDeed}
+use Rattle.effects.specs.Effects.{rowDeed}
 use Rattle.validity.specs.Sized.{Columns}
 use Rattle.validity.proofs.Setters.{grown}
 use Rattle.history.specs.Cell.{cellIn}

@@ -6,7 +6,7 @@ use lib.Dec.{eqb}
 use Rattle.entries.specs.declared.Entries.{Entries}
 use Rattle.record.specs.declared.Access.{Access}
 use Rattle.record.specs.declared.Record.{Record}
-use Rattle.rules.specs.Hot.{accessOf}
+use Rattle.record.specs.Sides.{accessOf}
 use Rattle.history.specs.Cell.{entriesIn}
 
 pub record Half : Type 0 where

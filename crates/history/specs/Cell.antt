@@ -6,7 +6,7 @@ use lib.Dec.{eqb}
 use Rattle.entries.specs.declared.Entries.{Entries}
 use Rattle.entries.specs.Entries.{sizeOf, placeIn, peekAt}
 use Rattle.record.specs.declared.Record.{Record}
-use Rattle.rules.specs.Hot.{accessOf}
+use Rattle.record.specs.Sides.{accessOf}
 
 -- two counters and two marks, numbers as in the record: a mark that stands is 1
 pub record Cell : Type 0 where

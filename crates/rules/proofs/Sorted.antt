@@ -7,10 +7,11 @@ use Rattle.record.specs.declared.Hot.{Hot}
 use Rattle.entries.specs.declared.Seen.{Seen}
 use Rattle.messages.specs.declared.Reading.{Reading}
 use Rattle.rules.specs.declared.Ask.{Ask}
-use Rattle.rules.specs.Hot.{hotOf}
-use Rattle.rules.specs.Effects.{Effect}
+use Rattle.record.specs.Sides.{hotOf}
+use Rattle.effects.specs.Effects.{Effect}
 use Rattle.rules.specs.Plan.{hotAfter, takenReply, takenPlan}
-use Rattle.rules.specs.Sides.{sidesOf, hotBy, replyBy, planBy}
+use Rattle.effects.specs.Effects.{sidesOf}
+use Rattle.rules.specs.Sides.{hotBy, replyBy, planBy}
 
 side : (h : Hot) (q : Ask) (s : Seen) (m : Reading) (e : Effect) (b : Bool) → eqb (q .access) 0 ≡ b
     → planBy h q s m (sidesOf (q .access) e) ≡ takenPlan h q s m e

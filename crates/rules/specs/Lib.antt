@@ -1,7 +1,3 @@
--- The answers in their order of checks, the effect of each event, the plan that both make; the same sorted by access, as the code has it.
-pub mod Hot
-pub mod Kinds
-pub mod Answers
-pub mod Effects
+-- What an event comes to: its answer and its effect together, sorted by whose event it is and by access.
 pub mod Plan
 pub mod Sides

@@ -28,9 +28,9 @@ use Rattle.rules.specs.declared.Asked.the-variants.{No, On}
 use Rattle.rules.specs.declared.Reply.{Reply}
 use Rattle.rules.specs.declared.Ask.{Ask}
 use Rattle.rules.specs.declared.Plan.{Plan}
-use Rattle.rules.specs.Hot.{accessOf, hotOf}
-use Rattle.rules.specs.Answers.{startAnswer, messageAnswer, timerAnswer, keyAnswer, cardAnswer, rowNow}
-use Rattle.rules.specs.Effects.{Effect, ticked, idle, plain, cardEffect, startEffect, keyEffect, acceptEffect, timerEffect, powerEffect, rejectEffect}
+use Rattle.record.specs.Sides.{accessOf, hotOf}
+use Rattle.checks.specs.Answers.{startAnswer, messageAnswer, timerAnswer, keyAnswer, cardAnswer, rowNow}
+use Rattle.effects.specs.Effects.{Effect, ticked, idle, plain, cardEffect, startEffect, keyEffect, acceptEffect, timerEffect, powerEffect, rejectEffect}
 
 -- the octets beside a message event, read; those of another event are none
 unfoldable pub heardOf : Event → List ℕ → Reading

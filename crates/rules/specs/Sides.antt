@@ -1,31 +1,18 @@
 -- A taken event sorted by access 0 and 1, as the code has it. Assumes nothing.
 use Prim.Native.Nat.{ℕ}
-use mathlib.Core.Bool.{cond}
-use lib.Dec.{eqb}
 use Rattle.record.specs.declared.Hot.{Hot}
 use Rattle.record.specs.declared.Answer.the-variants as answer
 use Rattle.entries.specs.declared.Seen.{Seen}
 use Rattle.messages.specs.declared.Reading.{Reading}
 use Rattle.turns.specs.Timers.{flagAfter, toldOf, clocksOf}
 use Rattle.turns.specs.Access.{clocked}
+use Rattle.effects.specs.declared.Sides.{Sides}
 use Rattle.rules.specs.declared.Asked.the-variants.{No}
 use Rattle.rules.specs.declared.Reply.{Reply}
 use Rattle.rules.specs.declared.Ask.{Ask}
-use Rattle.rules.specs.declared.Sides.{Sides}
 use Rattle.rules.specs.declared.Plan.{Plan}
-use Rattle.rules.specs.Effects.{Effect, ticked}
+use Rattle.effects.specs.Effects.{ticked}
 use Rattle.rules.specs.Plan.{askedOn, giftOf}
-
--- the effect of an event of access w
-unfoldable pub sidesOf : ℕ → Effect → Sides
-sidesOf w e = record {
-  dev = e .dev;
-  t0 = cond (eqb w 0) (e .mine) (e .theirs);
-  t1 = cond (eqb w 0) (e .theirs) (e .mine);
-  t3247 = e .t3247;
-  work = e .work;
-  restart = e .restart;
-}
 
 -- the numbers after it
 unfoldable pub hotBy : Hot → Sides → Hot

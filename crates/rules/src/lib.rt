@@ -1,19 +1,13 @@
 // What an event is answered and what it plans: decided on the record's numbers, what stands about a network, and the message's reading.
+use effects::Work;
 use entries::Seen;
 use messages::Accept;
 use record::Answer;
-use record::Device;
 use record::Hot;
 use turns::Clocks;
-use turns::Order;
 use turns::Told;
-use turns::Turn;
 
-mod answers;
 mod decision;
-mod effects;
-mod hot;
-mod joins;
 mod replies;
 
 pub use decision::ask_of;
@@ -70,29 +64,6 @@ pub struct Ask {
     pub code: u32,
     pub area: bool,
     pub sure: u8,
-}
-
-// What is kept of the octets: an accept's GUTI and equivalents, a card's SUCI.
-pub const ACCEPTED: u8 = 1;
-
-pub const CARDED: u8 = 2;
-
-// What is to be done on the arrays, by the kinds of crates entries and areas, 0 for nothing; and what is kept.
-pub struct Work {
-    pub deed: u8,
-    pub roaming: u8,
-    pub regional: u8,
-    pub keep: u8,
-}
-
-// A taken event: the device's numbers, the turns of access 0 and 1, T3247, the work, and whether a restart is asked. The turns are sorted out at each event, so that an access that it leaves alone is handed on as it is.
-pub struct Sides {
-    pub dev: Device,
-    pub t0: Turn,
-    pub t1: Turn,
-    pub t3247: Order,
-    pub work: Work,
-    pub restart: bool,
 }
 
 // What an event comes to: the reply, the numbers after it but for the area lists' counts, and the work on the arrays with what it needs.

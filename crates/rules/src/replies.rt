@@ -1,10 +1,10 @@
 // What the caller is told: the answer, each timer, and what is asked of it.
 use crate::Asked;
 use crate::Reply;
-use crate::Sides;
-use crate::joins::pick;
+use effects::Sides;
 use record::Answer;
 use record::Hot;
+use record::pick;
 use turns::Clocks;
 use turns::Told;
 use turns::clocks_of;

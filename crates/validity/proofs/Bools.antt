@@ -8,7 +8,7 @@ use borrow.Author.Tests.{leb-true, ltb-false}
 use Rattle.record.specs.Tests.{both, either, flip, within, upTo}
 use Rattle.record.specs.declared.Answer.{Answer}
 use Rattle.record.specs.Answers.{isTaken}
-use Rattle.rules.specs.Answers.{check}
+use Rattle.checks.specs.Answers.{check}
 use Rattle.events.specs.Parts.{atMost}
 
 pub both-left : (a b : Bool) → both a b ≡ true → a ≡ true

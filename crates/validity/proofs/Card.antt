@@ -12,8 +12,8 @@ use Rattle.turns.specs.Timers.{flagAfter}
 use Rattle.turns.specs.Access.{clocked}
 use Rattle.turns.specs.Turns.{renewed}
 use Rattle.rules.specs.declared.Event.the-variants.{Card}
-use Rattle.rules.specs.Hot.{hotOf}
-use Rattle.rules.specs.Effects.{ticked, carded, cardEffect}
+use Rattle.record.specs.Sides.{hotOf}
+use Rattle.effects.specs.Effects.{ticked, carded, cardEffect}
 use Rattle.rules.specs.Plan.{askOf, effectOf, hotAfter, takenPlan}
 use Rattle.events.specs.Parts.{mineOf, deedOf, tableAfter, listed, doneOf, carriedOut, gutiAfter, equivalentsAfter, suciAfter, keptAfter}
 use Rattle.events.specs.Step.{together, joinedOf, advanceOf}

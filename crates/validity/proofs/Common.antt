@@ -19,8 +19,8 @@ use Rattle.record.specs.Valid.{suciOf}
 use Rattle.turns.specs.declared.Order.the-variants.{Stop}
 use Rattle.turns.specs.Timers.{flagAfter}
 use Rattle.turns.specs.Turns as turns
-use Rattle.rules.specs.Hot.{hotOf}
-use Rattle.rules.specs.Effects.{ticked, carded, cardEffect, t3247Effect, powerEffect}
+use Rattle.record.specs.Sides.{hotOf}
+use Rattle.effects.specs.Effects.{ticked, carded, cardEffect, t3247Effect, powerEffect}
 use Rattle.rules.specs.Plan.{askAt, hotAfter, takenPlan}
 use Rattle.events.specs.Parts.{mineOf, deedOf, tableAfter, taskOf, equivalentsAfter, suciAfter}
 use Rattle.validity.specs.Sized.{Sized}

@@ -17,9 +17,9 @@ use Rattle.record.specs.Valid.{validOf}
 use Rattle.turns.specs.Turns.{started, keySet, t3510Out, t3511Out, t3502Out}
 use Rattle.rules.specs.declared.Event.{Event}
 use Rattle.rules.specs.declared.Event.the-variants.{Card, Start, Message, Timer, Power, Key, Unknown}
-use Rattle.rules.specs.Hot.{accessOf}
-use Rattle.rules.specs.Answers.{rowNow, readAnswer, runs}
-use Rattle.rules.specs.Effects.{plain, startEffect, keyEffect, clockEffect, timerEffect}
+use Rattle.record.specs.Sides.{accessOf}
+use Rattle.checks.specs.Answers.{rowNow, readAnswer, runs}
+use Rattle.effects.specs.Effects.{plain, startEffect, keyEffect, clockEffect, timerEffect}
 use Rattle.rules.specs.Plan.{askAt, heardOf, askOf, answerOf, messageEffect, effectOf, takenPlan}
 use Rattle.events.specs.Step.{advanceOf, stepOf}
 use Rattle.validity.specs.Sized.{Sized}

@@ -17,9 +17,9 @@ use Rattle.turns.specs.declared.Order.{Order}
 use Rattle.turns.specs.declared.Turn.{Turn}
 use Rattle.turns.specs.Timers.{flagAfter}
 use Rattle.rules.specs.declared.Plan.{Plan}
-use Rattle.rules.specs.Effects.{Effect}
-use Rattle.rules.specs.Effects.{ticked, workOf}
-use Rattle.rules.specs.Hot.{hotOf}
+use Rattle.effects.specs.Effects.{Effect}
+use Rattle.effects.specs.Effects.{ticked, workOf}
+use Rattle.record.specs.Sides.{hotOf}
 use Rattle.rules.specs.Plan.{askAt, hotAfter, takenPlan}
 use Rattle.events.specs.Parts.{mineOf, tableAfter, taskOf, listed, doneOf, carriedOut, isAccepted, isCarded, equivalentsAfter, suciAfter, keptAfter}
 use Rattle.events.specs.Step.{together, joinedOf}

@@ -26,8 +26,8 @@ use Rattle.turns.specs.Rows.{needsEntry, toRoaming, toRegional}
 use Rattle.turns.specs.Turns.{still, accepted, rowTurn, otherTurn}
 use Rattle.rules.specs.declared.Ask.{Ask}
 use Rattle.rules.specs.declared.Plan.{Plan}
-use Rattle.rules.specs.Hot.{accessOf, otherOf}
-use Rattle.rules.specs.Effects.{plain, acceptEffect, rejectT3247, rowDeed, rowWork, rejectEffect}
+use Rattle.record.specs.Sides.{accessOf, otherOf}
+use Rattle.effects.specs.Effects.{plain, acceptEffect, rejectT3247, rowDeed, rowWork, rejectEffect}
 use Rattle.rules.specs.Plan.{askAt, giftOf, takenPlan}
 use Rattle.events.specs.Parts.{seenBy, seenOf, mineOf, deedOf, tableAfter, atMost, networksOf, equivalentsAfter}
 use Rattle.validity.specs.Sized.{Columns, Sized}

@@ -16,7 +16,7 @@ use Rattle.record.specs.declared.Answer.the-variants.{Taken, Range, Ignored, Ma
 use Rattle.record.specs.Answers.{isTaken}
 use Rattle.record.specs.Valid.{validOf}
 use Rattle.rules.specs.declared.Ask.{Ask}
-use Rattle.rules.specs.Effects.{Effect}
+use Rattle.effects.specs.Effects.{Effect}
 use Rattle.rules.specs.declared.Event.{Event}
 use Rattle.rules.specs.declared.Plan.{Plan}
 use Rattle.rules.specs.Plan.{heardOf, askOf, effectOf, takenReply, refusedReply, takenPlan, refusedPlan, decidedBy, planOf}

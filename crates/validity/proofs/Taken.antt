@@ -14,8 +14,8 @@ use Rattle.record.specs.Answers.{isTaken}
 use Rattle.record.specs.Tests.{both, either, flip, within, isFlag, isShort}
 use Rattle.record.specs.Network.{isNetwork}
 use Rattle.turns.specs.Rows.{needsEntry}
-use Rattle.rules.specs.Hot.{accessOf, otherOf}
-use Rattle.rules.specs.Answers.{check, mayStart, isSame, isFree, startRange, startAnswer, rowNow, isIgnored, isFull, rejectAnswer, readAnswer, messageRange, messageAnswer, timerRange, runs, timerAnswer, keyAnswer, cardAnswer}
+use Rattle.record.specs.Sides.{accessOf, otherOf}
+use Rattle.checks.specs.Answers.{check, mayStart, isSame, isFree, startRange, startAnswer, rowNow, isIgnored, isFull, rejectAnswer, readAnswer, messageRange, messageAnswer, timerRange, runs, timerAnswer, keyAnswer, cardAnswer}
 use Rattle.validity.proofs.Bools.{both-left, both-right, flip-true, check-passed, check-rest}
 
 pub start-passed : (h : Hot) (w manual net code : ℕ) (s : Seen) (listed : Bool) → isTaken (startAnswer h w manual net code s listed) ≡ true

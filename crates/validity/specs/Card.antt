@@ -6,7 +6,7 @@ use Rattle.laws.specs.Upto.{copied}
 use Rattle.record.specs.declared.Device.{Device}
 use Rattle.record.specs.declared.Record.{Record}
 use Rattle.record.specs.New.{newDevice, newAccess, emptyRecord, zeros}
-use Rattle.rules.specs.Effects.{carded}
+use Rattle.effects.specs.Effects.{carded}
 use Rattle.events.specs.Parts.{atMost}
 
 abbrev pub sameLimits : Device → Device

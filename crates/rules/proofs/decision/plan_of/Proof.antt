@@ -12,7 +12,7 @@ use Rattle.record.specs.Tests.{both}
 use Rattle.record.specs.Network.{isNetwork}
 use Rattle.record.specs.Answers.{isTaken}
 use Rattle.record.specs.declared.Answer.the-variants as answer
-use Rattle.rules.specs.Answers.{check, cardAnswer}
+use Rattle.checks.specs.Answers.{check, cardAnswer}
 use Rattle.rules.specs.Plan.{answerOf, planOf}
 use Rattle.rules.proofs.decision.plan_of.Statement.{statement}
 use Rattle.rules.proofs.decision.plan_of.Tie as tie

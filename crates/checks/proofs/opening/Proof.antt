@@ -1,0 +1,18 @@
+-- Past its end a list has the default. Assumes nothing.
+use mathlib.Core.Path.{sym}
+use lib.ListN.{List·getD-eq-default}
+use borrow.Author.Needs.{needs}
+use Rattle.checks.proofs.opening.Statement.{statement}
+use Rattle.checks.proofs.opening.Tie as tie
+
+shared-slice-read-result : tie.Need-shared-slice-read-result
+shared-slice-read-result c = search needs
+
+returns : tie.Need-returns
+returns c = search needs
+
+returns-2 : tie.Need-returns-2
+returns-2 c = sym (List·getD-eq-default (c .before .args .suci .now) 0 (c .if1 .left))
+
+pub opening-spec : {M : Type 1} → statement M
+opening-spec = tie.close (tie.spec shared-slice-read-result returns returns-2)

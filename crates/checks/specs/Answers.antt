@@ -1,0 +1,117 @@
+-- Answers: "Checks go 1, 5, 6, 7, 8, 9 for a start; 1, 6, 3, 10, 2, 4 for a message; 1, 11 for a timer; 1, 6 for a key set; 1 for a card or a power cycle".
+-- Each check passes on to the next; the last one is taken. The record itself is tested before. Assumes nothing.
+use Prim.Native.Nat.{ℕ}
+use mathlib.Core.Bool.{Bool, true, false, cond}
+use mathlib.Core.List.{List}
+use lib.ListN.{length, getD}
+use lib.Dec.{ltb, leb, eqb}
+use Rattle.record.specs.Tests.{both, either, flip, within, isFlag, isShort}
+use Rattle.record.specs.Network.{isNetwork}
+use Rattle.record.specs.declared.Access.{Access}
+use Rattle.record.specs.declared.Hot.{Hot}
+use Rattle.record.specs.declared.Answer.{Answer}
+use Rattle.record.specs.declared.Answer.the-variants as answer
+use Rattle.entries.specs.declared.Seen.{Seen}
+use Rattle.messages.specs.declared.Reading.{Reading}
+use Rattle.messages.specs.declared.Reading.the-variants as reading
+use Rattle.turns.specs.declared.Row.{Row}
+use Rattle.turns.specs.Rows.{isCard, rowOf, needsEntry}
+use Rattle.record.specs.Sides.{accessOf, otherOf}
+
+-- the answer where a check fails, else the rest
+abbrev pub check : Bool → Answer → Answer → Answer
+check passed refusal rest = cond passed rest refusal
+
+-- "allowed in 1, 2, 3 and 6"
+unfoldable pub mayStart : ℕ → Bool
+mayStart s = either (either (eqb s 1) (eqb s 2)) (either (eqb s 3) (eqb s 6))
+
+-- "other access is in state 4 with the same network"
+unfoldable pub isSame : Access → ℕ → Bool
+isSame other net = both (eqb (other .state) 4) (eqb (other .net) net)
+
+-- "Manual choice passes a forbidden mark, never an N1 mark."
+unfoldable pub isFree : ℕ → Seen → Bool
+isFree manual s = both (eqb (s .barred) 0) (either (eqb (s .forbidden) 0) (eqb manual 1))
+
+unfoldable pub startRange : ℕ → ℕ → ℕ → ℕ → Bool
+startRange w manual net code = both (isFlag w) (both (isFlag manual) (both (isNetwork net) (isShort code)))
+
+-- Start: 1, 5, 6, 7, 8, 9; listed says whether the area stands in one of the two lists
+unfoldable pub startAnswer : Hot → ℕ → ℕ → ℕ → ℕ → Seen → Bool → Answer
+startAnswer h w manual net code s listed =
+    check (startRange w manual net code) answer.Range
+    (check (flip (eqb (accessOf h w .state) 0)) answer.NoCard
+    (check (mayStart (accessOf h w .state)) answer.State
+    (check (flip (isSame (otherOf h w) net)) answer.Same
+    (check (isFree manual s) answer.Listed
+    (check (flip (both (eqb w 0) listed)) answer.Area
+    answer.Taken)))))
+
+-- the row of a reject that comes over access w now
+unfoldable pub rowNow : Hot → ℕ → ℕ → ℕ → Row
+rowNow h w sure cause =
+    rowOf w (eqb sure 0) (eqb (accessOf h w .net) (h .dev .home)) (ltb (accessOf h w .cards) (h .dev .cardlimit)) cause
+
+-- "Two-access rule: cause 3, 6 or 7, unprotected, other access in state 5"
+unfoldable pub isIgnored : ℕ → ℕ → Access → Bool
+isIgnored sure cause other = both (isCard cause) (both (eqb sure 0) (eqb (other .state) 5))
+
+-- "entry needed, network not in the access's table, all 16 entries held"
+unfoldable pub isFull : Row → Seen → Bool
+isFull row s = both (needsEntry row) (flip (ltb (s .at) 16))
+
+-- a reject: 2, 4
+unfoldable pub rejectAnswer : Hot → ℕ → ℕ → ℕ → Seen → Answer
+rejectAnswer h w sure cause s =
+    check (flip (isIgnored sure cause (otherOf h w))) answer.Ignored
+    (check (flip (isFull (rowNow h w sure cause) s)) answer.Full
+    answer.Taken)
+
+-- what was read: 3, 10, then those of a reject
+unfoldable pub readAnswer : Hot → ℕ → ℕ → Reading → Seen → Answer
+readAnswer h w sure (reading.Accept g) s = check (flip (eqb sure 0)) answer.Bare answer.Taken
+readAnswer h w sure (reading.Reject cause) s = rejectAnswer h w sure cause s
+readAnswer h w sure (reading.Bad f at) s = answer.Malformed f at
+
+-- "a draw for T3247, 1800 to 3600 s, checked even if unused"
+unfoldable pub messageRange : ℕ → ℕ → ℕ → Bool
+messageRange w sure draw = both (isFlag w) (both (isFlag sure) (within 1800 3600 draw))
+
+-- Message: 1, 6, 3, 10, 2, 4
+unfoldable pub messageAnswer : Hot → ℕ → ℕ → ℕ → Reading → Seen → Answer
+messageAnswer h w sure draw m s =
+    check (messageRange w sure draw) answer.Range
+    (check (eqb (accessOf h w .state) 4) answer.State
+    (readAnswer h w sure m s))
+
+-- timers 1 T3510, 2 T3511, 3 T3502, 4 T3247; access 0 for T3247
+unfoldable pub timerRange : ℕ → ℕ → Bool
+timerRange number w = both (within 1 4 number) (both (isFlag w) (either (ltb number 4) (eqb w 0)))
+
+unfoldable pub runs : Hot → ℕ → ℕ → ℕ
+runs h number w =
+    cond (eqb number 1) (accessOf h w .t3510)
+    (cond (eqb number 2) (accessOf h w .t3511)
+    (cond (eqb number 3) (accessOf h w .t3502)
+    (h .dev .t3247)))
+
+-- Timer: 1, 11
+unfoldable pub timerAnswer : Hot → ℕ → ℕ → Answer
+timerAnswer h number w =
+    check (timerRange number w) answer.Range
+    (check (flip (eqb (runs h number w) 0)) answer.Idle
+    answer.Taken)
+
+-- Key set (0 to 6): 1, 6
+unfoldable pub keyAnswer : Hot → ℕ → ℕ → Answer
+keyAnswer h w set =
+    check (both (isFlag w) (leb set 6)) answer.Range
+    (check (eqb (accessOf h w .state) 4) answer.State
+    answer.Taken)
+
+-- Card change (home, SUCI 9 to 64 octets, first octet 01): 1
+unfoldable pub cardAnswer : ℕ → List ℕ → Answer
+cardAnswer home suci =
+    check (both (isNetwork home) (both (within 9 64 (length suci)) (eqb (getD suci 0 0) 1))) answer.Range
+    answer.Taken

@@ -1,0 +1,2 @@
+-- Each event's checks, and the answer that they give.
+pub mod Answers

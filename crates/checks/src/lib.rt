@@ -1,0 +1,203 @@
+// Answers: each event's checks, in document 01's order.
+use entries::Seen;
+use messages::Reading;
+use record::Access;
+use record::Answer;
+use record::Hot;
+use record::access_of;
+use record::and;
+use record::network;
+use record::not;
+use record::or;
+use record::other_of;
+use record::pick;
+use turns::Row;
+use turns::needs_entry;
+use turns::row_of;
+ghost use mathlib.Core.Path.{_≡_};
+ghost use lib.Dec.{eqb};
+ghost use lib.ListN.{getD};
+ghost use Rattle.record.specs.Tests.{both, flip};
+ghost use Rattle.record.specs.declared.Answer.the-variants as answer;
+ghost use Rattle.turns.specs.Rows.{isCard};
+ghost use Rattle.checks.specs.Answers as rules;
+
+fn check(passed: bool, refusal: Answer, rest: Answer) -> Answer
+    ensures { λ r. ⌜ r ≡ rules.check passed refusal rest ⌝ }
+{
+    if passed { rest } else { refusal }
+}
+
+// Two checks, the earlier one first.
+fn checks(first: bool, x: Answer, second: bool, y: Answer, rest: Answer) -> Answer
+    ensures { λ r. ⌜ r ≡ rules.check first x (rules.check second y rest) ⌝ }
+{
+    if first {
+        if second { rest } else { y }
+    } else {
+        x
+    }
+}
+
+fn may_start(s: u8) -> bool
+    ensures { λ r. ⌜ r ≡ rules.mayStart s ⌝ }
+{
+    or(or(s == 1, s == 2), or(s == 3, s == 6))
+}
+
+fn is_same(other: Access, net: u32) -> bool
+    ensures { λ r. ⌜ r ≡ rules.isSame other net ⌝ }
+{
+    and(other.state == 4, other.net == net)
+}
+
+fn is_free(manual: u8, s: Seen) -> bool
+    ensures { λ r. ⌜ r ≡ rules.isFree manual s ⌝ }
+{
+    and(s.barred == 0, or(s.forbidden == 0, manual == 1))
+}
+
+fn start_range(w: u8, manual: u8, net: u32, code: u32) -> bool
+    ensures { λ r. ⌜ r ≡ rules.startRange w manual net code ⌝ }
+{
+    and(w <= 1, and(manual <= 1, and(network(net), code < 16777216)))
+}
+
+// 7, 8, 9
+fn place_answer(other: Access, w: u8, manual: u8, net: u32, s: Seen, listed: bool) -> Answer
+    ensures { λ r. ⌜ r ≡ rules.check (flip (rules.isSame other net)) answer.Same (rules.check (rules.isFree manual s) answer.Listed (rules.check (flip (both (eqb w 0) listed)) answer.Area answer.Taken)) ⌝ }
+{
+    let area = check(not(and(w == 0, listed)), Answer::Area, Answer::Taken);
+    let apart = not(is_same(other, net));
+    let free = is_free(manual, s);
+    checks(apart, Answer::Same, free, Answer::Listed, area)
+}
+
+pub fn start_answer(h: Hot, w: u8, manual: u8, net: u32, code: u32, s: Seen, listed: bool) -> Answer
+    ensures { λ r. ⌜ r ≡ rules.startAnswer h w manual net code s listed ⌝ }
+{
+    let a = access_of(h, w);
+    let place = place_answer(other_of(h, w), w, manual, net, s, listed);
+    let some = not(a.state == 0);
+    let may = may_start(a.state);
+    let state = checks(some, Answer::NoCard, may, Answer::State, place);
+    check(start_range(w, manual, net, code), Answer::Range, state)
+}
+
+pub fn row_now(h: Hot, w: u8, sure: u8, cause: u8) -> Row
+    ensures { λ r. ⌜ r ≡ rules.rowNow h w sure cause ⌝ }
+{
+    let a = access_of(h, w);
+    row_of(
+        w,
+        sure == 0,
+        a.net == h.dev.home,
+        a.cards < h.dev.cardlimit,
+        cause,
+    )
+}
+
+fn is_ignored(sure: u8, cause: u8, other: Access) -> bool
+    ensures { λ r. ⌜ r ≡ rules.isIgnored sure cause other ⌝ }
+{
+    and(turns::is_card(cause), and(sure == 0, other.state == 5))
+}
+
+fn is_full(row: Row, s: Seen) -> bool
+    ensures { λ r. ⌜ r ≡ rules.isFull row s ⌝ }
+{
+    and(needs_entry(row), not(s.at < 16))
+}
+
+fn reject_answer(h: Hot, w: u8, sure: u8, cause: u8, s: Seen) -> Answer
+    ensures { λ r. ⌜ r ≡ rules.rejectAnswer h w sure cause s ⌝ }
+{
+    let heeded = not(is_ignored(sure, cause, other_of(h, w)));
+    let room = not(is_full(row_now(h, w, sure, cause), s));
+    checks(heeded, Answer::Ignored, room, Answer::Full, Answer::Taken)
+}
+
+fn read_answer(h: Hot, w: u8, sure: u8, m: Reading, s: Seen) -> Answer
+    ensures { λ r. ⌜ r ≡ rules.readAnswer h w sure m s ⌝ }
+{
+    match m {
+        Reading::Accept(_) => check(not(sure == 0), Answer::Bare, Answer::Taken),
+        Reading::Reject(cause) => reject_answer(h, w, sure, cause, s),
+        Reading::Bad(f, at) => Answer::Malformed(f, at),
+    }
+}
+
+fn message_range(w: u8, sure: u8, draw: u16) -> bool
+    ensures { λ r. ⌜ r ≡ rules.messageRange w sure draw ⌝ }
+{
+    and(w <= 1, and(sure <= 1, and(1800 <= draw, draw <= 3600)))
+}
+
+pub fn message_answer(h: Hot, w: u8, sure: u8, draw: u16, m: Reading, s: Seen) -> Answer
+    ensures { λ r. ⌜ r ≡ rules.messageAnswer h w sure draw m s ⌝ }
+{
+    let a = access_of(h, w);
+    let read = read_answer(h, w, sure, m, s);
+    let range = message_range(w, sure, draw);
+    let four = a.state == 4;
+    checks(range, Answer::Range, four, Answer::State, read)
+}
+
+fn timer_range(number: u8, w: u8) -> bool
+    ensures { λ r. ⌜ r ≡ rules.timerRange number w ⌝ }
+{
+    let access = and(w <= 1, or(number < 4, w == 0));
+    and(and(1 <= number, number <= 4), access)
+}
+
+fn runs(h: Hot, number: u8, w: u8) -> u8
+    ensures { λ r. ⌜ r ≡ rules.runs h number w ⌝ }
+{
+    let a = access_of(h, w);
+    let last = pick(number == 3, a.t3502, h.dev.t3247);
+    pick(number == 1, a.t3510, pick(number == 2, a.t3511, last))
+}
+
+pub fn timer_answer(h: Hot, number: u8, w: u8) -> Answer
+    ensures { λ r. ⌜ r ≡ rules.timerAnswer h number w ⌝ }
+{
+    let running = not(runs(h, number, w) == 0);
+    checks(
+        timer_range(number, w),
+        Answer::Range,
+        running,
+        Answer::Idle,
+        Answer::Taken,
+    )
+}
+
+pub fn key_answer(h: Hot, w: u8, set: u8) -> Answer
+    ensures { λ r. ⌜ r ≡ rules.keyAnswer h w set ⌝ }
+{
+    let a = access_of(h, w);
+    checks(
+        and(w <= 1, set <= 6),
+        Answer::Range,
+        a.state == 4,
+        Answer::State,
+        Answer::Taken,
+    )
+}
+
+// The octet that opens a SUCI, 0 where there is none.
+fn opening(suci: &[u8]) -> u8
+    ensures { λ r. ⌜ r ≡ getD (now (suci .entry)) 0 0 ⌝ }
+{
+    if 0 < suci.len() {
+        return suci[0];
+    }
+    0
+}
+
+pub fn card_answer(home: u32, suci: &[u8]) -> Answer
+    ensures { λ r. ⌜ r ≡ rules.cardAnswer home (now (suci .entry)) ⌝ }
+{
+    let n = suci.len();
+    let whole = and(and(9 <= n, n <= 64), opening(suci) == 1);
+    check(and(network(home), whole), Answer::Range, Answer::Taken)
+}

@@ -1,0 +1,28 @@
+-- Each part is what its function ensures; the turns go to their sides. Assumes nothing.
+use Rattle.effects.specs.Effects.{t3247Effect}
+use Rattle.effects.specs.Effects.{sidesOf}
+use borrow.Author.Needs.{needs}
+use Rattle.effects.proofs.t3247_effect.Statement.{statement}
+use Rattle.effects.proofs.t3247_effect.Tie as tie
+
+still-requires : tie.Need-still-requires
+still-requires c κs = search needs
+
+still-requires-2 : tie.Need-still-requires-2
+still-requires-2 c κs = search needs
+
+work-of-requires : tie.Need-work-of-requires
+work-of-requires c κs = search needs
+
+side-requires : tie.Need-side-requires
+side-requires c κs = search needs
+
+side-requires-2 : tie.Need-side-requires-2
+side-requires-2 c κs = search needs
+
+returns : tie.Need-returns
+unfolding sidesOf t3247Effect
+returns c = rw (c .side2 .ensures, c .before .side .ensures, c .before .before .work-of .ensures, c .before .before .before .still2 .ensures, c .before .before .before .before .still .ensures)
+
+pub t3247-effect-spec : {M : Type 1} → statement M
+t3247-effect-spec = tie.close (tie.spec still-requires still-requires-2 work-of-requires side-requires side-requires-2 returns)

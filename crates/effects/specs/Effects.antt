@@ -1,0 +1,160 @@
+-- Effects of a taken event: numbers, timers, work on the arrays, requests. Assumes nothing.
+use Prim.Native.Nat.{ℕ}
+use mathlib.Core.Bool.{Bool, true, false, cond}
+use lib.Dec.{eqb}
+use Rattle.record.specs.Tests.{both}
+use Rattle.record.specs.declared.Device.{Device}
+use Rattle.record.specs.declared.Access.{Access}
+use Rattle.record.specs.declared.Hot.{Hot}
+use Rattle.messages.specs.declared.Accept.{Accept}
+use Rattle.turns.specs.declared.Order.{Order}
+use Rattle.turns.specs.declared.Order.the-variants.{Leave, Stop, Run}
+use Rattle.turns.specs.declared.Turn.{Turn}
+use Rattle.turns.specs.declared.Row.{Row}
+use Rattle.turns.specs.declared.Row.the-variants as row
+use Rattle.turns.specs.Timers.{flagAfter}
+use Rattle.turns.specs.Rows.{startsT3247, toRoaming, toRegional}
+use Rattle.turns.specs.Turns.{still, started, keySet, accepted, t3510Out, t3511Out, t3502Out, cycled, renewed, rowTurn, otherTurn}
+use Rattle.effects.specs.declared.Work.{Work}
+use Rattle.effects.specs.declared.Sides.{Sides}
+use Rattle.effects.specs.Kinds.{noDeed, banDeed, barDeed, acceptDeed, sweepDeed, powerDeed, freshDeed, noTask, putTask, sweepTask, clearTask, keepNothing, keepAccept, keepCard}
+use Rattle.record.specs.Sides.{accessOf, otherOf}
+
+-- a taken event: the device's numbers, the turn of its access and of the other one, T3247, the work, and whether a restart is asked
+pub record Effect : Type 0 where
+  pub dev : Device
+  pub mine : Turn
+  pub theirs : Turn
+  pub t3247 : Order
+  pub work : Work
+  pub restart : Bool
+
+-- the device's numbers with T3247 running or not
+unfoldable pub ticked : ℕ → Device → Device
+ticked t3247 d = record {
+  card = d .card;
+  home = d .home;
+  suci = d .suci;
+  cardlimit = d .cardlimit;
+  banlimit = d .banlimit;
+  n1limit = d .n1limit;
+  t3247 = t3247;
+  capability = d .capability;
+  security = d .security;
+  roaming = d .roaming;
+  regional = d .regional;
+}
+
+-- the device's numbers of a new record with the same limits and capabilities, and this card
+unfoldable pub carded : ℕ → ℕ → Device → Device
+carded home suci d = record {
+  card = 1;
+  home = home;
+  suci = suci;
+  cardlimit = d .cardlimit;
+  banlimit = d .banlimit;
+  n1limit = d .n1limit;
+  t3247 = d .t3247;
+  capability = d .capability;
+  security = d .security;
+  roaming = d .roaming;
+  regional = d .regional;
+}
+
+abbrev pub workOf : ℕ → ℕ → ℕ → ℕ → Work
+workOf deed roaming regional keep = record { deed = deed; roaming = roaming; regional = regional; keep = keep }
+
+-- nothing on the arrays
+abbrev pub idle : Work
+idle = workOf noDeed noTask noTask keepNothing
+
+-- an event of one access that touches no array and not T3247
+abbrev pub plain : Hot → ℕ → Turn → Bool → Effect
+plain h w t restart = record { dev = h .dev; mine = t; theirs = still (otherOf h w); t3247 = Leave; work = idle; restart = restart }
+
+-- Card change: a new record with the same limits and capabilities, this card, both states 1
+unfoldable pub cardEffect : Hot → ℕ → ℕ → Effect
+cardEffect h home suci = record { dev = carded home suci (h .dev); mine = renewed; theirs = renewed; t3247 = Stop; work = workOf freshDeed clearTask clearTask keepCard; restart = false }
+
+unfoldable pub startEffect : Hot → ℕ → ℕ → ℕ → Effect
+startEffect h w net code = plain h w (started net code (accessOf h w)) false
+
+unfoldable pub keyEffect : Hot → ℕ → ℕ → Effect
+keyEffect h w set = plain h w (keySet set (accessOf h w)) false
+
+-- Accept: T3502 length from the message, else 720 s; the network's forbidden mark on this access clears
+unfoldable pub acceptEffect : Hot → ℕ → Accept → Effect
+acceptEffect h w g = record {
+  dev = h .dev;
+  mine = accepted (g .given) (g .count) (cond (g .timed) (g .wait) 720) (accessOf h w);
+  theirs = still (otherOf h w);
+  t3247 = Leave;
+  work = workOf acceptDeed noTask noTask keepAccept;
+  restart = false;
+}
+
+-- T3510 out; T3511 out and T3502 out ask for a restart
+unfoldable pub clockEffect : Hot → ℕ → ℕ → Effect
+clockEffect h number w =
+    cond (eqb number 1) (plain h w (t3510Out (accessOf h w)) false)
+    (cond (eqb number 2) (plain h w (t3511Out (accessOf h w)) true)
+    (plain h w (t3502Out (accessOf h w)) true))
+
+-- T3247 out: stops; both accesses' entries and both lists are gone through
+unfoldable pub t3247Effect : Hot → Effect
+t3247Effect h = record { dev = h .dev; mine = still (h .a0); theirs = still (h .a1); t3247 = Stop; work = workOf sweepDeed sweepTask sweepTask keepNothing; restart = false }
+
+unfoldable pub timerEffect : Hot → ℕ → ℕ → Effect
+timerEffect h number w = cond (eqb number 4) (t3247Effect h) (clockEffect h number w)
+
+-- Power cycle
+unfoldable pub powerEffect : Hot → Effect
+powerEffect h = record {
+  dev = h .dev;
+  mine = cycled (h .dev .card) (h .a0);
+  theirs = cycled (h .dev .card) (h .a1);
+  t3247 = Stop;
+  work = workOf powerDeed clearTask clearTask keepNothing;
+  restart = false;
+}
+
+-- "Every taken unprotected one with cause 3, 6, 7, 11, 12, 13, 15, 27, 72 or 73 starts T3247 with the draw if not running; a running one keeps its time."
+unfoldable pub rejectT3247 : ℕ → ℕ → ℕ → ℕ → Order
+rejectT3247 t3247 sure cause draw = cond (both (eqb sure 0) (both (startsT3247 cause) (eqb t3247 0))) (Run draw) Leave
+
+-- the mark and the counter of the row: a ban, or N1 not allowed
+unfoldable pub rowDeed : Row → ℕ
+rowDeed row.CardBelow = noDeed
+rowDeed row.CardLimit = noDeed
+rowDeed row.CardProtected = noDeed
+rowDeed row.Away = banDeed
+rowDeed row.Home = noDeed
+rowDeed row.Area = noDeed
+rowDeed row.N1 = barDeed
+rowDeed row.Protocol = noDeed
+rowDeed row.Other = noDeed
+
+unfoldable pub rowWork : Row → ℕ → ℕ → Work
+rowWork r w cause = workOf (rowDeed r) (cond (toRoaming w cause r) putTask noTask) (cond (toRegional cause r) putTask noTask) keepNothing
+
+-- Reject, by its row
+unfoldable pub rejectEffect : Hot → ℕ → ℕ → ℕ → Bool → ℕ → Row → Effect
+rejectEffect h w sure draw found cause r = record {
+  dev = h .dev;
+  mine = rowTurn r w (h .dev .cardlimit) cause found (accessOf h w);
+  theirs = otherTurn r (h .dev .cardlimit) (otherOf h w);
+  t3247 = rejectT3247 (h .dev .t3247) sure cause draw;
+  work = rowWork r w cause;
+  restart = false;
+}
+
+-- the same sorted by access 0 and 1, for an event of access w: as the code has it
+unfoldable pub sidesOf : ℕ → Effect → Sides
+sidesOf w e = record {
+  dev = e .dev;
+  t0 = cond (eqb w 0) (e .mine) (e .theirs);
+  t1 = cond (eqb w 0) (e .theirs) (e .mine);
+  t3247 = e .t3247;
+  work = e .work;
+  restart = e .restart;
+}
