@@ -1,6 +1,6 @@
 -- An area list: an array of forty and a count, the oldest first; each element is twice the area, and one more where it is marked protected. Assumes nothing.
 use Prim.Native.Nat.{ℕ, _+_, _*_, _/_, _%_}
-use mathlib.Core.Bool.{Bool, true, false, cond}
+use mathlib.Core.Bool.{Bool, cond}
 use mathlib.Core.List.{List, [], _∷_, _++_}
 use lib.Dec.{ltb, eqb}
 use lib.ListN.{set, getD, take, drop, length, replicate}

@@ -19,7 +19,6 @@ ghost use lib.Dec.{eqb};
 ghost use lib.ListN.{getD};
 ghost use Rattle.record.specs.Tests.{both, flip};
 ghost use Rattle.record.specs.declared.Answer.the-variants as answer;
-ghost use Rattle.turns.specs.Rows.{isCard};
 ghost use Rattle.checks.specs.Answers as rules;
 
 fn check(passed: bool, refusal: Answer, rest: Answer) -> Answer

@@ -4,7 +4,6 @@ use mathlib.Core.Bool.{Bool, true, false, cond}
 use lib.Dec.{eqb}
 use Rattle.record.specs.Tests.{both}
 use Rattle.record.specs.declared.Device.{Device}
-use Rattle.record.specs.declared.Access.{Access}
 use Rattle.record.specs.declared.Hot.{Hot}
 use Rattle.messages.specs.declared.Accept.{Accept}
 use Rattle.turns.specs.declared.Order.{Order}
@@ -12,7 +11,6 @@ use Rattle.turns.specs.declared.Order.the-variants.{Leave, Stop, Run}
 use Rattle.turns.specs.declared.Turn.{Turn}
 use Rattle.turns.specs.declared.Row.{Row}
 use Rattle.turns.specs.declared.Row.the-variants as row
-use Rattle.turns.specs.Timers.{flagAfter}
 use Rattle.turns.specs.Rows.{startsT3247, toRoaming, toRegional}
 use Rattle.turns.specs.Turns.{still, started, keySet, accepted, t3510Out, t3511Out, t3502Out, cycled, renewed, rowTurn, otherTurn}
 use Rattle.effects.specs.declared.Work.{Work}

@@ -1,6 +1,6 @@
 -- The core and the step put together from what their calls ensure, over plain variables. Assumes nothing.
 use Prim.Native.Nat.{ℕ}
-use mathlib.Core.Path.{_≡_, refl, sym, ap, _∙_}
+use mathlib.Core.Path.{_≡_}
 use mathlib.Core.Bool.{Bool}
 use mathlib.Core.List.{List}
 use Rattle.entries.specs.declared.Entries.{Entries}

@@ -1,6 +1,6 @@
 -- What an event makes of each part of the record. Assumes nothing.
 use Prim.Native.Nat.{ℕ, zero, suc}
-use mathlib.Core.Bool.{Bool, true, false, cond}
+use mathlib.Core.Bool.{Bool, cond}
 use mathlib.Core.List.{List, [], _∷_}
 use lib.ListN.{length, getD, drop}
 use lib.Dec.{ltb, leb, eqb}
@@ -8,7 +8,6 @@ use Rattle.laws.specs.Upto.{copied}
 use Rattle.record.specs.Tests.{both, either}
 use Rattle.record.specs.Network.{networkOf}
 use Rattle.record.specs.New.{zeros}
-use Rattle.record.specs.declared.Device.{Device}
 use Rattle.record.specs.declared.Hot.{Hot}
 use Rattle.entries.specs.declared.Entries.{Entries}
 use Rattle.entries.specs.declared.Seen.{Seen}

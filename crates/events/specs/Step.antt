@@ -1,6 +1,6 @@
 -- An event on the record: test it, decide, carry out. Assumes nothing.
 use Prim.Native.Nat.{ℕ}
-use mathlib.Core.Bool.{Bool, true, false, cond}
+use mathlib.Core.Bool.{cond}
 use mathlib.Core.List.{List}
 use Rattle.record.specs.Valid.{validOf}
 use Rattle.record.specs.declared.Record.{Record}

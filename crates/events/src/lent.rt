@@ -12,7 +12,7 @@ ghost use mathlib.Core.Path.{_≡_};
 ghost use mathlib.Core.Bool.{cond, true, false};
 ghost use Rattle.entries.specs.Entries.{entriesOf};
 ghost use Rattle.areas.specs.Areas.{listAfter, countAfter};
-ghost use Rattle.events.specs.Parts.{seenBy, listedOf, plannedBy, mineOf, deedOf, tableAfter, taskOf, listed, partsOf, partsAfter};
+ghost use Rattle.events.specs.Parts.{seenBy, listedOf, plannedBy, deedOf, tableAfter, taskOf, listed, partsOf, partsAfter};
 
 fn or2(a: bool, b: bool) -> bool
     ensures { λ r. ⌜ r ≡ cond a true b ⌝ }

@@ -20,13 +20,12 @@ use Rattle.turns.specs.Timers.{flagAfter}
 use Rattle.turns.specs.Access.{clocked}
 use Rattle.turns.specs.Rows.{isCard, isNetworkNo, isAreaNo, isN1No, isProtocol, rowOf}
 use Rattle.turns.specs.Turns.{still, otherTurn}
-use Rattle.effects.specs.Effects.{Effect}
+use Rattle.effects.specs.Effects.{Effect, rowWork, rejectEffect}
 use Rattle.rules.specs.declared.Event.{Event}
 use Rattle.rules.specs.declared.Event.the-variants.{Message}
 use Rattle.rules.specs.declared.Plan.{Plan}
 use Rattle.record.specs.Sides.{accessOf, otherOf}
 use Rattle.checks.specs.Answers.{readAnswer, rowNow}
-use Rattle.effects.specs.Effects.{rowWork, rejectEffect}
 use Rattle.rules.specs.Plan.{heardOf, askOf, answerOf, messageEffect, effectOf, takenPlan}
 use Rattle.events.specs.Parts.{gutiAfter, equivalentsAfter}
 use Rattle.events.specs.Step.{stepOf}

@@ -25,12 +25,11 @@ use Rattle.turns.specs.Access.{moved, pending, keyed, taught}
 use Rattle.turns.specs.Rows.{needsEntry}
 use Rattle.turns.specs.Turns.{started, keySet, t3511Out, t3502Out, renewed}
 use Rattle.turns.specs.Turns as turns
-use Rattle.effects.specs.Effects.{Effect}
+use Rattle.effects.specs.Effects.{Effect, carded, cardEffect, startEffect, keyEffect, acceptEffect, clockEffect, t3247Effect, timerEffect, powerEffect, rejectEffect, rowDeed, rowWork}
 use Rattle.rules.specs.declared.Event.{Event}
 use Rattle.rules.specs.declared.Event.the-variants.{Card, Start, Message, Timer, Power, Key, Unknown}
 use Rattle.record.specs.Sides.{accessOf, otherOf}
 use Rattle.checks.specs.Answers.{rowNow, rejectAnswer, readAnswer, timerAnswer}
-use Rattle.effects.specs.Effects.{carded, cardEffect, startEffect, keyEffect, acceptEffect, clockEffect, t3247Effect, timerEffect, powerEffect, rejectEffect, rowDeed, rowWork}
 use Rattle.rules.specs.Plan.{heardOf, askOf, answerOf, messageEffect, effectOf}
 use Rattle.events.specs.Parts.{seenBy, seenOf, mineOf}
 use Rattle.validity.specs.Sized.{Columns}

@@ -1,7 +1,7 @@
 -- What runs ends in the record of the history: the replay's record after a log is that of the run over the log's events, and so are its counters and marks.
 -- The replay tests nothing; from a new record every record is valid, so the step is the advance. Assumes nothing.
 use Prim.Native.Nat.{ℕ, zero, suc, _+_, _*_, _<_}
-use mathlib.Core.Path.{_≡_, refl, ap, sym, _∙_}
+use mathlib.Core.Path.{_≡_, refl, ap, _∙_}
 use mathlib.Core.Bool.{Bool, true, false, cond}
 use native.Mathlib.Omega.{arith}
 use lib.Dec.{ltb, eqb}
@@ -17,7 +17,7 @@ use Rattle.log.specs.Log.{Log, over, bad, entry, pairAt, octetsOf, octetsIn, ev
 use Rattle.log.specs.Held.{endOf}
 use Rattle.log.specs.Replay.{bare}
 use Rattle.validity.specs.Sized.{Sized}
-use Rattle.validity.specs.Run.{Heard, Octets, AllOctets, runOf}
+use Rattle.validity.specs.Run.{Octets, AllOctets, runOf}
 use Rattle.validity.proofs.Kept.{step-advances, step-valid}
 use Rattle.validity.proofs.Sizes.{step-sized, made-sized}
 use Rattle.record.proofs.MadeValid.{made-valid}

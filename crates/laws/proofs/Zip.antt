@@ -6,7 +6,7 @@ use Prim.Native.Nat.{ℕ, zero, suc, _+_, _-_, _≤_, _<_}
 use native.Mathlib.Nat.{add-zero, add-suc, suc-add, zero-add}
 use native.Mathlib.Numerals.{add-one}
 use native.Mathlib.Omega.{arith}
-use lib.ListN.{length, getD, set, drop}
+use lib.ListN.{getD, set, drop}
 use Rattle.laws.specs.Upto.{upto, seekTo}
 
 at : (f : ℕ → ℕ → ℕ) (i : ℕ) (xs ys : List ℕ) (d : ℕ) → getD (upto f i xs ys) i d ≡ getD ys i d

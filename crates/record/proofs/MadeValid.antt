@@ -1,6 +1,6 @@
 -- A record made from any limits and capabilities is valid. It holds since bad ones make the smallest record, and good ones are the very ranges tested. Assumes nothing.
 use mathlib.Core.Path.{_≡_, refl}
-use mathlib.Core.Bool.{Bool, true, false, cond}
+use mathlib.Core.Bool.{Bool, true, false}
 use mathlib.Core.List.{List, [], _∷_}
 use Prim.Native.Nat.{ℕ}
 use native.Mathlib.Omega.{arith}
@@ -8,9 +8,8 @@ use borrow.Author.Tests.{le-leb}
 use lib.Dec.{leb}
 use lib.ListN.{length}
 use Rattle.laws.specs.Upto.{allTo, distinctTo}
-use Rattle.entries.specs.Entries.{none}
 use Rattle.entries.specs.declared.Entries.{Entries}
-use Rattle.record.specs.Tests.{both, within}
+use Rattle.record.specs.Tests.{within}
 use Rattle.record.specs.Network.{isNetwork}
 use Rattle.record.specs.New.{newDevice, newAccess, emptyRecord, newRecord, mayMake, madeOf}
 use Rattle.record.specs.Valid.{deviceRanges, modeRanges, identityRanges, heldRanges, accessRanges, rangesOf, countersOf, cardOf, suciOf, codesOf, clockOf, onceOf, validOf}

@@ -1,7 +1,7 @@
 -- Network codes: three octets, the first one highest, each of two halves. Assumes nothing.
 use Prim.Native.Nat.{ℕ, _+_, _*_, _/_, _%_}
-use mathlib.Core.Bool.{Bool, true, false, cond}
-use lib.Dec.{ltb, leb, eqb}
+use mathlib.Core.Bool.{Bool}
+use lib.Dec.{ltb, eqb}
 use Rattle.record.specs.Tests.{both, either, isShort}
 
 -- the half octet of weight w

@@ -1,6 +1,6 @@
 -- The two accesses of the record's numbers. Assumes nothing.
 use Prim.Native.Nat.{ℕ}
-use mathlib.Core.Bool.{Bool, true, false, cond}
+use mathlib.Core.Bool.{cond}
 use lib.Dec.{eqb}
 use Rattle.record.specs.declared.Device.{Device}
 use Rattle.record.specs.declared.Access.{Access}

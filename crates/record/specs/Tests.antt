@@ -1,7 +1,7 @@
 -- Tests and their joins. Assumes nothing.
 use Prim.Native.Nat.{ℕ}
 use mathlib.Core.Bool.{Bool, true, false, cond}
-use lib.Dec.{ltb, leb, eqb}
+use lib.Dec.{ltb, leb}
 
 abbrev pub both : Bool → Bool → Bool
 both a b = cond a b false

@@ -1,9 +1,9 @@
 -- A record handed in is answer 1 if it breaks one of these: document 01's list, in its order. Assumes nothing.
 use Prim.Native.Nat.{ℕ, _/_}
-use mathlib.Core.Bool.{Bool, true, false, cond}
+use mathlib.Core.Bool.{Bool}
 use mathlib.Core.List.{List}
 use lib.ListN.{getD}
-use lib.Dec.{ltb, leb, eqb}
+use lib.Dec.{ltb, eqb}
 use Rattle.laws.specs.Upto.{allTo, distinctTo}
 use Rattle.entries.specs.declared.Entries.{Entries}
 use Rattle.record.specs.Tests.{both, either, within, upTo, isFlag, isShort}

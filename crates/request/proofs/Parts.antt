@@ -13,8 +13,7 @@ use borrow.Author.Tests.{le-ltb, le-leb, ne-eqb}
 use Rattle.octets.specs.declared.Part.{Part}
 use Rattle.octets.specs.declared.Gathered.{Gathered}
 use Rattle.octets.specs.declared.Gathered.the-variants.{Whole}
-use Rattle.octets.specs.Element.{formatOf, leadOf, contentsOf, sizeOf, elementOf, joined, elementsOf, absent, keptOf, gatheredOf}
-use Rattle.octets.specs.Element.{Elements}
+use Rattle.octets.specs.Element.{formatOf, leadOf, contentsOf, sizeOf, elementOf, joined, elementsOf, absent, keptOf, gatheredOf, Elements}
 use Rattle.octets.specs.Element.Elements.{element}
 use Rattle.octets.proofs.Elements.{skip}
 use Rattle.request.specs.Layout.{lengthed, bare}

@@ -1,5 +1,4 @@
 -- Sorted by access or by whose event it is: the same plan. Each side of the event's access is one case. Assumes nothing.
-use Prim.Native.Nat.{ℕ}
 use mathlib.Core.Path.{_≡_, refl}
 use mathlib.Core.Bool.{Bool, true, false}
 use lib.Dec.{eqb}
@@ -8,9 +7,8 @@ use Rattle.entries.specs.declared.Seen.{Seen}
 use Rattle.messages.specs.declared.Reading.{Reading}
 use Rattle.rules.specs.declared.Ask.{Ask}
 use Rattle.record.specs.Sides.{hotOf}
-use Rattle.effects.specs.Effects.{Effect}
+use Rattle.effects.specs.Effects.{Effect, sidesOf}
 use Rattle.rules.specs.Plan.{hotAfter, takenReply, takenPlan}
-use Rattle.effects.specs.Effects.{sidesOf}
 use Rattle.rules.specs.Sides.{hotBy, replyBy, planBy}
 
 side : (h : Hot) (q : Ask) (s : Seen) (m : Reading) (e : Effect) (b : Bool) → eqb (q .access) 0 ≡ b

@@ -6,7 +6,6 @@ use lib.ListN.{length}
 use lib.Dec.{eqb}
 use Rattle.octets.specs.declared.Fault.the-variants.{Cut}
 use Rattle.record.specs.Answers.{isTaken}
-use Rattle.record.specs.declared.Access.{Access}
 use Rattle.record.specs.declared.Hot.{Hot}
 use Rattle.record.specs.declared.Answer.{Answer}
 use Rattle.record.specs.declared.Answer.the-variants as answer
@@ -16,9 +15,8 @@ use Rattle.messages.specs.declared.Reading.{Reading}
 use Rattle.messages.specs.declared.Reading.the-variants as reading
 use Rattle.messages.specs.Message.{readingOf}
 use Rattle.turns.specs.declared.Told.the-variants.{Left}
-use Rattle.turns.specs.declared.Orders.{Orders}
 use Rattle.turns.specs.declared.Clocks.{Clocks}
-use Rattle.turns.specs.Timers.{flagAfter, toldOf, quiet, clocksOf}
+use Rattle.turns.specs.Timers.{flagAfter, toldOf, clocksOf}
 use Rattle.turns.specs.Access.{clocked}
 use Rattle.turns.specs.Turns.{still}
 use Rattle.rules.specs.declared.Event.{Event}

@@ -39,7 +39,6 @@ ghost use mathlib.Core.Bool.{true, false};
 ghost use Prim.Native.Nat.{ℕ, _<_};
 ghost use lib.ListN.{length};
 ghost use Rattle.record.specs.Answers.{isTaken};
-ghost use Rattle.turns.specs.Timers.{flagAfter};
 ghost use Rattle.turns.specs.Access as sets;
 ghost use Rattle.turns.specs.Turns as events;
 ghost use Rattle.record.specs.Sides.{accessOf};

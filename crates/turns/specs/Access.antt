@@ -1,6 +1,6 @@
 -- What an event sets in an access's numbers: one setter for each group that document 01's rows name. Assumes nothing.
 use Prim.Native.Nat.{ℕ, _+_}
-use mathlib.Core.Bool.{Bool, true, false, cond}
+use mathlib.Core.Bool.{Bool, cond}
 use lib.Dec.{ltb}
 use Rattle.record.specs.declared.Access.{Access}
 use Rattle.turns.specs.declared.Orders.{Orders}

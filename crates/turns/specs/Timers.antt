@@ -1,6 +1,6 @@
 -- Timers: what an event orders, whether the timer then runs, and what the caller is told. Assumes nothing.
 use Prim.Native.Nat.{ℕ}
-use mathlib.Core.Bool.{Bool, true, false, cond}
+use mathlib.Core.Bool.{cond}
 use lib.Dec.{eqb}
 use Rattle.record.specs.declared.Access.{Access}
 use Rattle.turns.specs.declared.Order.{Order}

@@ -1,6 +1,6 @@
 -- What a taken event makes of an access: numbers and timers, in document 01's words and order. Assumes nothing.
 use Prim.Native.Nat.{ℕ, _+_}
-use mathlib.Core.Bool.{Bool, true, false, cond}
+use mathlib.Core.Bool.{Bool, cond}
 use lib.Dec.{ltb, eqb}
 use Rattle.record.specs.declared.Access.{Access}
 use Rattle.record.specs.New.{newAccess}

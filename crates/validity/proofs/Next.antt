@@ -17,8 +17,7 @@ use Rattle.turns.specs.declared.Order.{Order}
 use Rattle.turns.specs.declared.Turn.{Turn}
 use Rattle.turns.specs.Timers.{flagAfter}
 use Rattle.rules.specs.declared.Plan.{Plan}
-use Rattle.effects.specs.Effects.{Effect}
-use Rattle.effects.specs.Effects.{ticked, workOf}
+use Rattle.effects.specs.Effects.{Effect, ticked, workOf}
 use Rattle.record.specs.Sides.{hotOf}
 use Rattle.rules.specs.Plan.{askAt, hotAfter, takenPlan}
 use Rattle.events.specs.Parts.{mineOf, tableAfter, taskOf, listed, doneOf, carriedOut, isAccepted, isCarded, equivalentsAfter, suciAfter, keptAfter}

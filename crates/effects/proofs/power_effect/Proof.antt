@@ -1,6 +1,5 @@
 -- Each part is what its function ensures; it has no access of its own, so that access 0's turn comes first. Assumes nothing.
-use Rattle.effects.specs.Effects.{powerEffect}
-use Rattle.effects.specs.Effects.{sidesOf}
+use Rattle.effects.specs.Effects.{powerEffect, sidesOf}
 use borrow.Author.Needs.{needs}
 use Rattle.effects.proofs.power_effect.Statement.{statement}
 use Rattle.effects.proofs.power_effect.Tie as tie

@@ -1,6 +1,5 @@
 -- Each part is what its function ensures; the turns go to their sides. Assumes nothing.
-use Rattle.effects.specs.Effects.{rejectEffect}
-use Rattle.effects.specs.Effects.{sidesOf}
+use Rattle.effects.specs.Effects.{rejectEffect, sidesOf}
 use borrow.Author.Needs.{needs}
 use Rattle.effects.proofs.reject_effect.Statement.{statement}
 use Rattle.effects.proofs.reject_effect.Tie as tie

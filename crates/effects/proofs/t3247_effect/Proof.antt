@@ -1,6 +1,5 @@
 -- Each part is what its function ensures; the turns go to their sides. Assumes nothing.
-use Rattle.effects.specs.Effects.{t3247Effect}
-use Rattle.effects.specs.Effects.{sidesOf}
+use Rattle.effects.specs.Effects.{t3247Effect, sidesOf}
 use borrow.Author.Needs.{needs}
 use Rattle.effects.proofs.t3247_effect.Statement.{statement}
 use Rattle.effects.proofs.t3247_effect.Tie as tie

@@ -1,5 +1,5 @@
 -- Limits and capabilities that pass the test fit the record; others make the smallest. Assumes nothing.
-use mathlib.Core.Path.{_≡_, sym, _∙_}
+use mathlib.Core.Path.{sym, _∙_}
 use borrow.Author.Needs.{needs}
 use Rattle.record.proofs.Bounds.{sized, made, refused}
 use Rattle.record.proofs.new.fresh.Statement.{statement}
