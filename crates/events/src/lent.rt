@@ -5,6 +5,8 @@ use entries::Deed;
 use entries::Seen;
 use record::Device;
 use record::Hot;
+use record::or;
+use record::pick;
 use rules::Ask;
 use rules::Event;
 use rules::Plan;
@@ -13,18 +15,6 @@ ghost use mathlib.Core.Bool.{cond, true, false};
 ghost use Rattle.entries.specs.Entries.{entriesOf};
 ghost use Rattle.areas.specs.Areas.{listAfter, countAfter};
 ghost use Rattle.events.specs.Parts.{seenBy, listedOf, plannedBy, deedOf, tableAfter, taskOf, listed, partsOf, partsAfter};
-
-fn or2(a: bool, b: bool) -> bool
-    ensures { λ r. ⌜ r ≡ cond a true b ⌝ }
-{
-    if a { true } else { b }
-}
-
-fn pick(a: bool, x: u8, y: u8) -> u8
-    ensures { λ r. ⌜ r ≡ cond a x y ⌝ }
-{
-    if a { x } else { y }
-}
 
 fn see(
     q: Ask,
@@ -69,7 +59,7 @@ fn decide(h: Hot, e: Event, octets: &[u8], s: Seen, l: bool) -> Plan
 fn deed(p: Plan, me: u8) -> Deed
     ensures { λ r. ⌜ r ≡ deedOf p me ⌝ }
 {
-    let both = or2(entries::SWEEP <= p.work.deed, p.ask.access == me);
+    let both = or(entries::SWEEP <= p.work.deed, p.ask.access == me);
     let kind = pick(both, p.work.deed, 0);
     Deed {
         kind: kind,

@@ -4,6 +4,7 @@ mod lent;
 mod value;
 
 pub use held::keep;
+pub use held::tail;
 pub use lent::core;
 use record::Hot;
 use record::Record;

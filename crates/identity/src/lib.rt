@@ -1,18 +1,13 @@
 // The identity that a request opens with, handed back as a part of what held it.
+use octets::word;
 use record::and;
 ghost use mathlib.Core.Path.{_≡_};
-ghost use Prim.Native.Nat.{_<_, _≤_};
+ghost use Prim.Native.Nat.{_≤_};
 ghost use lib.ListN.{length};
 ghost use lib.Dec.{eqb};
 ghost use denote.Ref.{ptr};
 ghost use Rattle.laws.specs.Upto.{seekTo};
 ghost use Rattle.identity.specs.Identity.{gutiNet, isPending, sizeOf, isAmong, isEquivalent, firstOf, orderOf, slotOf, partAt, identityOf};
-
-fn word(x: u8) -> u32
-    ensures { λ r. ⌜ (r ≡ x) × (r < 256) ⌝ }
-{
-    x as u32
-}
 
 // The network of the GUTI of an access: three octets behind its F2.
 fn net(gutis: &[u8], slot: usize) -> u32

@@ -8,6 +8,8 @@ ghost use Rattle.messages.specs.Message.{gutiOf, countOf, waitOf, timedO
 use octets::Fault;
 use octets::Gathered;
 use octets::Part;
+use octets::wide;
+use octets::word;
 use timers::Span;
 
 // Offsets are in the message; what is absent is 0 there.
@@ -29,18 +31,6 @@ pub enum Reading {
     Accept(Accept),
     Reject(u8),
     Bad(Fault, usize),
-}
-
-fn wide(x: u8) -> usize
-    ensures { λ r. ⌜ (r ≡ x) × (r < 256) ⌝ }
-{
-    x as usize
-}
-
-fn word(x: u8) -> u32
-    ensures { λ r. ⌜ (r ≡ x) × (r < 256) ⌝ }
-{
-    x as u32
 }
 
 // The octet at a place, 0 past the end.

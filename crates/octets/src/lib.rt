@@ -41,10 +41,17 @@ pub enum Gathered {
     Whole(Part, Part, Part),
 }
 
-fn wide(x: u8) -> usize
+// An octet as a wider number.
+pub fn wide(x: u8) -> usize
     ensures { λ r. ⌜ (r ≡ x) × (r < 256) ⌝ }
 {
     x as usize
+}
+
+pub fn word(x: u8) -> u32
+    ensures { λ r. ⌜ (r ≡ x) × (r < 256) ⌝ }
+{
+    x as u32
 }
 
 pub fn format(id: u8) -> u8

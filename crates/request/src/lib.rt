@@ -3,7 +3,6 @@ use octets::Fault;
 use octets::Part;
 use record::Answer;
 
-mod places;
 mod reading;
 mod writing;
 

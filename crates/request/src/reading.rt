@@ -1,11 +1,11 @@
 // The reading of a request.
 use crate::Asking;
 use crate::Request;
-use crate::places::octet;
-use crate::places::wide;
+use messages::octet;
 use octets::Fault;
 use octets::Gathered;
 use octets::Part;
+use octets::wide;
 use record::and;
 use record::or;
 ghost use mathlib.Core.Path.{_≡_};

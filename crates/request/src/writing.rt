@@ -1,7 +1,7 @@
 // The writing of a request, piece behind piece, into a lent buffer.
 use crate::Written;
-use crate::places::wide;
 use identity::choose;
+use octets::wide;
 use record::Access;
 use record::Answer;
 use record::Device;

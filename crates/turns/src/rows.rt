@@ -1,52 +1,43 @@
 // The table of rejects: which row a reject falls under, and what the row says of lists and of T3247.
 use crate::Row;
+use record::and;
+use record::not;
+use record::or;
 ghost use mathlib.Core.Path.{_≡_};
 ghost use mathlib.Core.Bool.{cond, true, false};
 ghost use lib.Dec.{eqb};
 ghost use Rattle.turns.specs.Rows.{isCard, isNetworkNo, isAreaNo, isN1No, isProtocol, rowOf, startsT3247, needsEntry, toRoaming, toRegional};
 ghost use Rattle.turns.specs.declared.Row.the-variants.{CardBelow, CardLimit, CardProtected, Away, Home, Area, N1, Protocol, Other};
 
-fn or2(a: bool, b: bool) -> bool
-    ensures { λ r. ⌜ r ≡ cond a true b ⌝ }
-{
-    if a { true } else { b }
-}
-
-fn and2(a: bool, b: bool) -> bool
-    ensures { λ r. ⌜ r ≡ cond a b false ⌝ }
-{
-    if a { b } else { false }
-}
-
 pub fn is_card(cause: u8) -> bool
     ensures { λ r. ⌜ r ≡ isCard cause ⌝ }
 {
-    or2(cause == 3, or2(cause == 6, cause == 7))
+    or(cause == 3, or(cause == 6, cause == 7))
 }
 
 fn is_network_no(cause: u8) -> bool
     ensures { λ r. ⌜ r ≡ isNetworkNo cause ⌝ }
 {
-    or2(cause == 11, cause == 73)
+    or(cause == 11, cause == 73)
 }
 
 fn is_area_no(cause: u8) -> bool
     ensures { λ r. ⌜ r ≡ isAreaNo cause ⌝ }
 {
-    or2(cause == 12, or2(cause == 13, cause == 15))
+    or(cause == 12, or(cause == 13, cause == 15))
 }
 
 fn is_n1_no(w: u8, cause: u8) -> bool
     ensures { λ r. ⌜ r ≡ isN1No w cause ⌝ }
 {
-    or2(cause == 27, and2(cause == 72, w == 1))
+    or(cause == 27, and(cause == 72, w == 1))
 }
 
 fn is_protocol(cause: u8) -> bool
     ensures { λ r. ⌜ r ≡ isProtocol cause ⌝ }
 {
-    let last = or2(cause == 97, or2(cause == 99, cause == 111));
-    or2(cause == 95, or2(cause == 96, last))
+    let last = or(cause == 97, or(cause == 99, cause == 111));
+    or(cause == 95, or(cause == 96, last))
 }
 
 fn card_row(bare: bool, below: bool) -> Row
@@ -98,7 +89,7 @@ fn chosen(first: bool, a: Row, second: bool, b: Row, c: Row) -> Row
 fn further(w: u8, cause: u8) -> Row
     ensures { λ r. ⌜ r ≡ cond (cond (isAreaNo cause) (eqb w 0) false) Area (cond (isN1No w cause) N1 (cond (isProtocol cause) Protocol Other)) ⌝ }
 {
-    let area = and2(is_area_no(cause), w == 0);
+    let area = and(is_area_no(cause), w == 0);
     further_row(area, is_n1_no(w, cause), is_protocol(cause))
 }
 
@@ -114,8 +105,8 @@ pub fn row_of(w: u8, bare: bool, home: bool, below: bool, cause: u8) -> Row
 pub fn starts_t3247(cause: u8) -> bool
     ensures { λ r. ⌜ r ≡ startsT3247 cause ⌝ }
 {
-    let rest = or2(is_area_no(cause), or2(cause == 27, cause == 72));
-    or2(is_card(cause), or2(is_network_no(cause), rest))
+    let rest = or(is_area_no(cause), or(cause == 27, cause == 72));
+    or(is_card(cause), or(is_network_no(cause), rest))
 }
 
 pub fn needs_entry(row: Row) -> bool
@@ -132,12 +123,6 @@ pub fn needs_entry(row: Row) -> bool
         Row::Protocol => false,
         Row::Other => false,
     }
-}
-
-fn not(a: bool) -> bool
-    ensures { λ r. ⌜ r ≡ cond a false true ⌝ }
-{
-    if a { false } else { true }
 }
 
 pub fn to_roaming(w: u8, cause: u8, row: Row) -> bool

@@ -13,6 +13,7 @@ use crate::access::pending;
 use crate::access::taught;
 use record::Access;
 use record::new_access;
+use record::pick;
 ghost use mathlib.Core.Path.{_≡_};
 ghost use mathlib.Core.Bool.{cond};
 ghost use Rattle.turns.specs.declared.Order.the-variants.{Leave, Stop, Run};
@@ -116,12 +117,6 @@ pub fn t3502_out(a: Access) -> Turn
 {
     let b = moved(a.state, a.status, 0, a);
     timed(b, Order::Leave, Order::Leave, Order::Stop)
-}
-
-fn pick(first: bool, x: u8, y: u8) -> u8
-    ensures { λ r. ⌜ r ≡ cond first x y ⌝ }
-{
-    if first { x } else { y }
 }
 
 // Power cycle.

@@ -9,8 +9,8 @@ returns : tie.Need-returns
 unfolding equivalentsAfter
 returns c = rw (eq-eqb _ _ (c .before .if1 .taken))
 
-and2-requires : tie.Need-and2-requires
-and2-requires c κs = search needs
+and-requires : tie.Need-and-requires
+and-requires c κs = search needs
 
 fit15-requires : tie.Need-fit15-requires
 fit15-requires c κs = search needs
@@ -23,18 +23,18 @@ copy-equivalents-requires c κs = search needs
 
 returns-2 : tie.Need-returns-2
 unfolding equivalentsAfter
-returns-2 c = rw (ne-eqb _ _ (c .before .before .before .before .before .before .before .before .if1 .left), ← c .before .before .before .before .before .and2 .ensures, c .before .before .before .before .if2 .taken, ← c .before .before .before .fit15 .ensures .0, ← c .before .before .tail .ensures) (c .copy-equivalents .ensures)
+returns-2 c = rw (ne-eqb _ _ (c .before .before .before .before .before .before .before .before .if1 .left), ← c .before .before .before .before .before .and .ensures, c .before .before .before .before .if2 .taken, ← c .before .before .before .fit15 .ensures .0, ← c .before .before .tail .ensures) (c .copy-equivalents .ensures)
 
 returns-3 : tie.Need-returns-3
 unfolding equivalentsAfter
-returns-3 c = rw (ne-eqb _ _ (c .before .before .before .before .if1 .left), ← c .before .and2 .ensures, c .if2 .left)
+returns-3 c = rw (ne-eqb _ _ (c .before .before .before .before .if1 .left), ← c .before .and .ensures, c .if2 .left)
 
 pub equivalents-spec : {M : Type 1} → statement M
 equivalents-spec =
     tie.close
     (tie.spec
     returns
-    and2-requires
+    and-requires
     fit15-requires
     tail-requires
     copy-equivalents-requires

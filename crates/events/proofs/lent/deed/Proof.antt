@@ -4,15 +4,15 @@ use Rattle.events.specs.Parts.{deedOf, mineOf}
 use Rattle.events.proofs.lent.deed.Statement.{statement}
 use Rattle.events.proofs.lent.deed.Tie as tie
 
-or2-requires : tie.Need-or2-requires
-or2-requires c κs = search needs
+or-requires : tie.Need-or-requires
+or-requires c κs = search needs
 
 pick-requires : tie.Need-pick-requires
 pick-requires c κs = search needs
 
 returns : tie.Need-returns
 unfolding deedOf mineOf
-returns c = rw (c .pick .ensures, c .before .or2 .ensures)
+returns c = rw (c .pick .ensures, c .before .or .ensures)
 
 pub deed-spec : {M : Type 1} → statement M
-deed-spec = tie.close (tie.spec or2-requires pick-requires returns)
+deed-spec = tie.close (tie.spec or-requires pick-requires returns)

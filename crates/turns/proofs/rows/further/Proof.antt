@@ -6,8 +6,8 @@ use Rattle.turns.proofs.rows.further.Tie as tie
 is-area-no-requires : tie.Need-is-area-no-requires
 is-area-no-requires c κs = search needs
 
-and2-requires : tie.Need-and2-requires
-and2-requires c κs = search needs
+and-requires : tie.Need-and-requires
+and-requires c κs = search needs
 
 is-n1-no-requires : tie.Need-is-n1-no-requires
 is-n1-no-requires c κs = search needs
@@ -26,7 +26,7 @@ further-spec =
     tie.close
     (tie.spec
     is-area-no-requires
-    and2-requires
+    and-requires
     is-n1-no-requires
     is-protocol-requires
     further-row-requires

@@ -4,17 +4,17 @@ use borrow.Author.Needs.{needs}
 use Rattle.turns.proofs.rows.is_protocol.Statement.{statement}
 use Rattle.turns.proofs.rows.is_protocol.Tie as tie
 
-or2-requires : tie.Need-or2-requires
-or2-requires c κs = search needs
+or-requires : tie.Need-or-requires
+or-requires c κs = search needs
 
-or2-requires-2 : tie.Need-or2-requires-2
-or2-requires-2 c κs = search needs
+or-requires-2 : tie.Need-or-requires-2
+or-requires-2 c κs = search needs
 
-or2-requires-3 : tie.Need-or2-requires-3
-or2-requires-3 c κs = search needs
+or-requires-3 : tie.Need-or-requires-3
+or-requires-3 c κs = search needs
 
-or2-requires-4 : tie.Need-or2-requires-4
-or2-requires-4 c κs = search needs
+or-requires-4 : tie.Need-or-requires-4
+or-requires-4 c κs = search needs
 
 returns : tie.Need-returns
 unfolding isProtocol
@@ -22,4 +22,4 @@ returns c = cc
 
 pub is-protocol-spec : {M : Type 1} → statement M
 is-protocol-spec =
-    tie.close (tie.spec or2-requires or2-requires-2 or2-requires-3 or2-requires-4 returns)
+    tie.close (tie.spec or-requires or-requires-2 or-requires-3 or-requires-4 returns)

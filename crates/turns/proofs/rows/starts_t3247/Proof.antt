@@ -7,11 +7,11 @@ use Rattle.turns.proofs.rows.starts_t3247.Tie as tie
 is-area-no-requires : tie.Need-is-area-no-requires
 is-area-no-requires c κs = search needs
 
-or2-requires : tie.Need-or2-requires
-or2-requires c κs = search needs
+or-requires : tie.Need-or-requires
+or-requires c κs = search needs
 
-or2-requires-2 : tie.Need-or2-requires-2
-or2-requires-2 c κs = search needs
+or-requires-2 : tie.Need-or-requires-2
+or-requires-2 c κs = search needs
 
 is-card-requires : tie.Need-is-card-requires
 is-card-requires c κs = search needs
@@ -19,11 +19,11 @@ is-card-requires c κs = search needs
 is-network-no-requires : tie.Need-is-network-no-requires
 is-network-no-requires c κs = search needs
 
-or2-requires-3 : tie.Need-or2-requires-3
-or2-requires-3 c κs = search needs
+or-requires-3 : tie.Need-or-requires-3
+or-requires-3 c κs = search needs
 
-or2-requires-4 : tie.Need-or2-requires-4
-or2-requires-4 c κs = search needs
+or-requires-4 : tie.Need-or-requires-4
+or-requires-4 c κs = search needs
 
 returns : tie.Need-returns
 unfolding startsT3247
@@ -34,10 +34,10 @@ starts-t3247-spec =
     tie.close
     (tie.spec
     is-area-no-requires
-    or2-requires
-    or2-requires-2
+    or-requires
+    or-requires-2
     is-card-requires
     is-network-no-requires
-    or2-requires-3
-    or2-requires-4
+    or-requires-3
+    or-requires-4
     returns)
