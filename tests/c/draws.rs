@@ -49,8 +49,8 @@ impl Draw {
         }
     }
 
-    fn octets(&mut self, end: u32) -> Vec<u8> {
-        let mut all = vec![0; self.below(end) as usize];
+    fn octets(&mut self, len: u32) -> Vec<u8> {
+        let mut all = vec![0; len as usize];
         self.scatter(&mut all);
         all
     }
@@ -70,7 +70,8 @@ impl Draw {
     }
 
     fn request(&mut self, record: CRecord, access: u8) -> Ask {
-        let buffer = self.octets(BUFFER + 1);
+        let len = self.below(BUFFER + 1);
+        let buffer = self.octets(len);
         Ask { small: [access, 0, 0], arrays: [buffer, vec![]], ..self.ask(REQUEST, record) }
     }
 }
@@ -79,20 +80,16 @@ fn number([a, b, c]: [u8; 3]) -> u32 {
     u32::from_be_bytes([0, a, b, c])
 }
 
-/// A new record over random octets; about one in six has something out of its range.
+/// A new record over random octets. One limit in eight, and the lengths of one in four, are about the ends of their range.
 pub fn opening(d: &mut Draw) -> Ask {
     let mut record = CRecord::zero();
     d.scatter(record.octets_mut());
-    let mut small = [0; 3].map(|_| 1 + d.octet(10));
-    let mut arrays = [d.octets(14), d.octets(9)];
-    if d.below(8) == 0 {
-        small[d.below(3) as usize] = d.octet(256);
-    } else if arrays[0].is_empty() || arrays[1].len() < 2 {
-        arrays = [vec![1; 13], vec![2; 8]];
-    }
-    if d.below(20) == 0 {
-        arrays[d.below(2) as usize] = d.octets(30);
-    }
+    let small = [0; 3].map(|_| if d.below(8) == 0 { [0, 1, 10, 11, d.octet(256)][d.below(5) as usize] } else { 1 + d.octet(10) });
+    let lens = match d.below(4) {
+        0 => [[0, 1, 13, 14][d.below(4) as usize], [0, 1, 2, 8, 9][d.below(5) as usize]],
+        _ => [1 + d.below(13), 2 + d.below(7)],
+    };
+    let arrays = lens.map(|len| d.octets(len));
     Ask { small, arrays, ..d.ask(NEW, record) }
 }
 
@@ -113,14 +110,20 @@ fn event(d: &mut Draw) -> (u32, Vec<u8>) {
         2 | 3 => (4, vec![1 + d.octet(4), access]),
         4 => (3, accept.to_vec()),
         5 => (3, [&accept[..], &guti].concat()),
-        6 => (3, [&[access, sure, 0x08, 0x07, 0x7E, 0x00, 0x42 + 2 * sure][..], &d.octets(24)].concat()),
+        6 => (3, [&[access, sure, 0x08, 0x07, 0x7E, 0x00, 0x42 + 2 * sure][..], &d.octets(any as u32 % 24)].concat()),
         7..=9 => (3, vec![access, sure, 0x08, 0x07, 0x7E, 0x00, 0x44, cause]),
         _ => (2, vec![access, sure, n1, n2, n3, 0x00, 0x00, any & 15]),
     }
 }
 
+/// Any octets as a body; or a right one whose kind has a high bit too.
 fn wild(d: &mut Draw) -> (u32, Vec<u8>) {
-    (if d.below(16) == 0 { d.next() } else { d.below(9) }, d.octets(BODY + 1))
+    if d.below(8) == 0 {
+        let (kind, body) = event(d);
+        return (kind | 1 << (8 + d.below(24)), body);
+    }
+    let (kind, len) = (d.below(9), d.below(BODY + 1));
+    (kind, d.octets(len))
 }
 
 /// The record with a card, any state, any timers and its lists up to full, numbers often at their ends: valid where `live` is.
