@@ -21,10 +21,10 @@ uint32_t reject_cause(const uint8_t *msg, size_t len);
 /* The seconds of a timer octet (GPRS timer 2), 0 to 11160; 65535 for top bits 7, deactivated. */
 uint32_t timer_seconds(uint8_t octet);
 
-/* The device's numbers. A flag is 0 or 1; lengths and counts say how much of an array is in use. */
+/* The device's numbers, here and below the widest first. A flag is 0 or 1; lengths and counts say how much of an array is in use. */
 struct tjernfaug_device {
-    uint8_t card;
     uint32_t home;
+    uint8_t card;
     uint8_t suci;
     uint8_t cardlimit;
     uint8_t banlimit;
@@ -38,6 +38,11 @@ struct tjernfaug_device {
 
 /* One access's numbers. A network and an area code are three octets, the first one highest. */
 struct tjernfaug_access {
+    uint32_t net;
+    uint32_t code;
+    uint32_t lastnet;
+    uint32_t lastcode;
+    uint16_t wait;
     uint8_t state;
     uint8_t status;
     uint8_t attempts;
@@ -45,13 +50,8 @@ struct tjernfaug_access {
     uint8_t t3510;
     uint8_t t3511;
     uint8_t t3502;
-    uint16_t wait;
-    uint32_t net;
-    uint32_t code;
     uint8_t guti;
     uint8_t visited;
-    uint32_t lastnet;
-    uint32_t lastcode;
     uint8_t ksi;
     uint8_t equivalents;
     uint8_t entries;
@@ -113,8 +113,8 @@ struct tjernfaug_notice {
     uint32_t update;
 };
 
-/* The library's layout on x86-64; tests/c/fuzz.c holds the library to it. */
-_Static_assert(sizeof(struct tjernfaug_record) == 1224, "the record's size");
+/* The library's layout on x86-64; tests/c/run holds the library to it. */
+_Static_assert(sizeof(struct tjernfaug_record) == 1208, "the record's size");
 _Static_assert(_Alignof(struct tjernfaug_record) == 8, "the record's alignment");
 _Static_assert(sizeof(struct tjernfaug_notice) == 68, "the notice's size");
 _Static_assert(_Alignof(struct tjernfaug_notice) == 4, "the notice's alignment");

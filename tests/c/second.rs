@@ -1,80 +1,94 @@
-// The second program of docs/src behind the C interface, for fuzz.c to compare with. It takes valid records only.
-#![allow(dead_code)]
-#[path = "../../docs/src/log.rs"]
-mod log;
-#[path = "../../docs/src/message.rs"]
-mod message;
-#[path = "../../docs/src/record.rs"]
-mod record;
-#[path = "../../docs/src/request.rs"]
-mod request;
+// The second program of docs/src on records as the C side sends them. It takes valid records only.
+use crate::record::{Access, Areas, Change, Entry, Limits, List, Listed, Record, Reply, RANGE, T3247, T3502, T3510, T3511};
+use crate::{log, request};
 
-use record::{Access, Areas, Change, Entry, Limits, List, Listed, Record, Reply, T3247, T3502, T3510, T3511};
-
-// The structs of include/tjernfaug.h.
-#[repr(C)]
+// The structs of include/tjernfaug.h without their gaps.
+#[repr(C, packed)]
+#[derive(Clone, Copy)]
 pub struct CDevice {
-    card: u8,
-    home: u32,
-    suci: u8,
-    limits: [u8; 3],
-    t3247: u8,
-    capability: u8,
-    security: u8,
-    roaming: u8,
-    regional: u8,
+    pub home: u32,
+    pub card: u8,
+    pub suci: u8,
+    pub limits: [u8; 3],
+    pub t3247: u8,
+    pub capability: u8,
+    pub security: u8,
+    pub roaming: u8,
+    pub regional: u8,
 }
 
-#[repr(C)]
+#[repr(C, packed)]
+#[derive(Clone, Copy)]
 pub struct CAccess {
-    state: u8,
-    status: u8,
-    attempts: u8,
-    cards: u8,
-    t3510: u8,
-    t3511: u8,
-    t3502: u8,
-    wait: u16,
-    net: u32,
-    code: u32,
-    guti: u8,
-    visited: u8,
-    lastnet: u32,
-    lastcode: u32,
-    ksi: u8,
-    equivalents: u8,
-    entries: u8,
+    pub net: u32,
+    pub code: u32,
+    pub lastnet: u32,
+    pub lastcode: u32,
+    pub wait: u16,
+    pub state: u8,
+    pub status: u8,
+    pub attempts: u8,
+    pub cards: u8,
+    pub t3510: u8,
+    pub t3511: u8,
+    pub t3502: u8,
+    pub guti: u8,
+    pub visited: u8,
+    pub ksi: u8,
+    pub equivalents: u8,
+    pub entries: u8,
 }
 
-#[repr(C)]
+#[repr(C, packed)]
+#[derive(Clone, Copy)]
 pub struct CEntries {
-    nets: [u32; 16],
-    bans: [u8; 16],
-    n1s: [u8; 16],
-    forbidden: [u8; 16],
-    barred: [u8; 16],
+    pub nets: [u32; 16],
+    pub bans: [u8; 16],
+    pub n1s: [u8; 16],
+    pub forbidden: [u8; 16],
+    pub barred: [u8; 16],
 }
 
-#[repr(C)]
+#[repr(C, packed)]
+#[derive(Clone, Copy)]
 pub struct CRecord {
-    dev: CDevice,
-    access: [CAccess; 2],
-    entries: [CEntries; 2],
-    roaming: [u64; 40],
-    regional: [u64; 40],
-    guti: [[u8; 10]; 2],
-    equivalents: [[u32; 15]; 2],
-    suci: [u8; 64],
-    capability: [u8; 13],
-    security: [u8; 8],
+    pub dev: CDevice,
+    pub access: [CAccess; 2],
+    pub entries: [CEntries; 2],
+    pub roaming: [u64; 40],
+    pub regional: [u64; 40],
+    pub guti: [[u8; 10]; 2],
+    pub equivalents: [[u32; 15]; 2],
+    pub suci: [u8; 64],
+    pub capability: [u8; 13],
+    pub security: [u8; 8],
 }
 
-#[repr(C)]
+#[repr(C, packed)]
+#[derive(Clone, Copy)]
 pub struct CNotice {
-    clocks: [[[u32; 2]; 3]; 2],
-    t3247: [u32; 2],
-    requests: [u32; 3],
+    pub clocks: [[[u32; 2]; 3]; 2],
+    pub t3247: [u32; 2],
+    pub requests: [u32; 3],
 }
+
+/// Numbers and arrays of numbers with no gap between them, so that they are octets and any octets are they.
+pub unsafe trait Plain: Copy {
+    fn zero() -> Self {
+        unsafe { std::mem::zeroed() }
+    }
+
+    fn octets(&self) -> &[u8] {
+        unsafe { std::slice::from_raw_parts((self as *const Self).cast(), size_of::<Self>()) }
+    }
+
+    fn octets_mut(&mut self) -> &mut [u8] {
+        unsafe { std::slice::from_raw_parts_mut((self as *mut Self).cast(), size_of::<Self>()) }
+    }
+}
+
+unsafe impl Plain for CRecord {}
+unsafe impl Plain for CNotice {}
 
 fn triple(n: u32) -> [u8; 3] {
     let [_, a, b, c] = n.to_be_bytes();
@@ -114,14 +128,14 @@ fn padded<const N: usize>(octets: &[u8]) -> [u8; N] {
 }
 
 fn access_in(r: &CRecord, i: usize) -> Access {
-    let (a, e) = (&r.access[i], &r.entries[i]);
+    let (a, e) = (r.access[i], r.entries[i]);
     let mut entries = List::new();
     for j in 0..a.entries as usize {
         entries.push(Entry { network: triple(e.nets[j]), ban: e.bans[j], n1: e.n1s[j], forbidden: e.forbidden[j] == 1, n1_barred: e.barred[j] == 1 });
     }
     let mut equivalents = List::new();
-    for &net in &r.equivalents[i][..a.equivalents as usize] {
-        equivalents.push(triple(net));
+    for j in 0..a.equivalents as usize {
+        equivalents.push(triple(r.equivalents[i][j]));
     }
     Access {
         state: a.state,
@@ -142,7 +156,7 @@ fn access_in(r: &CRecord, i: usize) -> Access {
 }
 
 fn record_in(r: &CRecord) -> Record {
-    let d = &r.dev;
+    let (d, roaming, regional) = (r.dev, r.roaming, r.regional);
     let suci = if d.card == 1 { &r.suci[..d.suci as usize] } else { &[] };
     Record {
         card: d.card == 1,
@@ -152,8 +166,8 @@ fn record_in(r: &CRecord) -> Record {
         capability: List::of(&r.capability[..d.capability as usize]),
         security: List::of(&r.security[..d.security as usize]),
         t3247: d.t3247 == 1,
-        roaming: areas(&r.roaming[..d.roaming as usize]),
-        regional: areas(&r.regional[..d.regional as usize]),
+        roaming: areas(&roaming[..d.roaming as usize]),
+        regional: areas(&regional[..d.regional as usize]),
         access: [access_in(r, 0), access_in(r, 1)],
     }
 }
@@ -241,33 +255,36 @@ fn notice_out(p: &Reply) -> CNotice {
     CNotice { clocks: [clocks(0), clocks(1)], t3247: told(p.timers[T3247]), requests: [p.restart, p.leave, p.update].map(request) }
 }
 
+/// A new record: the answer and the record.
+pub fn opened(limits: [u8; 3], capability: &[u8], security: &[u8]) -> (u32, CRecord) {
+    let fits = limits.iter().all(|limit| (1..=10).contains(limit)) && (1..=13).contains(&capability.len()) && (2..=8).contains(&security.len());
+    let [card, ban, n1] = if fits { limits } else { [1; 3] };
+    let (capability, security) = if fits { (capability, security) } else { (&[0][..], &[0, 0][..]) };
+    (!fits as u32, record_out(&Record::new(Limits { card, ban, n1 }, capability, security)))
+}
+
 /// What is not held becomes zero.
-#[no_mangle]
-pub unsafe extern "C" fn second_tidy(r: &mut CRecord) {
-    *r = record_out(&record_in(r));
+pub fn tidy(r: &CRecord) -> CRecord {
+    record_out(&record_in(r))
 }
 
-#[no_mangle]
-pub unsafe extern "C" fn second_event(r: &mut CRecord, kind: u32, body: *const u8, len: usize, notice: &mut CNotice) -> u32 {
+/// An event: the answer, the notice, the record after it.
+pub fn event(r: &CRecord, kind: u32, body: &[u8]) -> (u32, CNotice, CRecord) {
     let mut octets = (kind as u16).to_le_bytes().to_vec();
-    octets.extend_from_slice(std::slice::from_raw_parts(body, len));
+    octets.extend_from_slice(body);
     let mut held = record_in(r);
-    let reply = if kind < 65536 { log::apply(&mut held, &octets) } else { Reply::of(record::RANGE) };
-    *r = record_out(&held);
-    *notice = notice_out(&reply);
-    reply.answer as u32
+    let reply = if kind < 65536 { log::apply(&mut held, &octets) } else { Reply::of(RANGE) };
+    (reply.answer as u32, notice_out(&reply), record_out(&held))
 }
 
-#[no_mangle]
-pub unsafe extern "C" fn second_request(r: &CRecord, access: u8, buffer: *mut u8, len: usize) -> u32 {
-    let buffer = std::slice::from_raw_parts_mut(buffer, len);
+/// A request into the buffer: its length, or 256 plus the answer.
+pub fn write(r: &CRecord, access: u8, buffer: &mut [u8]) -> u32 {
     request::write(&record_in(r), access, buffer).map_or_else(|answer| 256 + answer as u32, |length| length as u32)
 }
 
 /// Whether octets, read as a request, say what the record says over an access.
-#[no_mangle]
-pub unsafe extern "C" fn second_reads(r: &CRecord, access: u8, octets: *const u8, len: usize) -> bool {
-    let (held, octets) = (record_in(r), std::slice::from_raw_parts(octets, len));
+pub fn reads(r: &CRecord, access: u8, octets: &[u8]) -> bool {
+    let held = record_in(r);
     let a = &held.access[access as usize];
     let Ok(said) = request::read(octets) else { return false };
     let shown = a.ksi < 7;

@@ -1,0 +1,217 @@
+// The calls that the fuzz run makes, drawn: on a record that lives on events which are often right, and on records changed from it.
+use crate::second::{CAccess, CEntries, CNotice, CRecord, Plain};
+use crate::{EVENT, NEW, REQUEST};
+
+const BODY: u32 = 96;
+const BUFFER: u32 = 120;
+const NETS: [[u8; 3]; 6] = [[0x00, 0xF1, 0x10], [0x00, 0xF2, 0x20], [0x00, 0xF3, 0x30], [0x12, 0x34, 0x56], [0x00, 0xF4, 0x40], [0x99, 0x99, 0x99]];
+const CAUSES: [u8; 13] = [3, 6, 7, 11, 12, 13, 15, 22, 27, 72, 73, 95, 111];
+
+/// A call and all that is lent to it.
+pub struct Ask {
+    pub call: u8,
+    pub gaps: u8,
+    pub small: [u8; 3],
+    pub kind: u32,
+    pub record: CRecord,
+    pub notice: CNotice,
+    pub arrays: [Vec<u8>; 2],
+}
+
+pub struct Draw(u64);
+
+impl Draw {
+    pub fn new(case: u64) -> Draw {
+        Draw(case.wrapping_mul(0x9E3779B97F4A7C15) ^ 0x2545F4914F6CDD1D)
+    }
+
+    fn next(&mut self) -> u32 {
+        self.0 = self.0.wrapping_mul(6364136223846793005).wrapping_add(1442695040888963407);
+        (self.0 >> 32) as u32
+    }
+
+    fn below(&mut self, end: u32) -> u32 {
+        (self.next() >> 1) % end
+    }
+
+    fn octet(&mut self, end: u32) -> u8 {
+        self.below(end) as u8
+    }
+
+    /// Often an end.
+    fn upto(&mut self, most: u8) -> u8 {
+        [0, most, self.octet(most as u32 + 1), self.octet(most as u32 + 1)][self.below(4) as usize]
+    }
+
+    fn scatter(&mut self, octets: &mut [u8]) {
+        for part in octets.chunks_mut(4) {
+            part.copy_from_slice(&self.next().to_le_bytes()[..part.len()]);
+        }
+    }
+
+    fn octets(&mut self, len: u32) -> Vec<u8> {
+        let mut all = vec![0; len as usize];
+        self.scatter(&mut all);
+        all
+    }
+
+    fn net(&mut self) -> u32 {
+        number(NETS[self.below(6) as usize])
+    }
+
+    fn ask(&mut self, call: u8, record: CRecord) -> Ask {
+        let mut notice = CNotice::zero();
+        self.scatter(notice.octets_mut());
+        Ask { call, gaps: self.octet(256), small: [0; 3], kind: 0, record, notice, arrays: [vec![], vec![]] }
+    }
+
+    fn hand(&mut self, record: CRecord, (kind, body): (u32, Vec<u8>)) -> Ask {
+        Ask { kind, arrays: [body, vec![]], ..self.ask(EVENT, record) }
+    }
+
+    fn request(&mut self, record: CRecord, access: u8) -> Ask {
+        let len = self.below(BUFFER + 1);
+        let buffer = self.octets(len);
+        Ask { small: [access, 0, 0], arrays: [buffer, vec![]], ..self.ask(REQUEST, record) }
+    }
+}
+
+fn number([a, b, c]: [u8; 3]) -> u32 {
+    u32::from_be_bytes([0, a, b, c])
+}
+
+/// A new record over random octets. One limit in eight, and the lengths of one in four, are about the ends of their range.
+pub fn opening(d: &mut Draw) -> Ask {
+    let mut record = CRecord::zero();
+    d.scatter(record.octets_mut());
+    let small = [0; 3].map(|_| if d.below(8) == 0 { [0, 1, 10, 11, d.octet(256)][d.below(5) as usize] } else { 1 + d.octet(10) });
+    let lens = match d.below(4) {
+        0 => [[0, 1, 13, 14][d.below(4) as usize], [0, 1, 2, 8, 9][d.below(5) as usize]],
+        _ => [1 + d.below(13), 2 + d.below(7)],
+    };
+    let arrays = lens.map(|len| d.octets(len));
+    Ask { small, arrays, ..d.ask(NEW, record) }
+}
+
+fn card(last: u8) -> Vec<u8> {
+    vec![0x00, 0xF1, 0x10, 0x01, 0x00, 0xF1, 0x10, 0xF0, 0xFF, 0x00, 0x00, last]
+}
+
+/// An event that is often right: its kind, and the octets that matter from small sets.
+fn event(d: &mut Draw) -> (u32, Vec<u8>) {
+    let [n1, n2, n3] = NETS[d.below(6) as usize];
+    let (access, sure, any, cause) = (d.octet(2), d.octet(2), d.octet(256), CAUSES[d.below(13) as usize]);
+    let accept = [access, (d.below(8) > 0) as u8, 0x08, 0x07, 0x7E, 0x00, 0x42, 0x01, 0x01, 0x4A, 0x03, n1, n2, n3, 0x16, 0x01, any];
+    let guti = [0x77, 0x00, 0x0B, 0xF2, n1, n2, n3, 1, 2, 3, 4, 5, 6, any];
+    match d.below(16) {
+        0 if d.below(20) == 0 => (1, card(any)),
+        0 => (5, vec![]),
+        1 => (6, vec![access, any & 7]),
+        2 | 3 => (4, vec![1 + d.octet(4), access]),
+        4 => (3, accept.to_vec()),
+        5 => (3, [&accept[..], &guti].concat()),
+        6 => (3, [&[access, sure, 0x08, 0x07, 0x7E, 0x00, 0x42 + 2 * sure][..], &d.octets(any as u32 % 24)].concat()),
+        7..=9 => (3, vec![access, sure, 0x08, 0x07, 0x7E, 0x00, 0x44, cause]),
+        _ => (2, vec![access, sure, n1, n2, n3, 0x00, 0x00, any & 15]),
+    }
+}
+
+/// Any octets as a body; or a right one whose kind has a high bit too.
+fn wild(d: &mut Draw) -> (u32, Vec<u8>) {
+    if d.below(8) == 0 {
+        let (kind, body) = event(d);
+        return (kind | 1 << (8 + d.below(24)), body);
+    }
+    let (kind, len) = (d.below(9), d.below(BODY + 1));
+    (kind, d.octets(len))
+}
+
+/// The record with a card, any state, any timers and its lists up to full, numbers often at their ends: valid where `live` is.
+fn filled(d: &mut Draw, live: &CRecord) -> CRecord {
+    let mut r = *live;
+    let (mut roaming, mut regional) = (r.roaming, r.regional);
+    for i in 0..40 {
+        let area = (number(NETS[2 + i % 4]) as u64) << 24 | i as u64 / 4;
+        (roaming[i], regional[i]) = (area << 1 | d.below(2) as u64, area << 1 | d.below(2) as u64);
+    }
+    (r.roaming, r.regional, r.dev.roaming, r.dev.regional, r.dev.t3247) = (roaming, regional, d.upto(40), d.upto(40), d.upto(1));
+    (r.dev.card, r.dev.suci, r.suci[0]) = (1, 9 + d.upto(55), 1);
+    r.equivalents = [0; 2].map(|_| [0; 15].map(|_| d.net()));
+    for (a, e) in r.access.iter_mut().zip(&mut r.entries) {
+        fill(d, r.dev.limits, a, e);
+    }
+    r
+}
+
+fn fill(d: &mut Draw, [cards, bans, n1s]: [u8; 3], a: &mut CAccess, e: &mut CEntries) {
+    a.state = [0, 4, 4, 5, 6, d.octet(7)][d.below(6) as usize];
+    (a.status, a.attempts, a.cards, a.wait) = (1 + d.upto(2), d.upto(5), d.upto(cards), [0, 720, 11160, d.below(11161) as u16][d.below(4) as usize]);
+    (a.t3510, a.t3511, a.t3502) = ((a.state == 4) as u8 & d.upto(1), d.upto(1), d.upto(1));
+    (a.net, a.code, a.ksi, a.entries) = (d.net(), d.below(16), d.upto(7), d.upto(16));
+    (a.guti, a.visited, a.equivalents) = (d.upto(1), d.upto(1), d.upto(15));
+    let known = d.below(7) as usize;
+    e.nets = std::array::from_fn(|i| if i < known { number(NETS[i]) } else { 0x00F500 + (i as u32 / 10 * 16 + i as u32 % 10) });
+    for i in 0..16 {
+        (e.bans[i], e.n1s[i], e.forbidden[i], e.barred[i]) = (d.upto(bans), d.upto(n1s), d.upto(1), d.upto(1));
+    }
+}
+
+/// A record that is often one that writes a request: an identity of each kind, with and without a last area, lengths from end to end.
+fn writing(d: &mut Draw, live: &CRecord) -> Ask {
+    let mut r = *live;
+    let at = d.below(2) as usize;
+    d.scatter(&mut r.capability);
+    d.scatter(&mut r.security);
+    d.scatter(&mut r.suci);
+    (r.suci[0], r.dev.suci, r.dev.capability, r.dev.security) = (1, 9 + d.octet(56), 1 + d.octet(13), 2 + d.octet(7));
+    r.dev.card |= (d.below(8) > 0) as u8;
+    let net = r.access[at].net;
+    for i in 0..2 {
+        r.access[i].guti = d.octet(2);
+        for j in 0..3 {
+            r.guti[i][j] = net.to_be_bytes()[1 + j] ^ (d.below(3) == 0) as u8;
+        }
+    }
+    let mut equivalents = r.equivalents;
+    for equivalent in &mut equivalents[at] {
+        *equivalent = net ^ (d.below(2) << 16 | d.below(2) << 8 | d.below(2));
+    }
+    r.equivalents = equivalents;
+    let a = &mut r.access[at];
+    (a.state, a.ksi, a.visited, a.equivalents) = (4 * r.dev.card, d.octet(8), d.octet(2), d.octet(16));
+    (a.lastnet, a.lastcode) = (d.below(1 << 24), d.below(1 << 24));
+    let access = if d.below(20) == 0 { d.octet(256) } else { at as u8 };
+    d.request(r, access)
+}
+
+/// The record with one octet of its first `end` one up, one down or drawn anew.
+fn changed(d: &mut Draw, live: &CRecord, end: usize) -> CRecord {
+    let (mut r, at, any, how) = (*live, d.below(end as u32) as usize, d.octet(256), d.below(4) as usize);
+    let was = r.octets()[at];
+    r.octets_mut()[at] = [was.wrapping_add(1), was.wrapping_sub(1), any, any][how];
+    r
+}
+
+/// The calls of a round. The record lives on what the first one makes of it.
+pub fn round(d: &mut Draw, live: &CRecord) -> Vec<Ask> {
+    const HOT: usize = std::mem::offset_of!(CRecord, entries);
+    const ALL: usize = size_of::<CRecord>();
+    let (one, hot, full) = (changed(d, live, ALL), changed(d, live, HOT), filled(d, live));
+    let (access, right, again, any, other) = (d.octet(2), event(d), event(d), wild(d), wild(d));
+    let often = if live.dev.card == 0 && d.below(4) > 0 { (1, card(access)) } else { right };
+    let mut random = CRecord::zero();
+    d.scatter(random.octets_mut());
+    let end = [HOT, ALL][d.below(2) as usize];
+    let broken = changed(d, &full, end);
+    vec![
+        d.hand(*live, often),
+        writing(d, live),
+        d.request(one, access),
+        d.hand(one, (5, vec![])),
+        d.hand(hot, (5, vec![])),
+        d.hand(*live, any),
+        d.hand(random, other),
+        d.hand(full, again.clone()),
+        d.hand(broken, again),
+    ]
+}

@@ -1,0 +1,283 @@
+// Random octets through the C interface: as a record, as a kind and a body, and as changes to a record that lives on random events.
+// Held: the header's layout, answer 1 exactly where the record is invalid by a second reading of document 01, a refusal's record unchanged, nothing written outside what is lent,
+// and for a valid record the answer, the notice, the record and the request of the second program, which reads that request back as the record's.
+//
+// Usage: fuzz SECONDS SEED PROGRAM [ARGUMENTS]
+// The program is tests/c/lend.c. First it tells how many octets a record has without its gaps. A call goes to it as one octet each for the call (0 to have the answers so far), what fills
+// the record's gaps and six small numbers (three limits, or the access), then the kind and the lengths of two arrays, then the record, the notice and the arrays; back come the answer,
+// how many octets were written before what is lent, and the record, the notice and the arrays as they then are. Numbers have four octets, the low one first.
+// Cases are numbered from SEED on, and each draws by its number alone. With 0 seconds the case SEED runs alone.
+#![allow(dead_code)]
+mod draws;
+#[path = "../../docs/src/log.rs"]
+mod log;
+#[path = "../../docs/src/message.rs"]
+mod message;
+#[path = "../../docs/src/record.rs"]
+mod record;
+#[path = "../../docs/src/request.rs"]
+mod request;
+mod second;
+mod valid;
+
+use draws::{Ask, Draw};
+use second::{CNotice, CRecord, Plain};
+use std::io::{self, BufReader, Read, Write};
+use std::ops::Range;
+use std::panic::{catch_unwind, AssertUnwindSafe};
+use std::process::{exit, Child, ChildStdin, ChildStdout, Command, Stdio};
+use std::time::{Duration, Instant};
+use valid::valid;
+
+pub const NEW: u8 = 1;
+pub const EVENT: u8 = 2;
+pub const REQUEST: u8 = 3;
+const LIVES: u64 = 32;
+const ROUNDS: usize = 48;
+
+/// What came of a call.
+struct Got {
+    answer: u32,
+    harm: u32,
+    record: CRecord,
+    notice: CNotice,
+    arrays: [Vec<u8>; 2],
+}
+
+/// The C side, running.
+struct Side {
+    child: Child,
+    input: ChildStdin,
+    output: BufReader<ChildStdout>,
+}
+
+/// A record that lives on events, and the case's draws.
+struct Life {
+    case: u64,
+    draw: Draw,
+    live: CRecord,
+}
+
+#[derive(Default)]
+struct Tally {
+    cases: u64,
+    answers: [u64; 12],
+    invalid: u64,
+    requests: u64,
+    written: u64,
+}
+
+fn fail(what: &str) -> ! {
+    eprintln!("fuzz: {what}");
+    exit(1)
+}
+
+fn number(from: &mut impl Read) -> io::Result<u32> {
+    let mut octets = [0; 4];
+    from.read_exact(&mut octets)?;
+    Ok(u32::from_le_bytes(octets))
+}
+
+impl Ask {
+    fn send(&self, to: &mut Vec<u8>) {
+        let [a, b, c] = self.small;
+        to.extend([self.call, self.gaps, a, b, c, 0, 0, 0]);
+        for n in [self.kind, self.arrays[0].len() as u32, self.arrays[1].len() as u32] {
+            to.extend(n.to_le_bytes());
+        }
+        for part in [self.record.octets(), self.notice.octets(), &self.arrays[0], &self.arrays[1]] {
+            to.extend(part);
+        }
+    }
+
+    fn told(&self, from: &mut impl Read) -> io::Result<Got> {
+        let (answer, harm) = (number(from)?, number(from)?);
+        let mut got = Got { answer, harm, record: self.record, notice: self.notice, arrays: self.arrays.clone() };
+        from.read_exact(got.record.octets_mut())?;
+        from.read_exact(got.notice.octets_mut())?;
+        from.read_exact(&mut got.arrays[0])?;
+        from.read_exact(&mut got.arrays[1])?;
+        Ok(got)
+    }
+
+    fn name(&self) -> String {
+        let hex = |octets: &[u8]| octets.iter().map(|octet| format!("{octet:02X}")).collect::<String>();
+        match self.call {
+            NEW => format!("new, limits {:?}, capabilities {} and {}", self.small, hex(&self.arrays[0]), hex(&self.arrays[1])),
+            EVENT => format!("event of kind {}, body {}", self.kind, hex(&self.arrays[0])),
+            _ => format!("request over access {}, buffer of {}", self.small[0], self.arrays[0].len()),
+        }
+    }
+}
+
+impl Side {
+    fn start(words: &[String]) -> Side {
+        let started = Command::new(&words[0]).args(&words[1..]).stdin(Stdio::piped()).stdout(Stdio::piped()).spawn();
+        let mut child = started.unwrap_or_else(|error| fail(&format!("{}: {error}", words[0])));
+        let (input, output) = (child.stdin.take().unwrap(), child.stdout.take().unwrap());
+        let mut side = Side { child, input, output: BufReader::with_capacity(65536, output) };
+        if number(&mut side.output).ok() != Some(size_of::<CRecord>() as u32) {
+            fail("the C side does not start, or its record has other fields");
+        }
+        side
+    }
+
+    /// Sends the calls while it reads what comes of them, so that neither side waits for the other to read.
+    fn batch(&mut self, asks: &[Ask], mut each: impl FnMut(usize, Option<Got>)) {
+        let mut octets = vec![];
+        asks.iter().for_each(|ask| ask.send(&mut octets));
+        octets.extend([0; 20]);
+        let Side { input, output, .. } = self;
+        std::thread::scope(|scope| {
+            // Where the C side has ended, reading tells it.
+            scope.spawn(|| input.write_all(&octets).is_ok());
+            for (i, ask) in asks.iter().enumerate() {
+                each(i, ask.told(output).ok());
+            }
+        });
+    }
+
+    fn end(self) {
+        let Side { mut child, input, output } = self;
+        drop((input, output));
+        if !child.wait().is_ok_and(|status| status.success()) {
+            fail("the C side ended badly");
+        }
+    }
+}
+
+fn hold(so: bool, what: &str) -> Result<(), String> {
+    if so { Ok(()) } else { Err(what.to_string()) }
+}
+
+fn equal(what: &str, got: u32, want: u32) -> Result<(), String> {
+    hold(got == want, &format!("{what} is {got}, not {want}"))
+}
+
+fn alike(what: &str, got: &[u8], want: &[u8]) -> Result<(), String> {
+    match (0..got.len()).find(|&i| got[i] != want[i]) {
+        Some(i) => Err(format!("{what} has {:02X}, not {:02X}, at octet {i}", got[i], want[i])),
+        None => Ok(()),
+    }
+}
+
+fn judge_new(ask: &Ask, got: &Got) -> Result<(), String> {
+    let (answer, record) = second::opened(ask.small, &ask.arrays[0], &ask.arrays[1]);
+    equal("the answer", got.answer, answer)?;
+    alike("the new record", got.record.octets(), record.octets())?;
+    hold(valid(&got.record), "the new record is invalid")
+}
+
+fn judge_event(ask: &Ask, got: &Got) -> Result<(), String> {
+    let (was, now) = (&ask.record, &got.record);
+    if valid(was) {
+        let (answer, notice, record) = second::event(was, ask.kind, &ask.arrays[0]);
+        equal("the answer", got.answer, answer)?;
+        alike("the notice", got.notice.octets(), notice.octets())?;
+        hold(valid(now), "the event made the record invalid")?;
+        alike("the record", second::tidy(now).octets(), record.octets())?;
+    } else {
+        equal("the answer to an invalid record", got.answer, 1)?;
+    }
+    hold(got.answer <= 11, "there is no such answer")?;
+    if got.answer != 0 {
+        alike("the refused record", now.octets(), was.octets())?;
+    }
+    if got.answer != 0 && got.answer != 2 {
+        alike("the refusal's notice", got.notice.octets(), CNotice::zero().octets())?;
+    }
+    Ok(())
+}
+
+fn judge_request(ask: &Ask, got: &Got) -> Result<(), String> {
+    let mut want = ask.arrays[0].clone();
+    let answer = if valid(&ask.record) { second::write(&ask.record, ask.small[0], &mut want) } else { 257 };
+    equal("the request's answer", got.answer, answer)?;
+    alike("the buffer", &got.arrays[0], &want)?;
+    alike("the record that is only read", got.record.octets(), ask.record.octets())?;
+    let read = answer > 255 || second::reads(&ask.record, ask.small[0], &want[..answer as usize]);
+    hold(read, "the request does not read back")
+}
+
+fn judge(ask: &Ask, got: &Got, tally: &mut Tally) -> Result<(), String> {
+    equal("the count of octets written before what is lent", got.harm, 0)?;
+    if ask.call != EVENT {
+        alike("the notice, which is not lent,", got.notice.octets(), ask.notice.octets())?;
+    }
+    if ask.call != REQUEST {
+        alike("the first array", &got.arrays[0], &ask.arrays[0])?;
+    }
+    alike("the second array", &got.arrays[1], &ask.arrays[1])?;
+    match ask.call {
+        NEW => judge_new(ask, got)?,
+        EVENT => judge_event(ask, got)?,
+        _ => judge_request(ask, got)?,
+    }
+    tally.requests += (ask.call == REQUEST) as u64;
+    tally.written += (ask.call == REQUEST && got.answer < 256) as u64;
+    if ask.call == EVENT {
+        tally.answers[got.answer as usize] += 1;
+        tally.invalid += !valid(&ask.record) as u64;
+    }
+    Ok(())
+}
+
+fn accuse(what: &str, case: u64, round: usize, ask: &Ask) -> ! {
+    fail(&format!("{what}\nfuzz: case {case}, round {round}: {}\nfuzz: to see it again: LONG=0 SEED={case} tests/c/run", ask.name()))
+}
+
+/// The C side has ended in one of these calls, with answers untold: each alone shows which.
+fn search(words: &[String], asks: &[Ask], cases: &[u64], round: usize) -> ! {
+    for (ask, &case) in asks.iter().zip(cases) {
+        Side::start(words).batch(std::slice::from_ref(ask), |_, got| {
+            if got.is_none() {
+                accuse("the C side ends in the call", case, round, ask);
+            }
+        });
+    }
+    fail(&format!("the C side ended, and not again: LONG=0 SEED={}", cases[0]))
+}
+
+/// Some cases side by side, a round of all of them at a time.
+fn group(side: &mut Side, words: &[String], cases: Range<u64>, tally: &mut Tally) {
+    let mut lives: Vec<Life> = cases.map(|case| Life { case, draw: Draw::new(case), live: CRecord::zero() }).collect();
+    for round in 0..ROUNDS {
+        let (mut asks, mut owners) = (vec![], vec![]);
+        for (at, life) in lives.iter_mut().enumerate() {
+            asks.extend(if round == 0 { vec![draws::opening(&mut life.draw)] } else { draws::round(&mut life.draw, &life.live) });
+            owners.resize(asks.len(), at);
+        }
+        let cases: Vec<u64> = owners.iter().map(|&at| lives[at].case).collect();
+        side.batch(&asks, |i, got| {
+            let Some(got) = got else { search(words, &asks[i..], &cases[i..], round) };
+            let judged = catch_unwind(AssertUnwindSafe(|| judge(&asks[i], &got, tally)));
+            judged.unwrap_or(Err("the second program panics".to_string())).unwrap_or_else(|what| accuse(&what, cases[i], round, &asks[i]));
+            if i == 0 || owners[i] != owners[i - 1] {
+                lives[owners[i]].live = got.record;
+            }
+        });
+    }
+    tally.cases += lives.len() as u64;
+}
+
+fn main() {
+    let words: Vec<String> = std::env::args().skip(1).collect();
+    let numbers: Vec<u64> = words.iter().take(2).filter_map(|word| word.parse().ok()).collect();
+    let [seconds, seed] = numbers[..] else { fail("usage: fuzz SECONDS SEED PROGRAM [ARGUMENTS]") };
+    let (began, words, mut tally) = (Instant::now(), &words[2..], Tally::default());
+    let mut side = Side::start(words);
+    if seconds == 0 {
+        group(&mut side, words, seed..seed + 1, &mut tally);
+    }
+    while began.elapsed() < Duration::from_secs(seconds) {
+        let first = seed + tally.cases;
+        group(&mut side, words, first..first + LIVES, &mut tally);
+    }
+    side.end();
+    let Tally { cases, answers, invalid, requests, written } = tally;
+    println!("fuzz: {cases} cases, {} events, {invalid} of them on an invalid record; {written} of {requests} requests written", answers.iter().sum::<u64>());
+    println!("fuzz: answers 0 to 11 came {answers:?} times");
+    if seconds > 0 && (answers.contains(&0) || invalid == 0 || written == 0) {
+        fail("some answer never came");
+    }
+}

@@ -1,0 +1,136 @@
+/*
+ * The C side of the fuzz run: makes each call that standard input asks for and writes what came of it, as tests/c/fuzz.rs says.
+ * What is lent ends where nothing may be read or written, and octets that must stay lie before it. A record goes in and out field by field, by the header's names.
+ */
+#define _DEFAULT_SOURCE
+#include <stdio.h>
+#include <stdlib.h>
+#include <string.h>
+#include <sys/mman.h>
+#include "tjernfaug.h"
+
+enum { FLUSH, NEW, EVENT, REQUEST };
+enum { RECORD, NOTICE, FIRST, SECOND, ROOMS };
+enum { ROOM = 65536, GUARD = 64, MARK = 0x5A };
+
+/* What a call is asked with, ahead of the record, the notice and the octets of one or two arrays. */
+struct head {
+    uint8_t call;
+    uint8_t gaps;
+    uint8_t small[6];
+    uint32_t kind;
+    uint32_t lens[2];
+};
+
+#define AT(field) {offsetof(struct tjernfaug_record, field), sizeof ((struct tjernfaug_record *)0)->field}
+#define ACCESS(a) AT(a.net), AT(a.code), AT(a.lastnet), AT(a.lastcode), AT(a.wait), AT(a.state), AT(a.status), AT(a.attempts), AT(a.cards), \
+    AT(a.t3510), AT(a.t3511), AT(a.t3502), AT(a.guti), AT(a.visited), AT(a.ksi), AT(a.equivalents), AT(a.entries)
+#define ENTRIES(e) AT(e.nets), AT(e.bans), AT(e.n1s), AT(e.forbidden), AT(e.barred)
+
+static const struct { size_t at, len; } fields[] = {
+    AT(hot.dev.home), AT(hot.dev.card), AT(hot.dev.suci), AT(hot.dev.cardlimit), AT(hot.dev.banlimit), AT(hot.dev.n1limit), AT(hot.dev.t3247),
+    AT(hot.dev.capability), AT(hot.dev.security), AT(hot.dev.roaming), AT(hot.dev.regional),
+    ACCESS(hot.a0), ACCESS(hot.a1), ENTRIES(e0), ENTRIES(e1), AT(roaming), AT(regional),
+    AT(guti0), AT(guti1), AT(equivalents0), AT(equivalents1), AT(suci), AT(capability), AT(security),
+};
+
+enum { FIELDS = sizeof fields / sizeof *fields };
+
+static uint8_t *ends[ROOMS], *lent[ROOMS];
+static size_t lens[ROOMS];
+
+/* A record without its gaps. */
+static uint8_t plain[sizeof(struct tjernfaug_record)];
+static uint32_t octets;
+
+static void get(void *at, size_t len)
+{
+    if (len && fread(at, len, 1, stdin) != 1)
+        exit(2);
+}
+
+static void put(const void *at, size_t len)
+{
+    if (len && fwrite(at, len, 1, stdout) != 1)
+        exit(2);
+}
+
+/* Two rooms, of which the second is closed; the end of the first. */
+static uint8_t *room(void)
+{
+    uint8_t *at = mmap(NULL, 2 * ROOM, PROT_READ | PROT_WRITE, MAP_PRIVATE | MAP_ANONYMOUS, -1, 0);
+    if (at == MAP_FAILED || mprotect(at + ROOM, ROOM, PROT_NONE))
+        exit(2);
+    return at + ROOM;
+}
+
+/* Lays out what is lent, as it was sent. */
+static void lay(const struct head *h)
+{
+    const size_t sizes[ROOMS] = {sizeof(struct tjernfaug_record), sizeof(struct tjernfaug_notice), h->lens[0], h->lens[1]};
+    for (size_t i = 0; i < ROOMS; i++) {
+        if (sizes[i] > ROOM - GUARD)
+            exit(2);
+        lens[i] = sizes[i];
+        lent[i] = ends[i] - sizes[i];
+        memset(lent[i] - GUARD, MARK, GUARD);
+    }
+    memset(lent[RECORD], h->gaps, lens[RECORD]);
+    get(plain, octets);
+    const uint8_t *from = plain;
+    for (size_t i = 0; i < FIELDS; from += fields[i++].len)
+        memcpy(lent[RECORD] + fields[i].at, from, fields[i].len);
+    for (size_t i = NOTICE; i < ROOMS; i++)
+        get(lent[i], lens[i]);
+}
+
+static uint32_t call(const struct head *h)
+{
+    struct tjernfaug_record *r = (struct tjernfaug_record *)lent[RECORD];
+    struct tjernfaug_notice *notice = (struct tjernfaug_notice *)lent[NOTICE];
+    switch (h->call) {
+    case NEW: return tjernfaug_new(r, h->small[0], h->small[1], h->small[2], lent[FIRST], lens[FIRST], lent[SECOND], lens[SECOND]);
+    case EVENT: return tjernfaug_event(r, h->kind, lent[FIRST], lens[FIRST], notice);
+    case REQUEST: return tjernfaug_request(r, h->small[0], lent[FIRST], lens[FIRST]);
+    default: exit(2);
+    }
+}
+
+/* The answer, how many octets before what is lent were written, and all that is lent. */
+static void tell(uint32_t answer)
+{
+    uint32_t harm = 0;
+    for (size_t i = 0; i < ROOMS; i++)
+        for (size_t j = 1; j <= GUARD; j++)
+            harm += lent[i][-(ptrdiff_t)j] != MARK;
+    put(&answer, sizeof answer);
+    put(&harm, sizeof harm);
+    uint8_t *to = plain;
+    for (size_t i = 0; i < FIELDS; to += fields[i++].len)
+        memcpy(to, lent[RECORD] + fields[i].at, fields[i].len);
+    put(plain, octets);
+    for (size_t i = NOTICE; i < ROOMS; i++)
+        put(lent[i], lens[i]);
+}
+
+int main(void)
+{
+    struct head h;
+    for (size_t i = 0; i < ROOMS; i++)
+        ends[i] = room();
+    for (size_t i = 0; i < FIELDS; i++)
+        octets += fields[i].len;
+    setvbuf(stdin, NULL, _IOFBF, ROOM);
+    setvbuf(stdout, NULL, _IOFBF, ROOM);
+    put(&octets, sizeof octets);
+    fflush(stdout);
+    while (fread(&h, sizeof h, 1, stdin) == 1) {
+        if (h.call == FLUSH) {
+            fflush(stdout);
+            continue;
+        }
+        lay(&h);
+        tell(call(&h));
+    }
+    return 0;
+}
