@@ -19,7 +19,7 @@ use Rattle.rules.specs.declared.Event.{Event}
 use Rattle.rules.specs.declared.Ask.{Ask}
 use Rattle.rules.specs.declared.Plan.{Plan}
 use Rattle.effects.specs.Kinds.{sweepDeed, keepAccept, keepCard}
-use Rattle.rules.specs.Plan.{heardOf, askOf, planOf}
+use Rattle.rules.specs.Plan.{heardOf, askOf, planOf, deedOf}
 use Rattle.events.specs.declared.Done.{Done}
 
 -- what the entries of the asking access say about the network
@@ -44,19 +44,6 @@ plannedBy h e octets s l = planOf h e (askOf h e) s l (heardOf e octets) octets
 
 unfoldable pub plannedOf : Hot → Event → List ℕ → Entries → Entries → List ℕ → List ℕ → Plan
 plannedOf h e octets e0 e1 roaming regional = plannedBy h e octets (seenOf (askOf h e) h e0 e1) (listedOf (askOf h e) h roaming regional)
-
--- T3247 out, a power cycle and a card change go over both accesses' entries, all else over the event's own
-unfoldable pub mineOf : ℕ → ℕ → ℕ → ℕ
-mineOf deed w me = cond (either (leb sweepDeed deed) (eqb w me)) deed 0
-
-unfoldable pub deedOf : Plan → ℕ → Deed
-deedOf p me = record {
-  kind = mineOf (p .work .deed) (p .ask .access) me;
-  at = p .seen .at;
-  found = p .seen .found;
-  net = p .ask .net;
-  sure = p .ask .sure;
-}
 
 unfoldable pub tableAfter : Plan → ℕ → ℕ → Hot → Entries → Entries
 tableAfter p me count h t = entriesAfter (deedOf p me) count (h .dev .banlimit) (h .dev .n1limit) t

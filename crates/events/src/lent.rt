@@ -1,12 +1,9 @@
 // The core: decide on the numbers, then carry out on each access's entries and on each list. It does not test the record.
 use super::Done;
 use areas::Task;
-use entries::Deed;
 use entries::Seen;
 use record::Device;
 use record::Hot;
-use record::or;
-use record::pick;
 use rules::Ask;
 use rules::Event;
 use rules::Plan;
@@ -14,7 +11,7 @@ ghost use mathlib.Core.Path.{_≡_};
 ghost use mathlib.Core.Bool.{cond, true, false};
 ghost use Rattle.entries.specs.Entries.{entriesOf};
 ghost use Rattle.areas.specs.Areas.{listAfter, countAfter};
-ghost use Rattle.events.specs.Parts.{seenBy, listedOf, plannedBy, deedOf, tableAfter, taskOf, listed, partsOf, partsAfter};
+ghost use Rattle.events.specs.Parts.{seenBy, listedOf, plannedBy, tableAfter, taskOf, listed, partsOf, partsAfter};
 
 fn see(
     q: Ask,
@@ -55,21 +52,6 @@ fn decide(h: Hot, e: Event, octets: &[u8], s: Seen, l: bool) -> Plan
     rules::plan_of(h, e, s, l, m, octets)
 }
 
-// The deed on an access's entries.
-fn deed(p: Plan, me: u8) -> Deed
-    ensures { λ r. ⌜ r ≡ deedOf p me ⌝ }
-{
-    let both = or(entries::SWEEP <= p.work.deed, p.ask.access == me);
-    let kind = pick(both, p.work.deed, 0);
-    Deed {
-        kind: kind,
-        at: p.seen.at,
-        found: p.seen.found,
-        net: p.ask.net,
-        sure: p.ask.sure,
-    }
-}
-
 fn table(
     p: Plan,
     me: u8,
@@ -83,7 +65,7 @@ fn table(
 )
     ensures { λ r. ⌜ entriesOf (now (nets .exit)) (now (bans .exit)) (now (n1s .exit)) (now (forbidden .exit)) (now (barred .exit)) ≡ tableAfter p me count h (entriesOf (now (nets .entry)) (now (bans .entry)) (now (n1s .entry)) (now (forbidden .entry)) (now (barred .entry))) ⌝ }
 {
-    let d = deed(p, me);
+    let d = rules::deed(p, me);
     entries::tend(
         d,
         count,

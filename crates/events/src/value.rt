@@ -101,7 +101,7 @@ pub fn advance(r: Record, e: Event, octets: &[u8]) -> Outcome
 pub fn step(r: Record, e: Event, octets: &[u8]) -> Outcome
     ensures { λ o. ⌜ o ≡ stepOf r e (now (octets .entry)) ⌝ }
 {
-    if record::valid(r) {
+    if ranges::valid(r) {
         return advance(r, e, octets);
     }
     let p = rules::refused_reply(Answer::Range, 0);

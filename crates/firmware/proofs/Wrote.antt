@@ -12,7 +12,7 @@ use Rattle.record.specs.declared.Record.{Record}
 use Rattle.record.specs.declared.Answer.the-variants.{Taken, Range, State, Short}
 use Rattle.record.specs.Answers.{numberOf, isTaken}
 use Rattle.record.specs.Tests.{both}
-use Rattle.record.specs.Valid.{validOf}
+use Rattle.ranges.specs.Valid.{validOf}
 use Rattle.record.proofs.Bounds.{rest}
 use Rattle.record.proofs.Numbers.{taken-zero}
 use Rattle.request.specs.declared.Written.{Written}

@@ -6,7 +6,7 @@ use mathlib.Core.List.{List}
 use lib.Dec.{leb, ltb, eqb}
 use Rattle.record.specs.Tests.{both}
 use Rattle.record.specs.Answers.{isTaken}
-use Rattle.record.specs.Valid.{validOf}
+use Rattle.ranges.specs.Valid.{validOf}
 use Rattle.record.specs.declared.Access.{Access}
 use Rattle.record.specs.declared.Record.{Record}
 use Rattle.entries.specs.declared.Entries.{Entries}
@@ -16,8 +16,7 @@ use Rattle.messages.specs.declared.Reading.the-variants as reading
 use Rattle.messages.specs.Message.{readingOf}
 use Rattle.turns.specs.declared.Row.the-variants.{CardBelow, CardLimit, Away, Home, Area, N1, Protocol, Other}
 use Rattle.turns.specs.declared.Turn.{Turn}
-use Rattle.turns.specs.Timers.{flagAfter}
-use Rattle.turns.specs.Access.{clocked}
+use Rattle.turns.specs.Timers.{flagAfter, clocked}
 use Rattle.turns.specs.Rows.{isCard, isNetworkNo, isAreaNo, isN1No, isProtocol, rowOf}
 use Rattle.turns.specs.Turns.{still, otherTurn}
 use Rattle.effects.specs.Effects.{Effect, rowWork, rejectEffect}

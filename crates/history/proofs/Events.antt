@@ -21,7 +21,7 @@ use Rattle.messages.specs.declared.Reading.{Reading}
 use Rattle.messages.specs.declared.Reading.the-variants as reading
 use Rattle.messages.specs.Message.{readingOf}
 use Rattle.turns.specs.declared.Row.{Row}
-use Rattle.turns.specs.Access.{moved, pending, keyed, taught}
+use Rattle.record.specs.Setters.{moved, pending, keyed, taught}
 use Rattle.turns.specs.Rows.{needsEntry}
 use Rattle.turns.specs.Turns.{started, keySet, t3511Out, t3502Out, renewed}
 use Rattle.turns.specs.Turns as turns
@@ -30,8 +30,8 @@ use Rattle.rules.specs.declared.Event.{Event}
 use Rattle.rules.specs.declared.Event.the-variants.{Card, Start, Message, Timer, Power, Key, Unknown}
 use Rattle.record.specs.Sides.{accessOf, otherOf}
 use Rattle.checks.specs.Answers.{rowNow, rejectAnswer, readAnswer, timerAnswer}
-use Rattle.rules.specs.Plan.{heardOf, askOf, answerOf, messageEffect, effectOf}
-use Rattle.events.specs.Parts.{seenBy, seenOf, mineOf}
+use Rattle.rules.specs.Plan.{heardOf, askOf, answerOf, messageEffect, effectOf, mineOf}
+use Rattle.events.specs.Parts.{seenBy, seenOf}
 use Rattle.validity.specs.Sized.{Columns}
 use Rattle.validity.specs.Answered.{askIn, seenAt, answeredBy}
 use Rattle.validity.proofs.Refusal.{effectIn}

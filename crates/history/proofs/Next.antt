@@ -14,14 +14,14 @@ use Rattle.entries.specs.declared.Entries.{Entries}
 use Rattle.entries.specs.declared.Deed.{Deed}
 use Rattle.entries.specs.Entries.{entriesAfter}
 use Rattle.turns.specs.declared.Orders.{Orders}
-use Rattle.turns.specs.Access.{clocked}
+use Rattle.turns.specs.Timers.{clocked}
 use Rattle.rules.specs.declared.Event.{Event}
 use Rattle.rules.specs.declared.Plan.{Plan}
 use Rattle.record.specs.Sides.{accessOf, otherOf, hotOf}
 use Rattle.effects.specs.Effects.{ticked}
-use Rattle.rules.specs.Plan.{heardOf, hotAfter, takenPlan}
+use Rattle.rules.specs.Plan.{heardOf, hotAfter, takenPlan, mineOf, deedOf}
 use Rattle.events.specs.declared.Outcome.{Outcome}
-use Rattle.events.specs.Parts.{mineOf, deedOf, tableAfter, listed, doneOf, carriedOut, gutiAfter, equivalentsAfter, keptAfter}
+use Rattle.events.specs.Parts.{tableAfter, listed, doneOf, carriedOut, gutiAfter, equivalentsAfter, keptAfter}
 use Rattle.events.specs.Step.{together, joinedOf, advanceOf}
 use Rattle.validity.specs.Answered.{askIn, seenAt, answeredBy}
 use Rattle.validity.proofs.Refusal.{carry, effectIn, taken-plan}

@@ -9,7 +9,7 @@ use lib.ListN.{length, getD, take, drop}
 use lib.Seq.{getD-drop}
 use mathlib.Core.List.{List, [], _∷_}
 use Rattle.record.specs.declared.Record.{Record}
-use Rattle.record.specs.Valid.{validOf}
+use Rattle.ranges.specs.Valid.{validOf}
 use Rattle.record.specs.New.{madeOf, mayMake}
 use Rattle.rules.specs.declared.Event.{Event}
 use Rattle.events.specs.Step.{together, joinedOf, advanceOf}
@@ -20,7 +20,7 @@ use Rattle.validity.specs.Sized.{Sized}
 use Rattle.validity.specs.Run.{Octets, AllOctets, runOf}
 use Rattle.validity.proofs.Kept.{step-advances, step-valid}
 use Rattle.validity.proofs.Sizes.{step-sized, made-sized}
-use Rattle.record.proofs.MadeValid.{made-valid}
+use Rattle.ranges.proofs.MadeValid.{made-valid}
 use Rattle.record.specs.Sides.{accessOf}
 use Rattle.history.specs.Cell.{cellOf, entriesIn}
 use Rattle.history.specs.History.{saidOf}

@@ -11,7 +11,7 @@ use Rattle.entries.specs.declared.Entries.{Entries}
 use Rattle.entries.specs.Entries.{sizeOf, placeIn, entriesAfter}
 use Rattle.turns.specs.declared.Row.{Row}
 use Rattle.turns.specs.declared.Row.the-variants.{CardBelow, CardLimit, CardProtected, Away, Home, Area, N1, Protocol, Other}
-use Rattle.turns.specs.Access.{moved, forgotten, emptied, counted, entered}
+use Rattle.record.specs.Setters.{moved, forgotten, emptied, counted, entered}
 use Rattle.turns.specs.Rows.{isCard, isNetworkNo, isAreaNo, isN1No, isProtocol, rowOf, needsEntry}
 use Rattle.turns.specs.Turns.{tried, failed, t3510Out, cardBelow, cardLimit, cardProtected, away, home, area, n1, rowTurn, otherTurn}
 use Rattle.effects.specs.Effects.{rowDeed}

@@ -7,7 +7,7 @@ use Rattle.laws.proofs.One.{one, one-each}
 use Rattle.record.specs.declared.Made.{Made}
 use Rattle.record.specs.declared.Record.{Record}
 use Rattle.record.specs.New.{madeOf}
-use Rattle.record.specs.Valid.{validOf}
+use Rattle.ranges.specs.Valid.{validOf}
 use Rattle.rules.specs.declared.Event.{Event}
 use Rattle.rules.specs.declared.Reply.{Reply}
 use Rattle.events.specs.declared.Outcome.{Outcome}

@@ -1,4 +1,3 @@
--- What the tests of a record show, and that a new record passes them.
+-- What a list of tests shows, and the answers' numbers.
 pub mod Bounds
-pub mod MadeValid
 pub mod Numbers

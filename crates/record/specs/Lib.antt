@@ -1,7 +1,7 @@
--- The record: its networks, what makes it valid, a new one, the answers' numbers, and its two accesses.
+-- The record: its networks, a new one, the answers' numbers, its two accesses, and what is set in one.
 pub mod Tests
 pub mod Network
 pub mod New
-pub mod Valid
 pub mod Answers
 pub mod Sides
+pub mod Setters

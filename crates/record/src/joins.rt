@@ -28,13 +28,13 @@ pub fn pick(first: bool, x: u8, y: u8) -> u8
 }
 
 // Longer lists are made of fours: the last place takes the rest of the list.
-pub(crate) fn all(a: bool, b: bool, c: bool, d: bool) -> bool
+pub fn all(a: bool, b: bool, c: bool, d: bool) -> bool
     ensures { λ r. ⌜ r ≡ both a (both b (both c d)) ⌝ }
 {
     and(a, and(b, and(c, d)))
 }
 
-pub(crate) fn ranged(from: u8, to: u8, n: u8) -> bool
+pub fn ranged(from: u8, to: u8, n: u8) -> bool
     ensures { λ r. ⌜ r ≡ within from to n ⌝ }
 {
     and(from <= n, n <= to)

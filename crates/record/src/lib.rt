@@ -4,25 +4,33 @@ use octets::Fault;
 
 mod answers;
 mod code;
-mod columns;
 mod joins;
 mod new;
+mod setters;
 mod sides;
-mod tests;
 
 pub use answers::number;
 pub use answers::taken;
 pub use code::network;
+pub use joins::all;
 pub use joins::and;
 pub use joins::not;
 pub use joins::or;
 pub use joins::pick;
+pub use joins::ranged;
 pub use new::empty;
 pub use new::fresh;
 pub use new::new_access;
+pub use setters::counted;
+pub use setters::emptied;
+pub use setters::entered;
+pub use setters::forgotten;
+pub use setters::keyed;
+pub use setters::moved;
+pub use setters::pending;
+pub use setters::taught;
 pub use sides::access_of;
 pub use sides::other_of;
-pub use tests::valid;
 
 // The device's numbers. A flag is 0 or 1; lengths and counts say how much of an array is in use. Here and below the widest
 // fields come first: no gaps, so that a copy is a few wide moves.

@@ -10,7 +10,7 @@ use Rattle.record.specs.declared.Access.{Access}
 use Rattle.record.specs.declared.Record.{Record}
 use Rattle.record.specs.declared.Answer.the-variants.{Taken, Range, State, Short}
 use Rattle.record.specs.Tests.{both}
-use Rattle.record.specs.Valid.{validOf}
+use Rattle.ranges.specs.Valid.{validOf}
 use Rattle.record.specs.Answers.{isTaken}
 use Rattle.record.proofs.Bounds.{rest}
 use Rattle.request.specs.declared.Written.{Written}

@@ -12,7 +12,7 @@ use Rattle.record.specs.declared.Access.{Access}
 use Rattle.record.specs.declared.Hot.{Hot}
 use Rattle.record.specs.declared.Record.{Record}
 use Rattle.record.specs.Tests.{both, either, within, upTo, isFlag, isShort}
-use Rattle.record.specs.Valid.{deviceRanges, modeRanges, identityRanges, accessRanges, rangesOf, countersOf, cardOf, suciOf, validOf}
+use Rattle.ranges.specs.Valid.{deviceRanges, modeRanges, identityRanges, accessRanges, rangesOf, countersOf, cardOf, suciOf, validOf}
 use Rattle.record.proofs.Bounds.{one, rest, most}
 use Rattle.request.specs.Writing.{accessOf}
 

@@ -5,7 +5,7 @@ use mathlib.Core.List.{List, [], _∷_, _++_}
 use lib.ListN.{length, take, drop}
 use lib.Dec.{leb, eqb}
 use Rattle.record.specs.Tests.{both}
-use Rattle.record.specs.Valid.{validOf}
+use Rattle.ranges.specs.Valid.{validOf}
 use Rattle.record.specs.Answers.{isTaken}
 use Rattle.record.specs.declared.Access.{Access}
 use Rattle.record.specs.declared.Hot.{Hot}

@@ -12,7 +12,7 @@ ghost use mathlib.Core.List.{_++_};
 ghost use Prim.Native.Nat.{_+_, _%_, _≤_, _<_};
 ghost use lib.Dec.{leb, eqb};
 ghost use lib.ListN.{length, take};
-ghost use Rattle.record.specs.Valid.{validOf};
+ghost use Rattle.ranges.specs.Valid.{validOf};
 ghost use Rattle.record.specs.Tests.{both};
 ghost use Rattle.request.specs.Layout.{headOf, lengthed, layout};
 ghost use Rattle.request.specs.Writing.{gutisOf, sayingOf, saysOf, writtenOf, over, bufferOf};
@@ -207,7 +207,7 @@ fn nets(access: u8, nets0: [u32; 15], nets1: [u32; 15]) -> [u32; 15]
 fn may(r: Record, access: u8) -> bool
     ensures { λ o. ⌜ o ≡ both (leb access 1) (validOf r) ⌝ }
 {
-    if access <= 1 { record::valid(r) } else { false }
+    if access <= 1 { ranges::valid(r) } else { false }
 }
 
 // An array of a record brings no length: a copy of it does, and the copy is gone when compiled.

@@ -3,21 +3,22 @@ use Prim.Native.Nat.{ℕ}
 use mathlib.Core.Bool.{Bool, true, false, cond}
 use mathlib.Core.List.{List}
 use lib.ListN.{length}
-use lib.Dec.{eqb}
+use lib.Dec.{leb, eqb}
 use Rattle.octets.specs.declared.Fault.the-variants.{Cut}
+use Rattle.record.specs.Tests.{either}
 use Rattle.record.specs.Answers.{isTaken}
 use Rattle.record.specs.declared.Hot.{Hot}
 use Rattle.record.specs.declared.Answer.{Answer}
 use Rattle.record.specs.declared.Answer.the-variants as answer
 use Rattle.entries.specs.declared.Seen.{Seen}
+use Rattle.entries.specs.declared.Deed.{Deed}
 use Rattle.messages.specs.declared.Accept.{Accept}
 use Rattle.messages.specs.declared.Reading.{Reading}
 use Rattle.messages.specs.declared.Reading.the-variants as reading
 use Rattle.messages.specs.Message.{readingOf}
 use Rattle.turns.specs.declared.Told.the-variants.{Left}
 use Rattle.turns.specs.declared.Clocks.{Clocks}
-use Rattle.turns.specs.Timers.{flagAfter, toldOf, clocksOf}
-use Rattle.turns.specs.Access.{clocked}
+use Rattle.turns.specs.Timers.{flagAfter, toldOf, clocksOf, clocked}
 use Rattle.turns.specs.Turns.{still}
 use Rattle.rules.specs.declared.Event.{Event}
 use Rattle.rules.specs.declared.Event.the-variants.{Card, Start, Message, Timer, Power, Key, Unknown}
@@ -28,6 +29,7 @@ use Rattle.rules.specs.declared.Ask.{Ask}
 use Rattle.rules.specs.declared.Plan.{Plan}
 use Rattle.record.specs.Sides.{accessOf, hotOf}
 use Rattle.checks.specs.Answers.{startAnswer, messageAnswer, timerAnswer, keyAnswer, cardAnswer, rowNow}
+use Rattle.effects.specs.Kinds.{sweepDeed}
 use Rattle.effects.specs.Effects.{Effect, ticked, idle, plain, cardEffect, startEffect, keyEffect, acceptEffect, timerEffect, powerEffect, rejectEffect}
 
 -- the octets beside a message event, read; those of another event are none
@@ -151,3 +153,16 @@ decidedBy n h e q s m octets = cond (isTaken n) (takenPlan h q s m (effectOf h e
 
 unfoldable pub planOf : Hot → Event → Ask → Seen → Bool → Reading → List ℕ → Plan
 planOf h e q s listed m octets = decidedBy (answerOf h e s listed m octets) h e q s m octets
+
+-- T3247 out, a power cycle and a card change go over both accesses' entries, all else over the event's own
+unfoldable pub mineOf : ℕ → ℕ → ℕ → ℕ
+mineOf deed w me = cond (either (leb sweepDeed deed) (eqb w me)) deed 0
+
+unfoldable pub deedOf : Plan → ℕ → Deed
+deedOf p me = record {
+  kind = mineOf (p .work .deed) (p .ask .access) me;
+  at = p .seen .at;
+  found = p .seen .found;
+  net = p .ask .net;
+  sure = p .ask .sure;
+}

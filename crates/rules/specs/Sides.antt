@@ -4,8 +4,7 @@ use Rattle.record.specs.declared.Hot.{Hot}
 use Rattle.record.specs.declared.Answer.the-variants as answer
 use Rattle.entries.specs.declared.Seen.{Seen}
 use Rattle.messages.specs.declared.Reading.{Reading}
-use Rattle.turns.specs.Timers.{flagAfter, toldOf, clocksOf}
-use Rattle.turns.specs.Access.{clocked}
+use Rattle.turns.specs.Timers.{flagAfter, toldOf, clocksOf, clocked}
 use Rattle.effects.specs.declared.Sides.{Sides}
 use Rattle.rules.specs.declared.Asked.the-variants.{No}
 use Rattle.rules.specs.declared.Reply.{Reply}

@@ -39,7 +39,7 @@ ghost use mathlib.Core.Bool.{true, false};
 ghost use Prim.Native.Nat.{ℕ, _<_};
 ghost use lib.ListN.{length};
 ghost use Rattle.record.specs.Answers.{isTaken};
-ghost use Rattle.turns.specs.Access as sets;
+ghost use Rattle.turns.specs.Timers as clocks;
 ghost use Rattle.turns.specs.Turns as events;
 ghost use Rattle.record.specs.Sides.{accessOf};
 ghost use Rattle.effects.specs.Effects as effects;
@@ -172,7 +172,7 @@ fn effect_of(h: Hot, e: Event, s: Seen, m: Reading, octets: &[u8]) -> Sides
 }
 
 fn turned(t: Turn) -> Access
-    ensures { λ r. ⌜ r ≡ sets.clocked (t .orders) (t .access) ⌝ }
+    ensures { λ r. ⌜ r ≡ clocks.clocked (t .orders) (t .access) ⌝ }
 {
     clocked(t.orders, t.access)
 }

@@ -8,11 +8,13 @@ use turns::Clocks;
 use turns::Told;
 
 mod decision;
+mod deeds;
 mod replies;
 
 pub use decision::ask_of;
 pub use decision::heard;
 pub use decision::plan_of;
+pub use deeds::deed;
 pub use replies::refused_reply;
 
 // A card's SUCI and a message's octets come beside the event.

@@ -1,5 +1,4 @@
--- Timers, an access's numbers, the rows of the table of rejects, and the other events on an access.
+-- Timers, the rows of the table of rejects, and the other events on an access.
 pub mod Timers
-pub mod Access
 pub mod Rows
 pub mod Turns

@@ -15,6 +15,28 @@ flagAfter Leave flag = flag
 flagAfter Stop flag = 0
 flagAfter (Run s) flag = 1
 
+-- timers run or not by what was ordered
+unfoldable pub clocked : Orders → Access → Access
+clocked o a = record {
+  state = a .state;
+  status = a .status;
+  attempts = a .attempts;
+  cards = a .cards;
+  t3510 = flagAfter (o .t3510) (a .t3510);
+  t3511 = flagAfter (o .t3511) (a .t3511);
+  t3502 = flagAfter (o .t3502) (a .t3502);
+  wait = a .wait;
+  net = a .net;
+  code = a .code;
+  guti = a .guti;
+  visited = a .visited;
+  lastnet = a .lastnet;
+  lastcode = a .lastcode;
+  ksi = a .ksi;
+  equivalents = a .equivalents;
+  entries = a .entries;
+}
+
 -- "left, stopped (only if running) or started, with how many seconds"
 unfoldable pub toldOf : Order → ℕ → Told
 toldOf Leave flag = Left

@@ -10,7 +10,7 @@ use Rattle.turns.specs.declared.Turn.{Turn}
 use Rattle.turns.specs.declared.Row.{Row}
 use Rattle.turns.specs.declared.Row.the-variants.{CardBelow, CardLimit, CardProtected, Away, Home, Area, N1, Protocol, Other}
 use Rattle.turns.specs.Timers.{ordersOf, quiet}
-use Rattle.turns.specs.Access.{moved, forgotten, emptied, counted, pending, keyed, taught, entered}
+use Rattle.record.specs.Setters.{moved, forgotten, emptied, counted, pending, keyed, taught, entered}
 
 abbrev pub turnOf : Access → Orders → Turn
 turnOf a o = record { access = a; orders = o }

@@ -6,7 +6,7 @@ use crate::Told;
 use record::Access;
 ghost use mathlib.Core.Path.{_≡_};
 ghost use mathlib.Core.Bool.{cond};
-ghost use Rattle.turns.specs.Timers.{flagAfter, toldOf, clocksOf};
+ghost use Rattle.turns.specs.Timers.{flagAfter, clocked, toldOf, clocksOf};
 ghost use Rattle.turns.specs.declared.Told.the-variants.{Left, Stopped};
 
 pub fn flag_after(o: Order, flag: u8) -> u8
@@ -17,6 +17,19 @@ pub fn flag_after(o: Order, flag: u8) -> u8
         Order::Stop => 0,
         Order::Run(_) => 1,
     }
+}
+
+pub fn clocked(o: Orders, a: Access) -> Access
+    ensures { λ r. ⌜ r ≡ clocked o a ⌝ }
+{
+    let x = o.t3510;
+    let y = o.t3511;
+    let z = o.t3502;
+    let mut q = a;
+    q.t3510 = flag_after(x, a.t3510);
+    q.t3511 = flag_after(y, a.t3511);
+    q.t3502 = flag_after(z, a.t3502);
+    q
 }
 
 // Stopped only if running.

@@ -1,12 +1,11 @@
 // What an event makes of one access's numbers and timers: the rows of document 01, each by its own words.
 use record::Access;
 
-mod access;
 mod flags;
 mod rows;
 mod turns;
 
-pub use access::clocked;
+pub use flags::clocked;
 pub use flags::clocks_of;
 pub use flags::flag_after;
 pub use flags::told_of;

@@ -14,7 +14,7 @@ use Rattle.laws.specs.Upto.{seekTo}
 use Rattle.areas.specs.declared.Task.{Task}
 use Rattle.areas.specs.Areas.{kept, areaOf, isProtected, sameArea, sizeOf, placeIn, listedIn, marked, remarked, placed, placedCount, stayed, sweptList, listAfter, countAfter}
 use Rattle.record.specs.Tests.{upTo, isShort}
-use Rattle.record.specs.Valid.{isItem, halved}
+use Rattle.ranges.specs.Valid.{isItem, halved}
 use Rattle.validity.proofs.Arrays.{seek-found, seek-before, set-same, set-other, set-reads}
 use Rattle.validity.proofs.Good.{Listing}
 use Rattle.validity.proofs.Filter.{kept-le, kept-all, kept-once}

@@ -8,14 +8,13 @@ use Rattle.areas.specs.Areas.{listAfter, countAfter}
 use Rattle.record.specs.declared.Record.{Record}
 use Rattle.record.specs.Answers.{isTaken}
 use Rattle.record.specs.New.{newDevice, newAccess, emptyRecord}
-use Rattle.turns.specs.Timers.{flagAfter}
-use Rattle.turns.specs.Access.{clocked}
+use Rattle.turns.specs.Timers.{flagAfter, clocked}
 use Rattle.turns.specs.Turns.{renewed}
 use Rattle.rules.specs.declared.Event.the-variants.{Card}
 use Rattle.record.specs.Sides.{hotOf}
 use Rattle.effects.specs.Effects.{ticked, carded, cardEffect}
-use Rattle.rules.specs.Plan.{askOf, effectOf, hotAfter, takenPlan}
-use Rattle.events.specs.Parts.{mineOf, deedOf, tableAfter, listed, doneOf, carriedOut, gutiAfter, equivalentsAfter, suciAfter, keptAfter}
+use Rattle.rules.specs.Plan.{askOf, effectOf, hotAfter, takenPlan, mineOf, deedOf}
+use Rattle.events.specs.Parts.{tableAfter, listed, doneOf, carriedOut, gutiAfter, equivalentsAfter, suciAfter, keptAfter}
 use Rattle.events.specs.Step.{together, joinedOf, advanceOf}
 use Rattle.validity.specs.Answered.{answeredBy}
 use Rattle.validity.specs.Card.{cardRecord}

@@ -15,14 +15,14 @@ use Rattle.record.specs.declared.Record.{Record}
 use Rattle.record.specs.Tests.{within, isShort}
 use Rattle.record.specs.Network.{isNetwork}
 use Rattle.record.specs.New.{zeros}
-use Rattle.record.specs.Valid.{suciOf}
+use Rattle.ranges.specs.Valid.{suciOf}
 use Rattle.turns.specs.declared.Order.the-variants.{Stop}
 use Rattle.turns.specs.Timers.{flagAfter}
 use Rattle.turns.specs.Turns as turns
 use Rattle.record.specs.Sides.{hotOf}
 use Rattle.effects.specs.Effects.{ticked, carded, cardEffect, t3247Effect, powerEffect}
-use Rattle.rules.specs.Plan.{askAt, hotAfter, takenPlan}
-use Rattle.events.specs.Parts.{mineOf, deedOf, tableAfter, taskOf, equivalentsAfter, suciAfter}
+use Rattle.rules.specs.Plan.{askAt, hotAfter, takenPlan, mineOf, deedOf}
+use Rattle.events.specs.Parts.{tableAfter, taskOf, equivalentsAfter, suciAfter}
 use Rattle.validity.specs.Sized.{Sized}
 use Rattle.validity.proofs.Bools.{within-low, within-high, most-is}
 use Rattle.validity.proofs.Arrays.{All}

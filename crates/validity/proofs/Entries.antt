@@ -15,7 +15,7 @@ use Rattle.entries.specs.declared.Deed.{Deed}
 use Rattle.entries.specs.Entries.{sameNet, sizeOf, placeIn, seenIn, liftMark, bumped, putAt, clearUnless, raised, banned, barredBy, accepted, swept, cycled}
 use Rattle.record.specs.Tests.{upTo, isFlag}
 use Rattle.record.specs.Network.{isNetwork}
-use Rattle.record.specs.Valid.{itself}
+use Rattle.ranges.specs.Valid.{itself}
 use Rattle.validity.specs.Sized.{Columns}
 use Rattle.validity.proofs.Arrays.{All, Once, seek-le, seek-found, seek-before, set-same, set-other, set-reads, upto-reads}
 use Rattle.validity.proofs.Good.{Held}

@@ -10,7 +10,7 @@ use Rattle.record.specs.declared.Access.{Access}
 use Rattle.record.specs.declared.Record.{Record}
 use Rattle.record.specs.Tests.{both, either, within, upTo, isFlag, isShort}
 use Rattle.record.specs.Network.{isNetwork}
-use Rattle.record.specs.Valid.{isItem, suciOf, itself, halved}
+use Rattle.ranges.specs.Valid.{isItem, suciOf, itself, halved}
 use Rattle.validity.proofs.Arrays.{All, Once}
 
 -- the device's numbers but for the area lists' counts

@@ -12,15 +12,15 @@ use Rattle.record.specs.declared.Device.{Device}
 use Rattle.record.specs.declared.Access.{Access}
 use Rattle.record.specs.declared.Record.{Record}
 use Rattle.record.specs.Tests.{both, isShort}
-use Rattle.record.specs.Valid.{suciOf}
+use Rattle.ranges.specs.Valid.{suciOf}
 use Rattle.turns.specs.declared.Order.{Order}
 use Rattle.turns.specs.declared.Turn.{Turn}
 use Rattle.turns.specs.Timers.{flagAfter}
 use Rattle.rules.specs.declared.Plan.{Plan}
 use Rattle.effects.specs.Effects.{Effect, ticked, workOf}
 use Rattle.record.specs.Sides.{hotOf}
-use Rattle.rules.specs.Plan.{askAt, hotAfter, takenPlan}
-use Rattle.events.specs.Parts.{mineOf, tableAfter, taskOf, listed, doneOf, carriedOut, isAccepted, isCarded, equivalentsAfter, suciAfter, keptAfter}
+use Rattle.rules.specs.Plan.{askAt, hotAfter, takenPlan, mineOf}
+use Rattle.events.specs.Parts.{tableAfter, taskOf, listed, doneOf, carriedOut, isAccepted, isCarded, equivalentsAfter, suciAfter, keptAfter}
 use Rattle.events.specs.Step.{together, joinedOf}
 use Rattle.validity.specs.Sized.{Sized}
 use Rattle.validity.proofs.Arrays.{All, all-fewer}

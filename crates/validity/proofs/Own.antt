@@ -28,8 +28,8 @@ use Rattle.rules.specs.declared.Ask.{Ask}
 use Rattle.rules.specs.declared.Plan.{Plan}
 use Rattle.record.specs.Sides.{accessOf, otherOf}
 use Rattle.effects.specs.Effects.{plain, acceptEffect, rejectT3247, rowDeed, rowWork, rejectEffect}
-use Rattle.rules.specs.Plan.{askAt, giftOf, takenPlan}
-use Rattle.events.specs.Parts.{seenBy, seenOf, mineOf, deedOf, tableAfter, atMost, networksOf, equivalentsAfter}
+use Rattle.rules.specs.Plan.{askAt, giftOf, takenPlan, mineOf, deedOf}
+use Rattle.events.specs.Parts.{seenBy, seenOf, tableAfter, atMost, networksOf, equivalentsAfter}
 use Rattle.validity.specs.Sized.{Columns, Sized}
 use Rattle.validity.specs.Run.{Octets}
 use Rattle.validity.proofs.Good.{Fit, Timely, Carded, Held, Good}

@@ -14,14 +14,14 @@ use Rattle.record.specs.declared.Record.{Record}
 use Rattle.record.specs.declared.Answer.{Answer}
 use Rattle.record.specs.declared.Answer.the-variants.{Taken, Range, Ignored, Malformed, Full, NoCard, State, Same, Listed, Area, Bare, Idle, Short}
 use Rattle.record.specs.Answers.{isTaken}
-use Rattle.record.specs.Valid.{validOf}
+use Rattle.ranges.specs.Valid.{validOf}
 use Rattle.rules.specs.declared.Ask.{Ask}
 use Rattle.effects.specs.Effects.{Effect}
 use Rattle.rules.specs.declared.Event.{Event}
 use Rattle.rules.specs.declared.Plan.{Plan}
-use Rattle.rules.specs.Plan.{heardOf, askOf, effectOf, takenReply, refusedReply, takenPlan, refusedPlan, decidedBy, planOf}
+use Rattle.rules.specs.Plan.{heardOf, askOf, effectOf, takenReply, refusedReply, takenPlan, refusedPlan, decidedBy, planOf, mineOf, deedOf}
 use Rattle.events.specs.declared.Outcome.{Outcome}
-use Rattle.events.specs.Parts.{plannedOf, plannedBy, mineOf, deedOf, tableAfter, listed, doneOf, carriedOut, partsAfter, gutiAfter, equivalentsAfter, suciAfter, keptAfter}
+use Rattle.events.specs.Parts.{plannedOf, plannedBy, tableAfter, listed, doneOf, carriedOut, partsAfter, gutiAfter, equivalentsAfter, suciAfter, keptAfter}
 use Rattle.events.specs.Step.{together, joinedOf, advanceOf, stepOf}
 use Rattle.validity.specs.Answered.{askIn, seenAt, answeredBy}
 

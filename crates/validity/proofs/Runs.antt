@@ -4,9 +4,9 @@ use mathlib.Core.Path.{_≡_, refl}
 use mathlib.Core.Bool.{true}
 use mathlib.Core.List.{List, [], _∷_, _++_}
 use Rattle.record.specs.declared.Record.{Record}
-use Rattle.record.proofs.MadeValid.{made-valid}
+use Rattle.ranges.proofs.MadeValid.{made-valid}
 use Rattle.record.specs.New.{madeOf}
-use Rattle.record.specs.Valid.{validOf}
+use Rattle.ranges.specs.Valid.{validOf}
 use Rattle.rules.specs.declared.Event.{Event}
 use Rattle.events.specs.Step.{advanceOf, stepOf}
 use Rattle.validity.specs.Sized.{Sized}

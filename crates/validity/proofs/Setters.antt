@@ -11,8 +11,8 @@ use Rattle.record.specs.Network.{isNetwork, half, isDigit}
 use Rattle.turns.specs.declared.Order.{Order}
 use Rattle.turns.specs.declared.Order.the-variants.{Leave, Stop, Run}
 use Rattle.turns.specs.declared.Orders.{Orders}
-use Rattle.turns.specs.Timers.{flagAfter}
-use Rattle.turns.specs.Access.{moved, forgotten, emptied, counted, pending, keyed, taught, entered, clocked}
+use Rattle.turns.specs.Timers.{flagAfter, clocked}
+use Rattle.record.specs.Setters.{moved, forgotten, emptied, counted, pending, keyed, taught, entered}
 use Rattle.validity.proofs.Bools.{both-left, both-true}
 use Rattle.validity.proofs.Good.{Fit}
 

@@ -14,15 +14,15 @@ use Rattle.areas.specs.declared.Task.{Task}
 use Rattle.areas.specs.Areas.{areaOf, isProtected, placeIn, listedIn, marked, remarked, placed, stayed, sweptList, listAfter}
 use Rattle.record.specs.Tests.{both}
 use Rattle.record.specs.New.{zeros, emptyRecord, newRecord, mayMake, madeOf}
-use Rattle.record.specs.Valid.{validOf}
+use Rattle.ranges.specs.Valid.{validOf}
 use Rattle.record.specs.declared.Record.{Record}
 use Rattle.record.specs.declared.Made.{Made}
 use Rattle.record.specs.declared.Answer.the-variants.{Taken, Range}
 use Rattle.rules.specs.declared.Event.{Event}
 use Rattle.rules.specs.declared.Plan.{Plan}
-use Rattle.rules.specs.Plan.{refusedReply}
+use Rattle.rules.specs.Plan.{refusedReply, deedOf}
 use Rattle.events.specs.declared.Outcome.{Outcome}
-use Rattle.events.specs.Parts.{taskOf, deedOf, tableAfter, doneOf, carriedOut, plannedOf, partsAfter, isAccepted, isCarded, atMost, networksOf, gutiAfter, equivalentsAfter, suciAfter, keptAfter}
+use Rattle.events.specs.Parts.{taskOf, tableAfter, doneOf, carriedOut, plannedOf, partsAfter, isAccepted, isCarded, atMost, networksOf, gutiAfter, equivalentsAfter, suciAfter, keptAfter}
 use Rattle.events.specs.Step.{together, joinedOf, advanceOf, stepOf}
 use Rattle.validity.specs.Sized.{Columns, Sized}
 use Rattle.validity.proofs.Arrays.{upto-length}

@@ -15,9 +15,9 @@ use Rattle.turns.specs.declared.Order.the-variants.{Leave, Stop, Run}
 use Rattle.turns.specs.declared.Turn.{Turn}
 use Rattle.turns.specs.declared.Row.{Row}
 use Rattle.turns.specs.declared.Row.the-variants.{CardBelow, CardLimit, CardProtected, Away, Home, Area, N1, Protocol, Other}
-use Rattle.turns.specs.Timers.{flagAfter, ordersOf}
+use Rattle.turns.specs.Timers.{flagAfter, ordersOf, clocked}
 use Rattle.turns.specs.Rows.{needsEntry}
-use Rattle.turns.specs.Access.{moved, forgotten, emptied, counted, pending, keyed, taught, entered, clocked}
+use Rattle.record.specs.Setters.{moved, forgotten, emptied, counted, pending, keyed, taught, entered}
 use Rattle.turns.specs.Turns.{turnOf, rejected, still, started, keySet, accepted, tried, failed, t3510Out, t3511Out, t3502Out, cycled, renewed, oneMore, cardBelow, cardLimit, cardProtected, away, home, area, n1, rowTurn, otherTurn}
 use Rattle.validity.proofs.Bools.{either-first}
 use Rattle.validity.proofs.Good.{Fit, Timely, Carded}

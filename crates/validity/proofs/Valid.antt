@@ -11,7 +11,7 @@ use Rattle.record.specs.declared.Access.{Access}
 use Rattle.record.specs.declared.Record.{Record}
 use Rattle.record.specs.Tests.{both, either, within, upTo, isFlag, isShort}
 use Rattle.record.specs.Network.{isNetwork}
-use Rattle.record.specs.Valid.{deviceRanges, modeRanges, identityRanges, heldRanges, accessRanges, isItem, rangesOf, countersOf, cardOf, suciOf, codesOf, clockOf, itself, halved, onceOf, validOf}
+use Rattle.ranges.specs.Valid.{deviceRanges, modeRanges, identityRanges, heldRanges, accessRanges, isItem, rangesOf, countersOf, cardOf, suciOf, codesOf, clockOf, itself, halved, onceOf, validOf}
 use Rattle.validity.proofs.Bools.{both-left, both-right, both-true}
 use Rattle.validity.proofs.Arrays.{all-of, of-all, once-of, of-once}
 use Rattle.validity.proofs.Good.{Carded, Listing, Half, Good}

@@ -1,0 +1,3 @@
+-- What the tests of a record show, and that a new record passes them.
+pub mod Bounds
+pub mod MadeValid

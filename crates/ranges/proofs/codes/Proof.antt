@@ -1,0 +1,44 @@
+-- The record's ranges hold, so each column is read to its count. Assumes nothing.
+use Rattle.ranges.specs.Valid.{codesOf}
+use Rattle.ranges.proofs.Bounds.{bounded}
+use borrow.Author.Needs.{needs}
+use Rattle.ranges.proofs.codes.Statement.{statement}
+use Rattle.ranges.proofs.codes.Tie as tie
+
+networks-requires : tie.Need-networks-requires
+networks-requires c κs = bounded _ (c .before .before .before .pre) .first
+
+networks-requires-2 : tie.Need-networks-requires-2
+networks-requires-2 c κs = bounded _ (c .before .before .before .before .before .before .pre) .second
+
+network-requires : tie.Need-network-requires
+network-requires c κs = search needs
+
+network-requires-2 : tie.Need-network-requires-2
+network-requires-2 c κs = search needs
+
+network-requires-3 : tie.Need-network-requires-3
+network-requires-3 c κs = search needs
+
+and-requires : tie.Need-and-requires
+and-requires c κs = search needs
+
+all-requires : tie.Need-all-requires
+all-requires c κs = search needs
+
+returns : tie.Need-returns
+unfolding codesOf
+returns c = cc
+
+pub codes-spec : {M : Type 1} → statement M
+codes-spec =
+    tie.close
+    (tie.spec
+    networks-requires
+    networks-requires-2
+    network-requires
+    network-requires-2
+    network-requires-3
+    and-requires
+    all-requires
+    returns)

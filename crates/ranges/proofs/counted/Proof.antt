@@ -1,0 +1,20 @@
+-- The record's ranges hold, so each column is read to its count. Assumes nothing.
+use Rattle.ranges.proofs.Bounds.{bounded}
+use borrow.Author.Needs.{needs}
+use Rattle.ranges.proofs.counted.Statement.{statement}
+use Rattle.ranges.proofs.counted.Tie as tie
+
+counters-requires : tie.Need-counters-requires
+counters-requires c κs = bounded _ (c .before .pre) .first
+
+counters-requires-2 : tie.Need-counters-requires-2
+counters-requires-2 c κs = bounded _ (c .before .before .pre) .second
+
+and-requires : tie.Need-and-requires
+and-requires c κs = search needs
+
+returns : tie.Need-returns
+returns c = cc
+
+pub counted-spec : {M : Type 1} → statement M
+counted-spec = tie.close (tie.spec counters-requires counters-requires-2 and-requires returns)

@@ -1,0 +1,2 @@
+-- What makes a record valid.
+pub mod Valid

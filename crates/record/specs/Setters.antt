@@ -1,0 +1,181 @@
+-- What an event sets in an access's numbers: one setter for each group that document 01's rows name. Assumes nothing.
+use Prim.Native.Nat.{ℕ, _+_}
+use mathlib.Core.Bool.{Bool, cond}
+use lib.Dec.{ltb}
+use Rattle.record.specs.declared.Access.{Access}
+
+-- state, update status and attempt counter
+unfoldable pub moved : ℕ → ℕ → ℕ → Access → Access
+moved state status attempts a = record {
+  state = state;
+  status = status;
+  attempts = attempts;
+  cards = a .cards;
+  t3510 = a .t3510;
+  t3511 = a .t3511;
+  t3502 = a .t3502;
+  wait = a .wait;
+  net = a .net;
+  code = a .code;
+  guti = a .guti;
+  visited = a .visited;
+  lastnet = a .lastnet;
+  lastcode = a .lastcode;
+  ksi = a .ksi;
+  equivalents = a .equivalents;
+  entries = a .entries;
+}
+
+-- "Clear identity": GUTI, last area removed, ngKSI 7
+unfoldable pub forgotten : Access → Access
+forgotten a = record {
+  state = a .state;
+  status = a .status;
+  attempts = a .attempts;
+  cards = a .cards;
+  t3510 = a .t3510;
+  t3511 = a .t3511;
+  t3502 = a .t3502;
+  wait = a .wait;
+  net = a .net;
+  code = a .code;
+  guti = 0;
+  visited = 0;
+  lastnet = a .lastnet;
+  lastcode = a .lastcode;
+  ksi = 7;
+  equivalents = a .equivalents;
+  entries = a .entries;
+}
+
+-- equivalents emptied
+unfoldable pub emptied : Access → Access
+emptied a = record {
+  state = a .state;
+  status = a .status;
+  attempts = a .attempts;
+  cards = a .cards;
+  t3510 = a .t3510;
+  t3511 = a .t3511;
+  t3502 = a .t3502;
+  wait = a .wait;
+  net = a .net;
+  code = a .code;
+  guti = a .guti;
+  visited = a .visited;
+  lastnet = a .lastnet;
+  lastcode = a .lastcode;
+  ksi = a .ksi;
+  equivalents = 0;
+  entries = a .entries;
+}
+
+-- the card counter
+unfoldable pub counted : ℕ → Access → Access
+counted n a = record {
+  state = a .state;
+  status = a .status;
+  attempts = a .attempts;
+  cards = n;
+  t3510 = a .t3510;
+  t3511 = a .t3511;
+  t3502 = a .t3502;
+  wait = a .wait;
+  net = a .net;
+  code = a .code;
+  guti = a .guti;
+  visited = a .visited;
+  lastnet = a .lastnet;
+  lastcode = a .lastcode;
+  ksi = a .ksi;
+  equivalents = a .equivalents;
+  entries = a .entries;
+}
+
+-- the pending network and area
+unfoldable pub pending : ℕ → ℕ → Access → Access
+pending net code a = record {
+  state = a .state;
+  status = a .status;
+  attempts = a .attempts;
+  cards = a .cards;
+  t3510 = a .t3510;
+  t3511 = a .t3511;
+  t3502 = a .t3502;
+  wait = a .wait;
+  net = net;
+  code = code;
+  guti = a .guti;
+  visited = a .visited;
+  lastnet = a .lastnet;
+  lastcode = a .lastcode;
+  ksi = a .ksi;
+  equivalents = a .equivalents;
+  entries = a .entries;
+}
+
+-- the key set, stored as ngKSI
+unfoldable pub keyed : ℕ → Access → Access
+keyed set a = record {
+  state = a .state;
+  status = a .status;
+  attempts = a .attempts;
+  cards = a .cards;
+  t3510 = a .t3510;
+  t3511 = a .t3511;
+  t3502 = a .t3502;
+  wait = a .wait;
+  net = a .net;
+  code = a .code;
+  guti = a .guti;
+  visited = a .visited;
+  lastnet = a .lastnet;
+  lastcode = a .lastcode;
+  ksi = set;
+  equivalents = a .equivalents;
+  entries = a .entries;
+}
+
+-- last area is the pending one, GUTI replaced if given, equivalent networks replaced (absent: emptied), T3502 length from the message, else 720 s
+unfoldable pub taught : Bool → ℕ → ℕ → Access → Access
+taught given count wait a = record {
+  state = a .state;
+  status = a .status;
+  attempts = a .attempts;
+  cards = a .cards;
+  t3510 = a .t3510;
+  t3511 = a .t3511;
+  t3502 = a .t3502;
+  wait = wait;
+  net = a .net;
+  code = a .code;
+  guti = cond given 1 (a .guti);
+  visited = 1;
+  lastnet = a .net;
+  lastcode = a .code;
+  ksi = a .ksi;
+  equivalents = count;
+  entries = a .entries;
+}
+
+-- one entry more where the network had none
+unfoldable pub entered : Bool → Access → Access
+entered found a = record {
+  state = a .state;
+  status = a .status;
+  attempts = a .attempts;
+  cards = a .cards;
+  t3510 = a .t3510;
+  t3511 = a .t3511;
+  t3502 = a .t3502;
+  wait = a .wait;
+  net = a .net;
+  code = a .code;
+  guti = a .guti;
+  visited = a .visited;
+  lastnet = a .lastnet;
+  lastcode = a .lastcode;
+  ksi = a .ksi;
+  equivalents = a .equivalents;
+  entries = cond found (a .entries) (cond (ltb (a .entries) 16) (a .entries + 1) (a .entries));
+}

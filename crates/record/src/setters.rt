@@ -1,0 +1,99 @@
+// What an event sets in an access's numbers: one setter for each group that document 01's rows name.
+use crate::Access;
+ghost use mathlib.Core.Path.{_≡_};
+ghost use mathlib.Core.Bool.{cond};
+ghost use Prim.Native.Nat.{_+_};
+ghost use lib.Dec.{ltb};
+ghost use Rattle.record.specs.Setters as sets;
+
+pub fn moved(state: u8, status: u8, attempts: u8, a: Access) -> Access
+    ensures { λ r. ⌜ r ≡ sets.moved state status attempts a ⌝ }
+{
+    let mut q = a;
+    q.state = state;
+    q.status = status;
+    q.attempts = attempts;
+    q
+}
+
+// "Clear identity".
+pub fn forgotten(a: Access) -> Access
+    ensures { λ r. ⌜ r ≡ sets.forgotten a ⌝ }
+{
+    let mut q = a;
+    q.guti = 0;
+    q.visited = 0;
+    q.ksi = 7;
+    q
+}
+
+pub fn emptied(a: Access) -> Access
+    ensures { λ r. ⌜ r ≡ sets.emptied a ⌝ }
+{
+    let mut q = a;
+    q.equivalents = 0;
+    q
+}
+
+pub fn counted(n: u8, a: Access) -> Access
+    ensures { λ r. ⌜ r ≡ sets.counted n a ⌝ }
+{
+    let mut q = a;
+    q.cards = n;
+    q
+}
+
+pub fn pending(net: u32, code: u32, a: Access) -> Access
+    ensures { λ r. ⌜ r ≡ sets.pending net code a ⌝ }
+{
+    let mut q = a;
+    q.net = net;
+    q.code = code;
+    q
+}
+
+pub fn keyed(set: u8, a: Access) -> Access
+    ensures { λ r. ⌜ r ≡ sets.keyed set a ⌝ }
+{
+    let mut q = a;
+    q.ksi = set;
+    q
+}
+
+fn held(given: bool, guti: u8) -> u8
+    ensures { λ r. ⌜ r ≡ cond given 1 guti ⌝ }
+{
+    if given { 1 } else { guti }
+}
+
+// What an accept leaves behind.
+pub fn taught(given: bool, count: u8, wait: u16, a: Access) -> Access
+    ensures { λ r. ⌜ r ≡ sets.taught given count wait a ⌝ }
+{
+    let mut q = a;
+    q.wait = wait;
+    q.guti = held(given, a.guti);
+    q.visited = 1;
+    q.lastnet = a.net;
+    q.lastcode = a.code;
+    q.equivalents = count;
+    q
+}
+
+// One entry more where the network had none.
+fn more(found: bool, entries: u8) -> u8
+    ensures { λ r. ⌜ r ≡ cond found entries (cond (ltb entries 16) (entries + 1) entries) ⌝ }
+{
+    if found {
+        return entries;
+    }
+    if entries < 16 { entries + 1 } else { entries }
+}
+
+pub fn entered(found: bool, a: Access) -> Access
+    ensures { λ r. ⌜ r ≡ sets.entered found a ⌝ }
+{
+    let mut q = a;
+    q.entries = more(found, a.entries);
+    q
+}
