@@ -37,7 +37,7 @@ use Rattle.history.specs.Cell.{entriesIn}
 use Rattle.history.specs.Apart.{Half, halfOf}
 use Rattle.history.proofs.Next.{other-of, next, plan, idle-on, carry-guti, carry-equivalents, taken-access, taken-entries}
 use Rattle.history.proofs.Rows.{few}
-use Rattle.history.proofs.Events.{small}
+use Rattle.history.proofs.Stays.{small}
 
 -- the rows of an unprotected reject leave the other access
 bare-rows : (b c d e f at-home below : Bool) (limit : ℕ) (a : Access)

@@ -31,8 +31,9 @@ use Rattle.history.specs.Cell.{Cell, cellIn, entriesIn, cellOf}
 use Rattle.history.specs.History.{Limits, takenOf, homeAfter, homeOf, pendingAfter, pendingOf, isCardChange, eventNews, newsOf, saidBy, saidOf}
 use Rattle.history.proofs.Said.{cellAfter, said-none, said-step}
 use Rattle.history.proofs.Cells.{cell-none}
-use Rattle.history.proofs.Next.{next}
-use Rattle.history.proofs.Events.{limitsOf, home-step, ban-step, n1-step, net-step, card-cell, event-cell}
+use Rattle.history.proofs.Next.{next, limitsOf}
+use Rattle.history.proofs.Steps.{home-step, ban-step, n1-step, net-step}
+use Rattle.history.proofs.Events.{card-cell, event-cell}
 
 -- no fault is answer 0
 fault-number : (f : Fault) (at : ℕ) → eqb (numberOf (answer.Malformed f at)) 0 ≡ false

@@ -4,6 +4,9 @@ pub mod Columns
 pub mod Cells
 pub mod Next
 pub mod Rows
+pub mod Stays
+pub mod Steps
+pub mod Messages
 pub mod Events
 pub mod Demand3
 pub mod Apart

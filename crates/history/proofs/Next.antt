@@ -25,7 +25,9 @@ use Rattle.events.specs.Parts.{tableAfter, listed, doneOf, carriedOut, gutiAfte
 use Rattle.events.specs.Step.{together, joinedOf, advanceOf}
 use Rattle.validity.specs.Answered.{askIn, seenAt, answeredBy}
 use Rattle.validity.proofs.Refusal.{carry, effectIn, taken-plan}
+use Rattle.validity.specs.Sized.{Columns}
 use Rattle.history.specs.Cell.{cellIn, entriesIn, cellOf}
+use Rattle.history.specs.History.{Limits}
 
 -- access w of two
 access-of : (d : Device) (b : ℕ) (mine theirs : Access) (w : ℕ) → b < 2 → w < 2 → accessOf (hotOf d b mine theirs) w ≡ cond (eqb b w) mine theirs
@@ -172,3 +174,13 @@ module _ (r : Record) (e : Event) (octets : List ℕ) where
           (ap (λ (k : ℕ). cellIn k (doneOn (effectIn r e octets .work .deed) w) n) (ap (λ (a : Access). a .entries) taken-access
           ∙ entries-of (eqb (askIn r e .access) w) (effectIn r e octets .mine .orders) (effectIn r e octets .theirs .orders) (effectIn r e octets .mine .access)
           (effectIn r e octets .theirs .access)))
+
+module _ (r : Record) where
+  -- the limits of the network counters
+  abbrev pub limitsOf : Limits
+  limitsOf = record { ban = r .hot .dev .banlimit; n1 = r .hot .dev .n1limit }
+
+  module _ (c0 : Columns (r .e0)) (c1 : Columns (r .e1)) where
+    pub columns : (w : ℕ) → Columns (entriesIn r w)
+    unfolding entriesIn
+    columns w = elim (eqb w 0) as (λ s. Columns (cond s (r .e0) (r .e1))) [ true ↦ c0 | false ↦ c1 ]

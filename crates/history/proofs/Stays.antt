@@ -1,0 +1,123 @@
+-- What a taken event leaves alone: numbers of the device, and of an access that its effect does not touch. Assumes nothing.
+use Prim.Native.Nat.{ℕ, _<_}
+use mathlib.Core.Path.{_≡_, refl, ap}
+use mathlib.Core.Bool.{Bool, true, false, cond}
+use mathlib.Core.List.{List}
+use native.Mathlib.Omega.{arith}
+use lib.Dec.{eqb}
+use borrow.Author.Tests.{leb-true, eqb-true}
+use Rattle.record.specs.Tests.{isFlag}
+use Rattle.record.specs.Answers.{isTaken}
+use Rattle.record.specs.declared.Access.{Access}
+use Rattle.record.specs.declared.Hot.{Hot}
+use Rattle.record.specs.declared.Record.{Record}
+use Rattle.entries.specs.declared.Seen.{Seen}
+use Rattle.messages.specs.declared.Reading.{Reading}
+use Rattle.messages.specs.declared.Reading.the-variants as reading
+use Rattle.record.specs.Setters.{moved, pending, taught}
+use Rattle.turns.specs.Turns.{t3511Out, t3502Out}
+use Rattle.turns.specs.Turns as turns
+use Rattle.effects.specs.Effects.{Effect, acceptEffect, clockEffect, t3247Effect, timerEffect, rejectEffect}
+use Rattle.rules.specs.declared.Event.{Event}
+use Rattle.rules.specs.declared.Event.the-variants.{Card, Start, Message, Timer, Power, Key, Unknown}
+use Rattle.record.specs.Sides.{accessOf, otherOf}
+use Rattle.checks.specs.Answers.{rowNow, timerAnswer}
+use Rattle.rules.specs.Plan.{askOf, answerOf, messageEffect, mineOf}
+use Rattle.validity.specs.Answered.{askIn, answeredBy}
+use Rattle.validity.proofs.Taken.{start-passed, message-passed, timer-passed, key-passed}
+use Rattle.history.proofs.Next.{other-of}
+use Rattle.history.proofs.Rows.{out-net, out-entries, row-net, other-net}
+
+-- T3247 is named with access 0
+pub t3247-zero : (h : Hot) (number w : ℕ) → isTaken (timerAnswer h number w) ≡ true → eqb number 4 ≡ true → w ≡ 0
+t3247-zero h number w t q = eqb-true w 0 (rw (eqb-true number 4 q) at (timer-passed h number w t .1))
+
+flag-small : (w : ℕ) → isFlag w ≡ true → w < 2
+flag-small w h = omega (arith, leb-true w 1 h)
+
+-- the access of a taken event is 0 or 1
+pub small : (r : Record) (e : Event) (octets : List ℕ) → isTaken (answeredBy r e octets) ≡ true → askIn r e .access < 2
+unfolding askOf answeredBy answerOf
+small r (Card home) octets t = omega arith
+small r (Start w manual net code) octets t = flag-small w (start-passed (r .hot) w manual net code _ _ t .0)
+small r (Message w sure draw) octets t = flag-small w (message-passed (r .hot) w sure draw _ _ t .0)
+small r (Timer number w) octets t = flag-small w (timer-passed (r .hot) number w t .0)
+small r Power octets t = omega arith
+small r (Key w set) octets t = flag-small w (key-passed (r .hot) w set t .0)
+small r Unknown octets t = omega arith
+
+-- What stays.
+
+pub idle-mine : (b w : ℕ) → mineOf 0 b w ≡ 0
+unfolding mineOf
+idle-mine b w = elim (eqb b w) as (λ s. cond {A = ℕ} s 0 0 ≡ 0) [ true ↦ refl | false ↦ refl ]
+
+module _ (h : Hot) where
+  -- both accesses' numbers, read from the event's own and the other
+  pub both-kept : (f : Access → ℕ) (b w : ℕ) → b < 2 → w < 2 → cond (eqb b w) (f (accessOf h b)) (f (otherOf h b)) ≡ f (accessOf h w)
+  both-kept f b w hb hw = go (eqb b w) refl
+    where
+      go : (s : Bool) → eqb b w ≡ s → cond (eqb b w) (f (accessOf h b)) (f (otherOf h b)) ≡ f (accessOf h w)
+      go true q = rw q (ap (λ (z : ℕ). f (accessOf h z)) (eqb-true b w q))
+      go false q = rw q (ap f (other-of h b w hb hw q))
+
+  -- the same, from access 0's and access 1's
+  pub each-kept : (f : Access → ℕ) (w : ℕ) → w < 2 → cond (eqb 0 w) (f (h .a0)) (f (h .a1)) ≡ f (accessOf h w)
+  unfolding accessOf otherOf
+  each-kept f w hw = both-kept f 0 w (omega arith) hw
+
+  pub out-effect : (number b : ℕ) → eqb number 4 ≡ true → timerEffect h number b ≡ t3247Effect h
+  unfolding timerEffect
+  out-effect number b q = rw q
+
+  -- an effect that leaves the device's numbers and the pending networks
+  pub record Keeps (b : ℕ) (e : Effect) : Type 0 where
+    pub dev : e .dev ≡ h .dev
+    pub net : e .mine .access .net ≡ accessOf h b .net
+    pub others : e .theirs .access .net ≡ otherOf h b .net
+
+  clock-keeps : (number b : ℕ) → Keeps b (clockEffect h number b)
+  unfolding clockEffect t3511Out t3502Out moved
+  clock-keeps number b = go (eqb number 1) refl (eqb number 2) refl
+    where
+      go : (s : Bool) → eqb number 1 ≡ s → (s′ : Bool) → eqb number 2 ≡ s′ → Keeps b (clockEffect h number b)
+      go true q s′ q′ = rw q (record { dev = refl; net = out-net (accessOf h b); others = refl })
+      go false q true q′ = rw (q, q′) (record { dev = refl; net = refl; others = refl })
+      go false q false q′ = rw (q, q′) (record { dev = refl; net = refl; others = refl })
+
+  pub clock-entries : (number b : ℕ) → clockEffect h number b .mine .access .entries ≡ accessOf h b .entries
+  unfolding clockEffect t3511Out t3502Out moved
+  clock-entries number b = go (eqb number 1) refl (eqb number 2) refl
+    where
+      go : (s : Bool) → eqb number 1 ≡ s → (s′ : Bool) → eqb number 2 ≡ s′ → clockEffect h number b .mine .access .entries ≡ accessOf h b .entries
+      go true q s′ q′ = rw q (out-entries (accessOf h b))
+      go false q true q′ = rw (q, q′)
+      go false q false q′ = rw (q, q′)
+
+  pub clock-others : (number b : ℕ) → (clockEffect h number b .theirs .access .entries ≡ otherOf h b .entries) × (clockEffect h number b .work .deed ≡ 0)
+  unfolding clockEffect
+  clock-others number b = go (eqb number 1) refl (eqb number 2) refl
+    where
+      go : (s : Bool) → eqb number 1 ≡ s → (s′ : Bool) → eqb number 2 ≡ s′ → (clockEffect h number b .theirs .access .entries ≡ otherOf h b .entries) × (clockEffect h number b .work .deed ≡ 0)
+      go true q s′ q′ = rw q (refl, refl)
+      go false q true q′ = rw (q, q′) (refl, refl)
+      go false q false q′ = rw (q, q′) (refl, refl)
+
+  pub timer-keeps : (number b : ℕ) → isTaken (timerAnswer h number b) ≡ true → Keeps b (timerEffect h number b)
+  unfolding timerEffect t3247Effect accessOf otherOf
+  timer-keeps number b t = go (eqb number 4) refl
+    where
+      go : (s : Bool) → eqb number 4 ≡ s → Keeps b (timerEffect h number b)
+      go true q = rw (q, t3247-zero h number b t q) (record { dev = refl; net = refl; others = refl })
+      go false q = rw q (clock-keeps number b)
+
+  pub message-keeps : (b sure draw : ℕ) (m : Reading) (s : Seen) → Keeps b (messageEffect h b sure draw m s)
+  unfolding messageEffect acceptEffect rejectEffect turns.accepted taught moved
+  message-keeps b sure draw (reading.Accept g) s = record { dev = refl; net = refl; others = refl }
+  message-keeps b sure draw (reading.Reject cause) s =
+      record {
+        dev = refl;
+        net = row-net b (h .dev .cardlimit) cause (s .found) (accessOf h b) (rowNow h b sure cause);
+        others = other-net (h .dev .cardlimit) (otherOf h b) (rowNow h b sure cause);
+      }
+  message-keeps b sure draw (reading.Bad f at) s = record { dev = refl; net = refl; others = refl }
