@@ -14,7 +14,7 @@ use Rattle.record.specs.declared.Record.{Record}
 use Rattle.entries.specs.declared.Seen.{Seen}
 use Rattle.messages.specs.declared.Reading.{Reading}
 use Rattle.messages.specs.declared.Reading.the-variants as reading
-use Rattle.record.specs.Setters.{moved, pending, taught}
+use Rattle.record.specs.Setters.{moved, taught}
 use Rattle.turns.specs.Turns.{t3511Out, t3502Out}
 use Rattle.turns.specs.Turns as turns
 use Rattle.effects.specs.Effects.{Effect, acceptEffect, clockEffect, t3247Effect, timerEffect, rejectEffect}

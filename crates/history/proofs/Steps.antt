@@ -4,6 +4,7 @@ use mathlib.Core.Path.{_≡_, refl, _∙_, ap}
 use mathlib.Core.Bool.{Bool, true, false, cond}
 use mathlib.Core.List.{List}
 use lib.Dec.{eqb}
+use lib.ListN.{length}
 use Rattle.record.specs.Answers.{isTaken}
 use Rattle.record.specs.New.{newAccess}
 use Rattle.record.specs.declared.Access.{Access}
@@ -34,34 +35,28 @@ module _ (r : Record) where
   event-home (Key b set) octets t = refl
   event-home Unknown octets t = refl
 
-  event-ban : (e : Event) (octets : List ℕ) → isTaken (answeredBy r e octets) ≡ true → effectIn r e octets .dev .banlimit ≡ r .hot .dev .banlimit
-  unfolding answeredBy answerOf effectOf cardEffect carded startEffect keyEffect powerEffect
-  event-ban (Card home) octets t = refl
-  event-ban (Start b manual net code) octets t = refl
-  event-ban (Message b sure draw) octets t = ap (λ (d : Device). d .banlimit) (message-keeps (r .hot) b sure draw _ _ .dev)
-  event-ban (Timer number b) octets t = ap (λ (d : Device). d .banlimit) (timer-keeps (r .hot) number b t .dev)
-  event-ban Power octets t = refl
-  event-ban (Key b set) octets t = refl
-  event-ban Unknown octets t = refl
-
-  event-n1 : (e : Event) (octets : List ℕ) → isTaken (answeredBy r e octets) ≡ true → effectIn r e octets .dev .n1limit ≡ r .hot .dev .n1limit
-  unfolding answeredBy answerOf effectOf cardEffect carded startEffect keyEffect powerEffect
-  event-n1 (Card home) octets t = refl
-  event-n1 (Start b manual net code) octets t = refl
-  event-n1 (Message b sure draw) octets t = ap (λ (d : Device). d .n1limit) (message-keeps (r .hot) b sure draw _ _ .dev)
-  event-n1 (Timer number b) octets t = ap (λ (d : Device). d .n1limit) (timer-keeps (r .hot) number b t .dev)
-  event-n1 Power octets t = refl
-  event-n1 (Key b set) octets t = refl
-  event-n1 Unknown octets t = refl
+  -- a number of the device that a card change leaves too
+  event-device : (f : Device → ℕ) → ((home suci : ℕ) → f (carded home suci (r .hot .dev)) ≡ f (r .hot .dev)) → (e : Event) (octets : List ℕ)
+      → isTaken (answeredBy r e octets) ≡ true → f (effectIn r e octets .dev) ≡ f (r .hot .dev)
+  unfolding answeredBy answerOf effectOf cardEffect startEffect keyEffect powerEffect
+  event-device f k (Card home) octets t = k home (length octets)
+  event-device f k (Start b manual net code) octets t = refl
+  event-device f k (Message b sure draw) octets t = ap f (message-keeps (r .hot) b sure draw _ _ .dev)
+  event-device f k (Timer number b) octets t = ap f (timer-keeps (r .hot) number b t .dev)
+  event-device f k Power octets t = refl
+  event-device f k (Key b set) octets t = refl
+  event-device f k Unknown octets t = refl
 
   pub home-step : (e : Event) (octets : List ℕ) → isTaken (answeredBy r e octets) ≡ true → next r e octets .hot .dev .home ≡ homeAfter e (r .hot .dev .home)
   home-step e octets t = taken-home r e octets t ∙ event-home e octets t
 
   pub ban-step : (e : Event) (octets : List ℕ) → isTaken (answeredBy r e octets) ≡ true → next r e octets .hot .dev .banlimit ≡ r .hot .dev .banlimit
-  ban-step e octets t = taken-ban r e octets t ∙ event-ban e octets t
+  unfolding carded
+  ban-step e octets t = taken-ban r e octets t ∙ event-device (λ (d : Device). d .banlimit) (λ home suci. refl) e octets t
 
   pub n1-step : (e : Event) (octets : List ℕ) → isTaken (answeredBy r e octets) ≡ true → next r e octets .hot .dev .n1limit ≡ r .hot .dev .n1limit
-  n1-step e octets t = taken-n1 r e octets t ∙ event-n1 e octets t
+  unfolding carded
+  n1-step e octets t = taken-n1 r e octets t ∙ event-device (λ (d : Device). d .n1limit) (λ home suci. refl) e octets t
 
   -- the pending network after an event that keeps it
   net-kept : (e : Event) (octets : List ℕ) (t : isTaken (answeredBy r e octets) ≡ true) → Keeps (r .hot) (askIn r e .access) (effectIn r e octets) → (w : ℕ) → w < 2
