@@ -11,7 +11,7 @@ use Rattle.record.specs.Network.{networkOf}
 
 -- The GUTIs as sent, F2 and ten octets for access 0, then for access 1. A slot is 0 or 1 for the GUTI of that access, and 2 for the SUCI.
 -- The network of a GUTI is its first three octets.
-unfoldable pub gutiNet : List ℕ → ℕ → ℕ
+abbrev pub gutiNet : List ℕ → ℕ → ℕ
 gutiNet g slot = networkOf (getD g (slot * 11 + 1) 0) (getD g (slot * 11 + 2) 0) (getD g (slot * 11 + 3) 0)
 
 abbrev pub isHeld : ℕ → Bool

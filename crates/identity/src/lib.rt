@@ -1,6 +1,6 @@
 // The identity that a request opens with, handed back as a part of what held it.
-use octets::word;
 use record::and;
+use record::triple;
 ghost use mathlib.Core.Path.{_≡_};
 ghost use Prim.Native.Nat.{_≤_};
 ghost use lib.ListN.{length};
@@ -14,10 +14,8 @@ fn net(gutis: &[u8], slot: usize) -> u32
     requires { ⌜ (length (now gutis) ≡ 22) × (slot ≤ 1) ⌝ }
     ensures { λ r. ⌜ r ≡ gutiNet (now (gutis .entry)) slot ⌝ }
 {
-    let a = word(gutis[slot * 11 + 1]);
-    let b = word(gutis[slot * 11 + 2]);
-    let c = word(gutis[slot * 11 + 3]);
-    a * 65536 + b * 256 + c
+    let at = slot * 11;
+    triple(gutis[at + 1], gutis[at + 2], gutis[at + 3])
 }
 
 // Equivalents in use: a count above fifteen counts as fifteen.

@@ -12,6 +12,7 @@ mod sides;
 pub use answers::number;
 pub use answers::taken;
 pub use code::network;
+pub use code::triple;
 pub use joins::all;
 pub use joins::and;
 pub use joins::not;
