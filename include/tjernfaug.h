@@ -36,7 +36,12 @@ struct tjernfaug_device {
     uint8_t regional;
 };
 
-/* One access's numbers. A network and an area code are three octets, the first one highest. */
+/*
+ * One access's numbers. A network and an area code are three octets, the first one highest.
+ * state: 0 no card or card refused, 1 normal service, 2 limited service, 3 attempting registration, 4 registration initiated, 5 registered, 6 network search.
+ * status: 1 to 3 for 5U1 to 5U3. wait: T3502's stored length in seconds. cards: the card counter. net and code: the pending area.
+ * guti, visited: whether a GUTI and a last area (lastnet, lastcode) are held. ksi: ngKSI, 7 for none.
+ */
 struct tjernfaug_access {
     uint32_t net;
     uint32_t code;
@@ -75,6 +80,7 @@ struct tjernfaug_entries {
 /*
  * The record, which firmware keeps and lends. Its fields are there to be read; one that is written may make the record invalid, which is answer 1.
  * The octets between the fields have no meaning and may change at any call.
+ * A listed area is (network * 2^24 + code) * 2, plus 1 if it is marked protected; the oldest first.
  */
 struct tjernfaug_record {
     struct tjernfaug_hot hot;
@@ -120,8 +126,8 @@ _Static_assert(sizeof(struct tjernfaug_notice) == 68, "the notice's size");
 _Static_assert(_Alignof(struct tjernfaug_notice) == 4, "the notice's alignment");
 
 /*
- * A new record with these limits (1 to 10), 5GMM capability (1 to 13 octets) and UE security capability (2 to 8 octets). What r held before is not read.
- * 0, or 1 where one of them is outside its range: r is then a new record with the smallest limits (1) and capabilities (00, and 00 00).
+ * A new record with these limits (1 to 10), 5GMM capability (1 to 13 octets) and UE security capability (2 to 8 octets), over any octets that r held.
+ * 0, or 1 where one of them is outside its range: r is then as it was.
  */
 uint32_t tjernfaug_new(struct tjernfaug_record *r, uint8_t cardlimit, uint8_t banlimit, uint8_t n1limit,
                        const uint8_t *capability, size_t capability_len, const uint8_t *security, size_t security_len);

@@ -80,17 +80,33 @@ fn number([a, b, c]: [u8; 3]) -> u32 {
     u32::from_be_bytes([0, a, b, c])
 }
 
-/// A new record over random octets. One limit in eight, and the lengths of one in four, are about the ends of their range.
-pub fn opening(d: &mut Draw) -> Ask {
+fn random(d: &mut Draw) -> CRecord {
     let mut record = CRecord::zero();
     d.scatter(record.octets_mut());
-    let small = [0; 3].map(|_| if d.below(8) == 0 { [0, 1, 10, 11, d.octet(256)][d.below(5) as usize] } else { 1 + d.octet(10) });
-    let lens = match d.below(4) {
-        0 => [[0, 1, 13, 14][d.below(4) as usize], [0, 1, 2, 8, 9][d.below(5) as usize]],
-        _ => [1 + d.below(13), 2 + d.below(7)],
-    };
-    let arrays = lens.map(|len| d.octets(len));
+    record
+}
+
+/// A new record over another, with limits and lengths in their range.
+fn fitting(d: &mut Draw, record: CRecord) -> Ask {
+    let small = [0; 3].map(|_| 1 + d.octet(10));
+    let arrays = [1 + d.below(13), 2 + d.below(7)].map(|len| d.octets(len));
     Ask { small, arrays, ..d.ask(NEW, record) }
+}
+
+/// The same, but one limit in eight, and the lengths of one in four, are about the ends of their range: a third is refused.
+fn opening(d: &mut Draw, record: CRecord) -> Ask {
+    let mut ask = fitting(d, record);
+    ask.small = ask.small.map(|limit| if d.below(8) == 0 { [0, 1, 10, 11, d.octet(256)][d.below(5) as usize] } else { limit });
+    if d.below(4) == 0 {
+        ask.arrays = [[0, 1, 13, 14][d.below(4) as usize], [0, 1, 2, 8, 9][d.below(5) as usize]].map(|len| d.octets(len));
+    }
+    ask
+}
+
+/// The call that a record's life begins with, over random octets.
+pub fn first(d: &mut Draw) -> Vec<Ask> {
+    let record = random(d);
+    vec![fitting(d, record)]
 }
 
 fn card(last: u8) -> Vec<u8> {
@@ -199,10 +215,9 @@ pub fn round(d: &mut Draw, live: &CRecord) -> Vec<Ask> {
     let (one, hot, full) = (changed(d, live, ALL), changed(d, live, HOT), filled(d, live));
     let (access, right, again, any, other) = (d.octet(2), event(d), event(d), wild(d), wild(d));
     let often = if live.dev.card == 0 && d.below(4) > 0 { (1, card(access)) } else { right };
-    let mut random = CRecord::zero();
-    d.scatter(random.octets_mut());
-    let end = [HOT, ALL][d.below(2) as usize];
+    let (scattered, end) = (random(d), [HOT, ALL][d.below(2) as usize]);
     let broken = changed(d, &full, end);
+    let over = [*live, full, scattered][d.below(3) as usize];
     vec![
         d.hand(*live, often),
         writing(d, live),
@@ -210,8 +225,9 @@ pub fn round(d: &mut Draw, live: &CRecord) -> Vec<Ask> {
         d.hand(one, (5, vec![])),
         d.hand(hot, (5, vec![])),
         d.hand(*live, any),
-        d.hand(random, other),
+        d.hand(scattered, other),
         d.hand(full, again.clone()),
         d.hand(broken, again),
+        opening(d, over),
     ]
 }

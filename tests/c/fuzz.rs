@@ -63,6 +63,8 @@ struct Tally {
     cases: u64,
     answers: [u64; 12],
     invalid: u64,
+    news: u64,
+    made: u64,
     requests: u64,
     written: u64,
 }
@@ -162,10 +164,11 @@ fn alike(what: &str, got: &[u8], want: &[u8]) -> Result<(), String> {
 }
 
 fn judge_new(ask: &Ask, got: &Got) -> Result<(), String> {
-    let (answer, record) = second::opened(ask.small, &ask.arrays[0], &ask.arrays[1]);
+    let (answer, record) = second::opened(&ask.record, ask.small, &ask.arrays[0], &ask.arrays[1]);
     equal("the answer", got.answer, answer)?;
-    alike("the new record", got.record.octets(), record.octets())?;
-    hold(valid(&got.record), "the new record is invalid")
+    let what = if answer == 0 { "the new record" } else { "the record under a refused new one" };
+    alike(what, got.record.octets(), record.octets())?;
+    hold(answer != 0 || valid(&got.record), "the new record is invalid")
 }
 
 fn judge_event(ask: &Ask, got: &Got) -> Result<(), String> {
@@ -213,6 +216,8 @@ fn judge(ask: &Ask, got: &Got, tally: &mut Tally) -> Result<(), String> {
         EVENT => judge_event(ask, got)?,
         _ => judge_request(ask, got)?,
     }
+    tally.news += (ask.call == NEW) as u64;
+    tally.made += (ask.call == NEW && got.answer == 0) as u64;
     tally.requests += (ask.call == REQUEST) as u64;
     tally.written += (ask.call == REQUEST && got.answer < 256) as u64;
     if ask.call == EVENT {
@@ -244,7 +249,7 @@ fn group(side: &mut Side, words: &[String], cases: Range<u64>, tally: &mut Tally
     for round in 0..ROUNDS {
         let (mut asks, mut owners) = (vec![], vec![]);
         for (at, life) in lives.iter_mut().enumerate() {
-            asks.extend(if round == 0 { vec![draws::opening(&mut life.draw)] } else { draws::round(&mut life.draw, &life.live) });
+            asks.extend(if round == 0 { draws::first(&mut life.draw) } else { draws::round(&mut life.draw, &life.live) });
             owners.resize(asks.len(), at);
         }
         let cases: Vec<u64> = owners.iter().map(|&at| lives[at].case).collect();
@@ -274,10 +279,11 @@ fn main() {
         group(&mut side, words, first..first + LIVES, &mut tally);
     }
     side.end();
-    let Tally { cases, answers, invalid, requests, written } = tally;
-    println!("fuzz: {cases} cases, {} events, {invalid} of them on an invalid record; {written} of {requests} requests written", answers.iter().sum::<u64>());
+    let Tally { cases, answers, invalid, news, made, requests, written } = tally;
+    println!("fuzz: {cases} cases, {} events, {invalid} of them on an invalid record", answers.iter().sum::<u64>());
+    println!("fuzz: {made} of {news} new records made, {written} of {requests} requests written");
     println!("fuzz: answers 0 to 11 came {answers:?} times");
-    if seconds > 0 && (answers.contains(&0) || invalid == 0 || written == 0) {
+    if seconds > 0 && (answers.contains(&0) || [invalid, made, news - made, written].contains(&0)) {
         fail("some answer never came");
     }
 }

@@ -255,12 +255,14 @@ fn notice_out(p: &Reply) -> CNotice {
     CNotice { clocks: [clocks(0), clocks(1)], t3247: told(p.timers[T3247]), requests: [p.restart, p.leave, p.update].map(request) }
 }
 
-/// A new record: the answer and the record.
-pub fn opened(limits: [u8; 3], capability: &[u8], security: &[u8]) -> (u32, CRecord) {
+/// A new record over any octets: the answer and the record after it.
+pub fn opened(was: &CRecord, limits: [u8; 3], capability: &[u8], security: &[u8]) -> (u32, CRecord) {
     let fits = limits.iter().all(|limit| (1..=10).contains(limit)) && (1..=13).contains(&capability.len()) && (2..=8).contains(&security.len());
-    let [card, ban, n1] = if fits { limits } else { [1; 3] };
-    let (capability, security) = if fits { (capability, security) } else { (&[0][..], &[0, 0][..]) };
-    (!fits as u32, record_out(&Record::new(Limits { card, ban, n1 }, capability, security)))
+    if !fits {
+        return (RANGE as u32, *was);
+    }
+    let [card, ban, n1] = limits;
+    (0, record_out(&Record::new(Limits { card, ban, n1 }, capability, security)))
 }
 
 /// What is not held becomes zero.

@@ -15,11 +15,12 @@ use Rattle.firmware.specs.declared.Opened.{Opened}
 use Rattle.firmware.specs.declared.Taken.{Taken}
 use Rattle.firmware.specs.Notice.{noticeOf}
 
-unfoldable pub openedBy : Made → Opened
-openedBy m = record { answer = numberOf (m .answer); next = m .made }
+-- "All but 0 change nothing": the record that was there stays
+unfoldable pub openedBy : Record → Made → Opened
+openedBy r m = record { answer = numberOf (m .answer); next = cond (isTaken (m .answer)) (m .made) r }
 
-unfoldable pub openedOf : ℕ → ℕ → ℕ → List ℕ → List ℕ → Opened
-openedOf cardlimit banlimit n1limit capability security = openedBy (madeOf cardlimit banlimit n1limit capability security)
+unfoldable pub openedOf : Record → ℕ → ℕ → ℕ → List ℕ → List ℕ → Opened
+openedOf r cardlimit banlimit n1limit capability security = openedBy r (madeOf cardlimit banlimit n1limit capability security)
 
 unfoldable pub takenBy : Outcome → Taken
 takenBy o = record { answer = numberOf (o .reply .answer); notice = noticeOf (o .reply); next = o .next }

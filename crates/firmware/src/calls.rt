@@ -5,16 +5,33 @@ use crate::Taken;
 use crate::told::notice_of;
 use record::Record;
 ghost use mathlib.Core.Path.{_≡_};
+ghost use mathlib.Core.Bool.{cond};
 ghost use lib.ListN.{length};
 ghost use Rattle.request.specs.Writing.{bufferOf};
 ghost use Rattle.firmware.specs.Calls.{openedOf, takenOf, wroteOf};
 
-fn opened(cardlimit: u8, banlimit: u8, n1limit: u8, capability: &[u8], security: &[u8]) -> Opened
-    ensures { λ r. ⌜ r ≡ openedOf cardlimit banlimit n1limit (now (capability .entry)) (now (security .entry)) ⌝ }
+// A refusal keeps the record that was there.
+fn chosen(good: bool, made: Record, r: Record) -> Record
+    ensures { λ o. ⌜ o ≡ cond good made r ⌝ }
+{
+    if good { made } else { r }
+}
+
+fn opened(
+    r: Record,
+    cardlimit: u8,
+    banlimit: u8,
+    n1limit: u8,
+    capability: &[u8],
+    security: &[u8],
+) -> Opened
+    ensures { λ o. ⌜ o ≡ openedOf r cardlimit banlimit n1limit (now (capability .entry)) (now (security .entry)) ⌝ }
 {
     let m = record::fresh(cardlimit, banlimit, n1limit, capability, security);
     let n = m.answer;
-    let next = m.made;
+    let made = m.made;
+    let good = record::taken(n);
+    let next = chosen(good, made, r);
     let answer = record::number(n);
     Opened {
         answer: answer as u32,
@@ -55,7 +72,7 @@ fn asked(r: Record, access: u8, buffer: &mut [u8]) -> u32
     }
 }
 
-// A new record, whatever was there before.
+// A new record; a refusal leaves the one that was there.
 #[no_mangle]
 pub extern "C" fn tjernfaug_new(
     r: &mut Record,
@@ -65,9 +82,9 @@ pub extern "C" fn tjernfaug_new(
     capability: &[u8],
     security: &[u8],
 ) -> u32
-    ensures { λ a. ⌜ (a ≡ openedOf cardlimit banlimit n1limit (now (capability .entry)) (now (security .entry)) .answer) × (now (r .exit) ≡ openedOf cardlimit banlimit n1limit (now (capability .entry)) (now (security .entry)) .next) ⌝ }
+    ensures { λ a. ⌜ (a ≡ openedOf (now (r .entry)) cardlimit banlimit n1limit (now (capability .entry)) (now (security .entry)) .answer) × (now (r .exit) ≡ openedOf (now (r .entry)) cardlimit banlimit n1limit (now (capability .entry)) (now (security .entry)) .next) ⌝ }
 {
-    let o = opened(cardlimit, banlimit, n1limit, capability, security);
+    let o = opened(*r, cardlimit, banlimit, n1limit, capability, security);
     *r = o.next;
     o.answer
 }

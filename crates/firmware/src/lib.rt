@@ -35,7 +35,7 @@ pub struct Notice {
     pub update: u32,
 }
 
-// A new record, with the answer's number.
+// The answer to a new record by its number, and the record after it.
 pub struct Opened {
     pub answer: u32,
     pub next: Record,

@@ -1,4 +1,4 @@
--- A walk of the MIR by hand: `opened` is called, the borrow is opened, and closed at the record that `opened` gives, whatever stood there.
+-- A walk of the MIR by hand: the borrow is opened, the record copied out and passed to `opened`, and the borrow closed at the record that `opened` gives.
 -- No field of the record is named.
 use mathlib.Core.Path.{_≡_, refl, ap}
 use Prim.Native.Nat.{ℕ, _<_, _^_}
@@ -92,19 +92,20 @@ module _ {M : Type 1} (𝓤 : URA M) (H : Heap 𝓤) (A : Atoms 𝓤) (W : Given
   Own₂ = ShrSlice (named 2) κ₂ u8 .own t (machS t ∷ [])
 
   abbrev found : Opened
-  found = openedOf i j k (s .now) (t .now)
+  found = openedOf h i j k (s .now) (t .now)
 
   -- the call
   abbrev to : Called 𝓤 H A at-mem run .Ghost
-  to = (((κ₁, (κ₂, tt)), (q₁, (q₂, tt)), tt, (i, (j, (k, (s, (t, tt))))), (vint w8 i ∷ [], (vint w8 j ∷ [], (vint w8 k ∷ [], (machS s ∷ [], (machS t ∷ [], tt)))))), tt)
+  to = (((κ₁, (κ₂, tt)), (q₁, (q₂, tt)), tt, (h, (i, (j, (k, (s, (t, tt)))))), (mach h ∷ [], (vint w8 i ∷ [], (vint w8 j ∷ [], (vint w8 k ∷ [], (machS s ∷ [], (machS t ∷ [], tt))))))), tt)
 
-  asked : ent 𝓤 (⋆ 𝓤 H A (‵ Own ∷ ‵ Own₂ ∷ (‵ (flft κ₁ q₁) ⊛ ‵ (flft κ₂ q₂) ⊛ ‵ ftrue) ∷ [])) (Called 𝓤 H A at-mem run .pre to)
-  asked =
+  asked : Is T.the-row h (mach h ∷ []) → ent 𝓤 (⋆ 𝓤 H A (‵ Own ∷ ‵ Own₂ ∷ (‵ (flft κ₁ q₁) ⊛ ‵ (flft κ₂ q₂) ⊛ ‵ ftrue) ∷ [])) (Called 𝓤 H A at-mem run .pre to)
+  asked was =
       qed W (‵ Own ∷ ‵ Own₂ ∷ (‵ (flft κ₁ q₁) ⊛ ‵ (flft κ₂ q₂) ⊛ ‵ ftrue) ∷ []) ∵ nothing ! $ move ! (2 ∷ 0 ∷ []) $ fjoin ! $ move ! (1 ∷ 0 ∷ []) $ fjoin ! $
-      owned ! u8 (Is u8) (uint-makes 𝓤 H A W w8) k _ (refl, k<) $ fjoin ! $ owned ! u8 (Is u8) (uint-makes 𝓤 H A W w8) j _ (refl, j<) $ fjoin ! $ owned ! u8 (Is u8) (uint-makes 𝓤 H A W w8) i _ (refl, i<) $ fjoin ! $ move ! (1 ∷ 0 ∷ []) $ join ! $ frame ! $ done !
+      owned ! u8 (Is u8) (uint-makes 𝓤 H A W w8) k _ (refl, k<) $ fjoin ! $ owned ! u8 (Is u8) (uint-makes 𝓤 H A W w8) j _ (refl, j<) $ fjoin ! $ owned ! u8 (Is u8) (uint-makes 𝓤 H A W w8) i _ (refl, i<) $ fjoin ! $
+      owned ! T.the-row (Is T.the-row) (LL.makes T.the-type T′.the-plain 𝓤 H A) h _ was $ fjoin ! $ move ! (1 ∷ 0 ∷ []) $ join ! $ frame ! $ done !
 
-  said : (r : Opened) → ent 𝓤 (ensured 𝓤 H A opened.ended (opened.clauses 𝓤 H A at-mem run) (κ₁, (κ₂, tt)) (i, (j, (k, (s, (t, tt))))) tt r) (fact 𝓤 (r ≡ found))
-  said r = exE 𝓤 _ (λ ws. snd∗ 𝓤 (sem 𝓤 H A (lasts opened.ended (κ₁, (κ₂, tt)) (i, (j, (k, (s, (t, tt))))) ws)) (fact 𝓤 (r ≡ found)))
+  said : (r : Opened) → ent 𝓤 (ensured 𝓤 H A opened.ended (opened.clauses 𝓤 H A at-mem run) (κ₁, (κ₂, tt)) (h, (i, (j, (k, (s, (t, tt)))))) tt r) (fact 𝓤 (r ≡ found))
+  said r = exE 𝓤 _ (λ ws. snd∗ 𝓤 (sem 𝓤 H A (lasts opened.ended (κ₁, (κ₂, tt)) (h, (i, (j, (k, (s, (t, tt)))))) ws)) (fact 𝓤 (r ≡ found)))
 
   exits : (r : Opened) → r ≡ found → r .answer < 2 ^ 32
       → ent 𝓤 (⋆ 𝓤 H A (‵ (fobs γ (T.the-row .coded .code (r .next))) ∷ ‵ (fbor κ (Body (mem T.the-row) b o γ)) ∷ ‵ (flft κ q) ∷ (‵ (flft κ₁ q₁) ⊛ ‵ (flft κ₂ q₂) ⊛ ‵ ftrue) ∷ ‵ Own ∷ ‵ Own₂ ∷ [])) (Post (vint w32 (r .answer)))
@@ -123,28 +124,30 @@ module _ {M : Type 1} (𝓤 : URA M) (H : Heap 𝓤) (A : Atoms 𝓤) (W : Given
         fsplit ! $ use1 W (‵ Own₂ ⊛ ‵ Own₂) (shr-slice-copy 𝓤 H A W (named 2) κ₂ u8 .twice t (machS t ∷ [])) $ split ! $ move ! (5 ∷ 6 ∷ 7 ∷ 3 ∷ 0 ∷ 8 ∷ 4 ∷ 1 ∷ []) $
         -- [obs; the borrow; the token; what the slices own; their tokens; what the slices own; true]
         enter ! C Λ code.function (vptr b o ∷ vint w8 i ∷ vint w8 j ∷ vint w8 k ∷ machS s ∷ machS t ∷ []) _ $
-        alloc1 ! (λ l₀. alloc1 ! (λ l₁. alloc1 ! (λ l₂. alloc1 ! (λ l₃. alloc1 ! (λ l₄. alloc1 ! (λ l₅. alloc1 ! (λ l₆. alloc1 ! (λ l₇. alloc0 ! $ params1 ! $
-        pass1 ! (init ! 12 refl (tt, tt)) $ pass1 ! (init ! 10 refl (tt, record { fits = i< })) $ pass1 ! (init ! 8 refl (tt, record { fits = j< })) $ pass1 ! (init ! 6 refl (tt, record { fits = k< })) $
-        pass1 ! (init ! 4 refl (shr-slice-lawful 𝓤 H A W (named 1) κ₁ u8 .typed s (machS s ∷ []) s-is .0)) $ pass1 ! (init ! 2 refl (shr-slice-lawful 𝓤 H A W (named 2) κ₂ u8 .typed t (machS t ∷ []) t-is .0)) $ pass0 ! $
-        move ! (16 ∷ 17 ∷ 18 ∷ []) $ opens ! tt T.the-row {h = h} b o (λ vs. spelt ! T.the-row (Is T.the-row) (shows 𝓤 H A T.the-row) (LL.vals T.the-type T′.the-laws) (LL.tells T.the-type T′.the-laws) fullShare h vs b o $
-        use1 W (‵ (fat fullShare T′.mir b o (mach h))) (W .laws .raw-at fullShare T′.mir b o (mach h)) $ move ! (1 ∷ []) $ drop ! $
-        -- [the record's cell; the open borrow; obs; auth; _7; …; _1; …; room for _0; …; what the slices own; their tokens; what the slices own; true]
-        move ! (20 ∷ 21 ∷ 22 ∷ []) $ use3 W (raw (Called 𝓤 H A at-mem run .pre to)) asked $
-        calls-at ! fm (Called 𝓤 H A at-mem run) known to (and-then ! (load ! (from ! (stop !)) (look ! 15 refl)) (and-then ! (load ! (from ! (stop !)) (look ! 13 refl)) (and-then ! (load ! (from ! (stop !)) (look ! 11 refl)) (and-then ! (load ! (from ! (stop !)) (look ! 9 refl)) (and-then ! (load ! (from ! (stop !)) (look ! 7 refl)) (no-more !)))))) (λ v.
-        use1 W (later (some (λ (r : Opened). ((‵ (flft κ₁ q₁) ⊛ ‵ (flft κ₂ q₂) ⊛ ‵ ftrue) ⊛ ‵ (O.the-row .own r (v ∷ []))) ⊛ raw (ensured 𝓤 H A opened.ended (opened.clauses 𝓤 H A at-mem run) (κ₁, (κ₂, tt)) (i, (j, (k, (s, (t, tt))))) tt r)))) (id⊢ 𝓤 _) $ await ! tt $ pick ! (λ r.
+        alloc1 ! (λ l₀. alloc1 ! (λ l₁. alloc1 ! (λ l₂. alloc1 ! (λ l₃. alloc1 ! (λ l₄. alloc1 ! (λ l₅. alloc1 ! (λ l₆. alloc1 ! (λ l₇. alloc1 ! (λ l₈. alloc0 ! $ params1 ! $
+        pass1 ! (init ! 14 refl (tt, tt)) $ pass1 ! (init ! 12 refl (tt, record { fits = i< })) $ pass1 ! (init ! 10 refl (tt, record { fits = j< })) $ pass1 ! (init ! 8 refl (tt, record { fits = k< })) $
+        pass1 ! (init ! 6 refl (shr-slice-lawful 𝓤 H A W (named 1) κ₁ u8 .typed s (machS s ∷ []) s-is .0)) $ pass1 ! (init ! 4 refl (shr-slice-lawful 𝓤 H A W (named 2) κ₂ u8 .typed t (machS t ∷ []) t-is .0)) $ pass0 ! $
+        move ! (18 ∷ 19 ∷ 20 ∷ []) $ opens ! tt T.the-row {h = h} b o (λ vs. spelt ! T.the-row (Is T.the-row) (shows 𝓤 H A T.the-row) (LL.vals T.the-type T′.the-laws) (LL.tells T.the-type T′.the-laws) fullShare h vs b o $
+        use1 W (‵ (fat fullShare T′.mir b o (mach h))) (W .laws .raw-at fullShare T′.mir b o (mach h)) $
+        move ! (1 ∷ []) $ peeks ! T.the-row (Is T.the-row) (shows 𝓤 H A T.the-row) h (mach h ∷ []) (λ was. drop ! $
+        -- [the record's cell; the open borrow; obs; auth; _8; …; _1; …; room for _0; …; what the slices own; their tokens; what the slices own; true]
+        assigns ! (of-opd ! (load ! (from ! (hop ! (look ! 18 refl) (stop !))) (look ! 0 refl))) (from ! (stop !)) (init ! 4 refl (LL.lawful T.the-type T′.the-laws 𝓤 H A W .typed h _ was .0)) $
+        move ! (22 ∷ 23 ∷ 24 ∷ []) $ use3 W (raw (Called 𝓤 H A at-mem run .pre to)) (asked was) $
+        calls-at ! fm (Called 𝓤 H A at-mem run) known to (and-then ! (load ! (from ! (stop !)) (look ! 5 refl)) (and-then ! (load ! (from ! (stop !)) (look ! 17 refl)) (and-then ! (load ! (from ! (stop !)) (look ! 15 refl)) (and-then ! (load ! (from ! (stop !)) (look ! 13 refl)) (and-then ! (load ! (from ! (stop !)) (look ! 11 refl)) (and-then ! (load ! (from ! (stop !)) (look ! 9 refl)) (no-more !))))))) (λ v.
+        use1 W (later (some (λ (r : Opened). ((‵ (flft κ₁ q₁) ⊛ ‵ (flft κ₂ q₂) ⊛ ‵ ftrue) ⊛ ‵ (O.the-row .own r (v ∷ []))) ⊛ raw (ensured 𝓤 H A opened.ended (opened.clauses 𝓤 H A at-mem run) (κ₁, (κ₂, tt)) (h, (i, (j, (k, (s, (t, tt)))))) tt r)))) (id⊢ 𝓤 _) $ await ! tt $ pick ! (λ r.
         split ! $ move ! (1 ∷ []) $ use1 W (raw (fact 𝓤 (r ≡ found))) (said r) $ heard ! (r ≡ found) (λ e. split ! $ move ! (1 ∷ []) $
         peeks ! O.the-row (Is O.the-row) (shows 𝓤 H A O.the-row) r (v ∷ []) (λ is. drop ! $
-        -- [the slices' tokens; the record's cell; the open borrow; obs; auth; room for _7; …; _1; …; room for _0; …; what the slices own; true]
+        -- [the slices' tokens; the record's cell; the open borrow; obs; auth; _8; …; room for _7; …; _1; …; room for _0; …; what the slices own; true]
         move ! (1 ∷ 2 ∷ 3 ∷ 4 ∷ []) $
-        land ! (from ! (stop !)) (init ! 5 refl (LL.lawful O.the-type O′.the-laws 𝓤 H A W .typed r _ is .0)) $ rewrite ! 5 (λ (u : Val). ‵ (fat fullShare O′.mir l₇ 0 u)) (ap only (LL.tells O.the-type O′.the-laws r _ is)) refl $
-        assigns ! (of-opd ! (load ! (from ! (fld ! refl (stop !))) (look-in ! 5 (sub ! 1 refl (whole !))))) (from ! (hop ! (look ! 17 refl) (stop !))) (store-in ! 0 (whole !) (LL.lawful T.the-type T′.the-laws 𝓤 H A W .typed (r .next) _ (LL.owed O.the-type O′.the-laws r _ is .1 .0) .0)) $
-        assigns ! (of-opd ! (load ! (from ! (fld ! refl (stop !))) (look-in ! 5 (sub ! 0 refl (whole !))))) (from ! (stop !)) (init ! 19 refl (tt, record { fits = LL.owed O.the-type O′.the-laws r _ is .0 .1 })) $
+        land ! (from ! (stop !)) (init ! 7 refl (LL.lawful O.the-type O′.the-laws 𝓤 H A W .typed r _ is .0)) $ rewrite ! 7 (λ (u : Val). ‵ (fat fullShare O′.mir l₇ 0 u)) (ap only (LL.tells O.the-type O′.the-laws r _ is)) refl $
+        assigns ! (of-opd ! (load ! (from ! (fld ! refl (stop !))) (look-in ! 7 (sub ! 1 refl (whole !))))) (from ! (hop ! (look ! 19 refl) (stop !))) (store-in ! 0 (whole !) (LL.lawful T.the-type T′.the-laws 𝓤 H A W .typed (r .next) _ (LL.owed O.the-type O′.the-laws r _ is .1 .0) .0)) $
+        assigns ! (of-opd ! (load ! (from ! (fld ! refl (stop !))) (look-in ! 7 (sub ! 0 refl (whole !))))) (from ! (stop !)) (init ! 21 refl (tt, record { fits = LL.owed O.the-type O′.the-laws r _ is .0 .1 })) $
         use1 W (‵ (cellAt fullShare (T.the-row .mir) (mach (r .next) ∷ []) b o)) (W .laws .at-raw fullShare T′.mir b o (mach (r .next))) $
         owned ! T.the-row (Is T.the-row) (LL.makes T.the-type T′.the-plain 𝓤 H A) (r .next) _ (LL.owed O.the-type O′.the-laws r _ is .1 .0) $ move ! (1 ∷ 0 ∷ []) $ closes ! tt T.the-row (r .next) (mach (r .next) ∷ []) b o $
-        -- [obs; the borrow; the token; the slices' tokens; _7; …; _0; …; what the slices own; true]
-        returns ! (look ! 18 refl) $ forget ! 4 refl $ forget ! 6 refl $ forget ! 8 refl $ forget ! 10 refl $ forget ! 12 refl $ forget ! 14 refl $ forget ! 16 refl $ forget ! 18 refl $
-        move ! (18 ∷ 19 ∷ []) $ free1 ! $ move ! (16 ∷ 17 ∷ []) $ free1 ! $ move ! (14 ∷ 15 ∷ []) $ free1 ! $ move ! (12 ∷ 13 ∷ []) $ free1 ! $ move ! (10 ∷ 11 ∷ []) $ free1 ! $ move ! (8 ∷ 9 ∷ []) $ free1 ! $ move ! (6 ∷ 7 ∷ []) $ free1 ! $ move ! (4 ∷ 5 ∷ []) $ free1 ! $ free0 ! $
-        keep ! (0 ∷ 1 ∷ 2 ∷ 3 ∷ 4 ∷ 5 ∷ []) $ by ! (exits r e (LL.owed O.the-type O′.the-laws r _ is .0 .1)))))))))))))))
+        -- [obs; the borrow; the token; the slices' tokens; _8; …; _0; …; what the slices own; true]
+        returns ! (look ! 20 refl) $ forget ! 4 refl $ forget ! 6 refl $ forget ! 8 refl $ forget ! 10 refl $ forget ! 12 refl $ forget ! 14 refl $ forget ! 16 refl $ forget ! 18 refl $ forget ! 20 refl $
+        move ! (20 ∷ 21 ∷ []) $ free1 ! $ move ! (18 ∷ 19 ∷ []) $ free1 ! $ move ! (16 ∷ 17 ∷ []) $ free1 ! $ move ! (14 ∷ 15 ∷ []) $ free1 ! $ move ! (12 ∷ 13 ∷ []) $ free1 ! $ move ! (10 ∷ 11 ∷ []) $ free1 ! $ move ! (8 ∷ 9 ∷ []) $ free1 ! $ move ! (6 ∷ 7 ∷ []) $ free1 ! $ move ! (4 ∷ 5 ∷ []) $ free1 ! $ free0 ! $
+        keep ! (0 ∷ 1 ∷ 2 ∷ 3 ∷ 4 ∷ 5 ∷ []) $ by ! (exits r e (LL.owed O.the-type O′.the-laws r _ is .0 .1)))))))))))))))))
 
 module _ {M : Type 1} (𝓤 : URA M) (H : Heap 𝓤) (A : Atoms 𝓤) (W : Given 𝓤 H A) (at-mem : Memory → SProp 𝓤) (run : Routine → Fun 𝓤) where
   tjernfaug-new-walks : (C : Calls 𝓤 H) (Λ : Loops 𝓤 H) → FmC 𝓤 H (W .laws) C → Triple 𝓤 (C #opened) (Called 𝓤 H A at-mem run) → Walks 𝓤 H A f.ended stayed (WpFn 𝓤 H C Λ code.function) (f.clauses 𝓤 H A at-mem run)
