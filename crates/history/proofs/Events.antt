@@ -18,14 +18,14 @@ use Rattle.record.specs.Sides.{accessOf, otherOf}
 use Rattle.rules.specs.Plan.{askOf, answerOf, effectOf, mineOf}
 use Rattle.validity.specs.Sized.{Columns}
 use Rattle.validity.specs.Answered.{askIn, answeredBy}
-use Rattle.validity.proofs.Refusal.{effectIn}
+use Rattle.validity.proofs.Refusal.{effectIn, idle-mine}
 use Rattle.history.specs.Cell.{cellIn, entriesIn, cellOf}
 use Rattle.history.specs.History.{nothing, ended, isCardChange, eventNews}
 use Rattle.history.specs.History as history
 use Rattle.history.proofs.Said.{blank, cellAfter}
 use Rattle.history.proofs.Cells.{cell-none, cell-swept, cell-cycled}
 use Rattle.history.proofs.Next.{next, deedOn, idle-on, taken-cell, limitsOf, columns}
-use Rattle.history.proofs.Stays.{t3247-zero, small, idle-mine, both-kept, each-kept, out-effect, clock-entries, clock-others}
+use Rattle.history.proofs.Stays.{t3247-zero, small, both-kept, each-kept, out-effect, clock-entries, clock-others}
 use Rattle.history.proofs.Messages.{message-cell}
 
 module _ (r : Record) where

@@ -32,13 +32,14 @@ use Rattle.validity.specs.Answered.{seenAt, answeredBy}
 use Rattle.validity.proofs.Setters.{grown}
 use Rattle.validity.proofs.Taken.{message-passed, reject-passed}
 use Rattle.validity.proofs.Next.{mine-is, other-is}
+use Rattle.validity.proofs.Own.{row-early}
 use Rattle.history.specs.Cell.{Cell, cellIn, entriesIn, cellOf}
 use Rattle.history.specs.History.{News, nothing, causeNews, messageNews, eventNews}
 use Rattle.history.specs.History as history
 use Rattle.history.proofs.Said.{cellAfter}
 use Rattle.history.proofs.Cells.{cell-accepted}
 use Rattle.history.proofs.Next.{other-of, next, taken-cell, limitsOf, columns}
-use Rattle.history.proofs.Rows.{few, rowNews, row-news, row-cell, row-entries, other-entries}
+use Rattle.history.proofs.Rows.{rowNews, row-news, row-cell, row-entries, other-entries}
 use Rattle.history.proofs.Stays.{small}
 
 module _ (r : Record) (c0 : Columns (r .e0)) (c1 : Columns (r .e1)) (b sure draw : ℕ) (octets : List ℕ) where
@@ -73,7 +74,7 @@ module _ (r : Record) (c0 : Columns (r .e0)) (c1 : Columns (r .e1)) (b sure draw
   unfolding messageEffect acceptEffect rejectEffect rowWork
   other-message (reading.Accept g) hb w n hw q = other-after (acceptEffect (r .hot) b g) refl refl hb w n hw q
   other-message (reading.Reject cause) hb w n hw q =
-      other-after (rejectEffect (r .hot) b sure draw (sight .found) cause (rowNow (r .hot) b sure cause)) (few (rowNow (r .hot) b sure cause))
+      other-after (rejectEffect (r .hot) b sure draw (sight .found) cause (rowNow (r .hot) b sure cause)) (row-early (rowNow (r .hot) b sure cause))
       (other-entries (r .hot .dev .cardlimit) (otherOf (r .hot) b) (rowNow (r .hot) b sure cause)) hb w n hw q
   other-message (reading.Bad f at) hb w n hw q = other-after (messageEffect (r .hot) b sure draw (reading.Bad f at) sight) refl refl hb w n hw q
 

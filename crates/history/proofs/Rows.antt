@@ -3,7 +3,7 @@
 use Prim.Native.Nat.{ℕ}
 use mathlib.Core.Path.{_≡_, refl}
 use mathlib.Core.Bool.{Bool, true, false, cond, not}
-use lib.Dec.{leb, ltb, eqb}
+use lib.Dec.{ltb, eqb}
 use borrow.Author.Tests.{ltb-true, eqb-true}
 use Rattle.record.specs.Tests.{both}
 use Rattle.record.specs.declared.Access.{Access}
@@ -101,19 +101,6 @@ row-cell l Area count net sure t w h n = same l (eqb net n) count t n
 row-cell l N1 count net sure t w h n = cell-barred l count net sure t w (ltb-true (placeIn count net (t .nets)) 16 (h refl)) 2 n
 row-cell l Protocol count net sure t w h n = same l (eqb net n) count t n
 row-cell l Other count net sure t w h n = same l (eqb net n) count t n
-
--- no row goes over both accesses' entries
-pub few : (row : Row) → leb 4 (rowDeed row) ≡ false
-unfolding rowDeed
-few CardBelow = refl
-few CardLimit = refl
-few CardProtected = refl
-few Away = refl
-few Home = refl
-few Area = refl
-few N1 = refl
-few Protocol = refl
-few Other = refl
 
 failed-net : (n : ℕ) (a : Access) → failed n a .access .net ≡ a .net
 unfolding failed moved forgotten emptied

@@ -22,7 +22,7 @@ use Rattle.rules.specs.declared.Event.{Event}
 use Rattle.rules.specs.declared.Event.the-variants.{Card, Start, Message, Timer, Power, Key, Unknown}
 use Rattle.record.specs.Sides.{accessOf, otherOf}
 use Rattle.checks.specs.Answers.{rowNow, timerAnswer}
-use Rattle.rules.specs.Plan.{askOf, answerOf, messageEffect, mineOf}
+use Rattle.rules.specs.Plan.{askOf, answerOf, messageEffect}
 use Rattle.validity.specs.Answered.{askIn, answeredBy}
 use Rattle.validity.proofs.Taken.{start-passed, message-passed, timer-passed, key-passed}
 use Rattle.history.proofs.Next.{other-of}
@@ -47,10 +47,6 @@ small r (Key w set) octets t = flag-small w (key-passed (r .hot) w set t .0)
 small r Unknown octets t = omega arith
 
 -- What stays.
-
-pub idle-mine : (b w : ℕ) → mineOf 0 b w ≡ 0
-unfolding mineOf
-idle-mine b w = elim (eqb b w) as (λ s. cond {A = ℕ} s 0 0 ≡ 0) [ true ↦ refl | false ↦ refl ]
 
 module _ (h : Hot) where
   -- both accesses' numbers, read from the event's own and the other

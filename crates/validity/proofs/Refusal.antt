@@ -43,7 +43,7 @@ pub table-idle : (p : Plan) (me count : ℕ) (h : Hot) (t : Entries) → mineOf 
 unfolding tableAfter entriesAfter deedOf
 table-idle p me count h t e = rw e
 
-idle-mine : (w me : ℕ) → mineOf 0 w me ≡ 0
+pub idle-mine : (w me : ℕ) → mineOf 0 w me ≡ 0
 unfolding mineOf
 idle-mine w me = elim (eqb w me) as (λ b. cond {A = ℕ} b 0 0 ≡ 0) [ true ↦ refl | false ↦ refl ]
 
