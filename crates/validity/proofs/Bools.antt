@@ -8,16 +8,9 @@ use borrow.Author.Tests.{leb-true, ltb-false}
 use Rattle.record.specs.Tests.{both, either, flip, within, upTo}
 use Rattle.record.specs.declared.Answer.{Answer}
 use Rattle.record.specs.Answers.{isTaken}
+use Rattle.record.proofs.Bounds.{one}
 use Rattle.checks.specs.Answers.{check}
 use Rattle.events.specs.Parts.{atMost}
-
-pub both-left : (a b : Bool) → both a b ≡ true → a ≡ true
-both-left true b e = refl
-both-left false b e = absurd (false≢true e)
-
-pub both-right : (a b : Bool) → both a b ≡ true → b ≡ true
-both-right true b e = e
-both-right false b e = absurd (false≢true e)
 
 pub both-true : (a b : Bool) → a ≡ true → b ≡ true → both a b ≡ true
 both-true true b p q = q
@@ -41,11 +34,8 @@ pub flip-true : (a : Bool) → flip a ≡ true → a ≡ false
 flip-true true e = absurd (false≢true e)
 flip-true false e = refl
 
-pub within-high : (a b n : ℕ) → within a b n ≡ true → n ≤ b
-within-high a b n e = leb-true n b (both-right (leb a n) (leb n b) e)
-
 pub within-low : (a b n : ℕ) → within a b n ≡ true → a ≤ n
-within-low a b n e = leb-true a n (both-left (leb a n) (leb n b) e)
+within-low a b n e = leb-true a n (one (leb a n) (leb n b) e)
 
 -- a number below the most
 pub most-is : (m n : ℕ) → upTo m n ≡ true → atMost m n ≡ n

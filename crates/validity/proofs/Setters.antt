@@ -13,7 +13,8 @@ use Rattle.turns.specs.declared.Order.the-variants.{Leave, Stop, Run}
 use Rattle.turns.specs.declared.Orders.{Orders}
 use Rattle.turns.specs.Timers.{flagAfter, clocked}
 use Rattle.record.specs.Setters.{moved, forgotten, emptied, counted, pending, keyed, taught, entered}
-use Rattle.validity.proofs.Bools.{both-left, both-true}
+use Rattle.record.proofs.Bounds.{one}
+use Rattle.validity.proofs.Bools.{both-true}
 use Rattle.validity.proofs.Good.{Fit}
 
 -- the entries' count after a ban or a bar
@@ -32,7 +33,7 @@ grown-fits false n e = go (ltb n 16) refl
 pub network-short : (n : ℕ) → isNetwork n ≡ true → isShort n ≡ true
 unfolding isNetwork
 network-short n e =
-    both-left (isShort n)
+    one (isShort n)
     (both (isDigit (half 1048576 n))
     (both (isDigit (half 65536 n))
     (both (either (isDigit (half 4096 n)) (eqb (half 4096 n) 15))
