@@ -114,19 +114,6 @@ module _ (key : ℕ → ℕ) where
       both-true (distinctTo key n xs) (eqb (seekTo (sameBy key (getD xs n 0)) n xs) n) (of-once n xs (λ i j g h. f i j g (omega arith)))
       (eq-eqb (seekTo (sameBy key (getD xs n 0)) n xs) n (seek-none (sameBy key (getD xs n 0)) n xs (λ k h. ne-eqb (key (getD xs k 0)) (key (getD xs n 0)) (f k n h (omega arith)))))
 
--- a store, read at its place and at any other
-pub set-same : (xs : List ℕ) (i v : ℕ) → i < length xs → getD (set xs i v) i 0 ≡ v
-set-same [] i v h = absurd (omega arith)
-set-same (x ∷ xs) zero v h = refl
-set-same (x ∷ xs) (suc i) v h = set-same xs i v (omega arith)
-
-pub set-other : (xs : List ℕ) (i v k : ℕ) → k ≢ i → getD (set xs i v) k 0 ≡ getD xs k 0
-set-other [] i v k h = refl
-set-other (x ∷ xs) zero v zero h = absurd (h refl)
-set-other (x ∷ xs) zero v (suc k) h = refl
-set-other (x ∷ xs) (suc i) v zero h = refl
-set-other (x ∷ xs) (suc i) v (suc k) h = set-other xs i v k (λ e. h (ap suc e))
-
 -- what passes everywhere but at the place of the store passes everywhere if what was stored does (or 0, past the end)
 pub set-reads : (xs : List ℕ) (i v k : ℕ) (P : ℕ → Type 0) → (i < length xs → P v) → (length xs ≤ i → P 0) → (k ≢ i → P (getD xs k 0)) → P (getD (set xs i v) k 0)
 set-reads [] zero v zero P f z g = z (omega arith)
