@@ -15,17 +15,14 @@ use Rattle.areas.specs.declared.Task.{Task}
 use Rattle.areas.specs.Areas.{kept, areaOf, isProtected, sameArea, sizeOf, placeIn, listedIn, marked, remarked, placed, placedCount, stayed, sweptList, listAfter, countAfter}
 use Rattle.record.specs.Tests.{upTo, isShort}
 use Rattle.ranges.specs.Valid.{isItem, halved}
+use Rattle.validity.proofs.Bools.{most-is}
 use Rattle.validity.proofs.Arrays.{seek-found, seek-before, set-reads}
 use Rattle.validity.proofs.Good.{Listing}
 use Rattle.validity.proofs.Filter.{kept-le, kept-all, kept-once}
 
 size-is : (n : ℕ) → upTo 40 n ≡ true → sizeOf n ≡ n
 unfolding sizeOf
-size-is n e = go (ltb n 40) refl
-  where
-    go : (b : Bool) → ltb n 40 ≡ b → cond (ltb n 40) n 40 ≡ n
-    go true q = rw q
-    go false q = rw q (omega (arith, ltb-false n 40 q, leb-true n 40 e))
+size-is n e = most-is 40 n e
 
 -- an element is read back as its area
 half-marked : (area sure : ℕ) → halved (marked area sure) ≡ area

@@ -1,10 +1,10 @@
 -- Tests that hold: both, either one, a bound, and an answer that passed a check. Each is by cases on the test. Assumes nothing.
-use Prim.Native.Nat.{ℕ, _≤_}
+use Prim.Native.Nat.{ℕ, _+_, _≤_}
 use mathlib.Core.Path.{_≡_, refl, sym, _∙_}
 use mathlib.Core.Bool.{Bool, true, false, cond, true≢false, false≢true}
 use native.Mathlib.Omega.{arith}
 use lib.Dec.{leb, ltb}
-use borrow.Author.Tests.{leb-true, ltb-false}
+use borrow.Author.Tests.{leb-true, le-leb, ltb-true, ltb-false}
 use Rattle.record.specs.Tests.{both, either, flip, within, upTo}
 use Rattle.record.specs.declared.Answer.{Answer}
 use Rattle.record.specs.Answers.{isTaken}
@@ -44,6 +44,14 @@ most-is m n e = go (ltb n m) refl
     go : (b : Bool) → ltb n m ≡ b → cond (ltb n m) n m ≡ n
     go true q = rw q
     go false q = rw q (let l = ltb-false n m q in let h = leb-true n m e in omega arith)
+
+-- one more, unless at the limit
+pub more-fits : (limit n : ℕ) → upTo limit n ≡ true → upTo limit (cond (ltb n limit) (n + 1) n) ≡ true
+more-fits limit n e = go (ltb n limit) refl
+  where
+    go : (b : Bool) → ltb n limit ≡ b → upTo limit (cond (ltb n limit) (n + 1) n) ≡ true
+    go true q = rw q (le-leb (n + 1) limit (omega (arith, ltb-true n limit q)))
+    go false q = rw q e
 
 -- what was taken passed the check, and the rest was taken
 pub check-passed : (b : Bool) (n rest : Answer) → isTaken n ≡ false → isTaken (check b n rest) ≡ true → b ≡ true

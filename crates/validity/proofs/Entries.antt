@@ -18,6 +18,7 @@ use Rattle.record.specs.Tests.{upTo, isFlag}
 use Rattle.record.specs.Network.{isNetwork}
 use Rattle.ranges.specs.Valid.{itself}
 use Rattle.validity.specs.Sized.{Columns}
+use Rattle.validity.proofs.Bools.{most-is, more-fits}
 use Rattle.validity.proofs.Arrays.{All, Once, seek-le, seek-found, seek-before, set-reads, upto-reads}
 use Rattle.validity.proofs.Good.{Held}
 use Rattle.validity.proofs.Setters.{grown}
@@ -32,11 +33,7 @@ pub record Sought (n net at : ℕ) (found : Bool) (nets : List ℕ) : Type 0 whe
 
 size-is : (n : ℕ) → upTo 16 n ≡ true → sizeOf n ≡ n
 unfolding sizeOf
-size-is n e = go (ltb n 16) refl
-  where
-    go : (b : Bool) → ltb n 16 ≡ b → cond (ltb n 16) n 16 ≡ n
-    go true q = rw q
-    go false q = rw q (omega (arith, ltb-false n 16 q, leb-true n 16 e))
+size-is n e = most-is 16 n e
 
 -- what a search sees, where there is room
 pub sought : (n net : ℕ) (nets forbidden barred : List ℕ) → upTo 16 n ≡ true → ltb (seenIn n net nets forbidden barred .at) 16 ≡ true
@@ -52,14 +49,8 @@ sought n net nets forbidden barred e r = rw (size-is n e) (record {
 
 bump-fits : (limit sure n : ℕ) → upTo limit n ≡ true → upTo limit (bumped limit sure n) ≡ true
 unfolding bumped
-bump-fits limit sure n e = elim (eqb sure 0) as (λ b. upTo limit (cond b (cond (ltb n limit) (n + 1) n) limit) ≡ true) [
-  | true ↦ go (ltb n limit) refl
-  | false ↦ le-leb limit limit (omega arith)
-]
-  where
-    go : (b : Bool) → ltb n limit ≡ b → upTo limit (cond (ltb n limit) (n + 1) n) ≡ true
-    go true q = rw q (le-leb (n + 1) limit (omega (arith, ltb-true n limit q)))
-    go false q = rw q e
+bump-fits limit sure n e =
+    elim (eqb sure 0) as (λ b. upTo limit (cond b (cond (ltb n limit) (n + 1) n) limit) ≡ true) [ true ↦ more-fits limit n e | false ↦ le-leb limit limit (omega arith) ]
 
 lift-fits : (limit n mark : ℕ) → isFlag mark ≡ true → isFlag (liftMark limit n mark) ≡ true
 unfolding liftMark

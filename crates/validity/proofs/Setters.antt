@@ -14,7 +14,7 @@ use Rattle.turns.specs.declared.Orders.{Orders}
 use Rattle.turns.specs.Timers.{flagAfter, clocked}
 use Rattle.record.specs.Setters.{moved, forgotten, emptied, counted, pending, keyed, taught, entered}
 use Rattle.record.proofs.Bounds.{one}
-use Rattle.validity.proofs.Bools.{both-true}
+use Rattle.validity.proofs.Bools.{both-true, more-fits}
 use Rattle.validity.proofs.Good.{Fit}
 
 -- the entries' count after a ban or a bar
@@ -23,11 +23,7 @@ grown found n = cond found n (cond (ltb n 16) (n + 1) n)
 
 pub grown-fits : (found : Bool) (n : ℕ) → upTo 16 n ≡ true → upTo 16 (grown found n) ≡ true
 grown-fits true n e = e
-grown-fits false n e = go (ltb n 16) refl
-  where
-    go : (b : Bool) → ltb n 16 ≡ b → upTo 16 (cond (ltb n 16) (n + 1) n) ≡ true
-    go true q = rw q (le-leb (n + 1) 16 (omega (arith, ltb-true n 16 q)))
-    go false q = rw q e
+grown-fits false n e = more-fits 16 n e
 
 -- a network code is a number of three octets
 pub network-short : (n : ℕ) → isNetwork n ≡ true → isShort n ≡ true
