@@ -9,7 +9,7 @@ use lib.ListN.{length}
 use borrow.Author.Tests.{ltb-true, ltb-false, eqb-true}
 use Rattle.entries.specs.declared.Entries.{Entries}
 use Rattle.entries.specs.declared.Deed.{Deed}
-use Rattle.entries.specs.Entries.{sizeOf, placeIn, peekAt, liftMark, bumped, putAt, clearUnless, raised, accepted, swept, cycled, none}
+use Rattle.entries.specs.Entries.{sizeOf, placeIn, peekAt, liftMark, bumped, putAt, raised, accepted, swept, cycled, none}
 use Rattle.entries.specs.Entries as entries
 use Rattle.validity.specs.Sized.{Columns}
 use Rattle.validity.proofs.Setters.{grown}

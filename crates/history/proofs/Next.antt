@@ -105,7 +105,7 @@ module _ (r : Record) (e : Event) (octets : List ℕ) where
   abbrev pub deedOn : ℕ → ℕ → Deed
   deedOn deed w = record { kind = mineOf deed (askIn r e .access) w; at = seenAt r e .at; found = seenAt r e .found; net = askIn r e .net; sure = askIn r e .sure }
 
-  abbrev pub doneOn : ℕ → ℕ → Entries
+  abbrev doneOn : ℕ → ℕ → Entries
   doneOn deed w = entriesAfter (deedOn deed w) (accessOf (r .hot) w .entries) (r .hot .dev .banlimit) (r .hot .dev .n1limit) (entriesIn r w)
 
   pub idle-on : (deed w : ℕ) → mineOf deed (askIn r e .access) w ≡ 0 → doneOn deed w ≡ entriesIn r w

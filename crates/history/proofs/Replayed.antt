@@ -71,7 +71,7 @@ record-small len at s l o a =
     (or-bad (ltb (length s) len) at (entry (eventIn (take len s)) (octetsIn (take len s)) l)
     (beside-small (take len s) (λ k. take-small len k s o), a))
 
-pub log-small : (k at : ℕ) (s : List ℕ) → Octets s → AllOctets (heardIn (logOf k at s))
+log-small : (k at : ℕ) (s : List ℕ) → Octets s → AllOctets (heardIn (logOf k at s))
 unfolding logOf heardIn
 log-small k at [] o = tt
 log-small (suc k) at (x ∷ s) o = log-small k (suc at) s (λ j. o (suc j))

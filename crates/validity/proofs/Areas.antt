@@ -139,7 +139,7 @@ module _ (n : ℕ) (xs : List ℕ) (len : length xs ≡ 40) (g : Listing n xs) w
   })
 
 -- no area in use
-pub none-listing : (xs : List ℕ) → Listing 0 xs
+none-listing : (xs : List ℕ) → Listing 0 xs
 none-listing xs = record { count = refl; items = λ k h. absurd (omega arith); once = λ i j l h. absurd (omega arith) }
 
 -- an area of three octets and three octets

@@ -88,7 +88,7 @@ module _ (p : ℕ → Bool) where
       go false e g ih = ih (let q : suc k < suc (seekTo p n xs) = rw e at g in omega arith)
 
   -- none passes
-  pub seek-none : (n : ℕ) (xs : List ℕ) → ((k : ℕ) → k < n → p (getD xs k 0) ≡ false) → seekTo p n xs ≡ n
+  seek-none : (n : ℕ) (xs : List ℕ) → ((k : ℕ) → k < n → p (getD xs k 0) ≡ false) → seekTo p n xs ≡ n
   seek-none n xs f = go (ltb (seekTo p n xs) n) refl
     where
       go : (b : Bool) → ltb (seekTo p n xs) n ≡ b → seekTo p n xs ≡ n

@@ -41,7 +41,7 @@ use Rattle.validity.proofs.Refusal.{carry, table-idle}
 use Rattle.validity.proofs.Next.{half-turned, mine-is, equivalents-stay, own-first, own-second}
 
 -- no access but 0 and 1
-pub no-third : (w : ℕ) → isFlag (suc (suc w)) ≡ true → ⊥
+no-third : (w : ℕ) → isFlag (suc (suc w)) ≡ true → ⊥
 no-third w e = absurd (omega (arith, leb-true (suc (suc w)) 1 e))
 
 module _ (r : Record) (g : Good r) where

@@ -2,9 +2,7 @@
 use Prim.Native.Nat.{ℕ, _+_}
 use mathlib.Core.Path.{_≡_, refl}
 use mathlib.Core.Bool.{Bool, true, false, cond}
-use native.Mathlib.Omega.{arith}
 use lib.Dec.{ltb, eqb}
-use borrow.Author.Tests.{le-leb, ltb-true}
 use Rattle.record.specs.declared.Access.{Access}
 use Rattle.record.specs.Tests.{both, either, within, upTo, isFlag, isShort}
 use Rattle.record.specs.Network.{isNetwork, half, isDigit}
@@ -21,7 +19,7 @@ use Rattle.validity.proofs.Good.{Fit}
 abbrev pub grown : Bool → ℕ → ℕ
 grown found n = cond found n (cond (ltb n 16) (n + 1) n)
 
-pub grown-fits : (found : Bool) (n : ℕ) → upTo 16 n ≡ true → upTo 16 (grown found n) ≡ true
+grown-fits : (found : Bool) (n : ℕ) → upTo 16 n ≡ true → upTo 16 (grown found n) ≡ true
 grown-fits true n e = e
 grown-fits false n e = more-fits 16 n e
 

@@ -1,12 +1,12 @@
 -- Each turn of an access keeps its numbers in their ranges; T3510 runs in state 4 only, since each turn that leaves state 4 stops it;
 -- a turn to a state above 0 has a card; equivalents get no more, entries as many as the row says. Assumes nothing.
-use Prim.Native.Nat.{ℕ, _+_, _≤_}
+use Prim.Native.Nat.{ℕ, _≤_}
 use mathlib.Core.Path.{_≡_, refl}
 use mathlib.Core.Bool.{Bool, true, false, cond}
 use native.Mathlib.Omega.{arith}
 use lib.Dec.{ltb, eqb}
 use mathlib.Core.Logic.{_≢_}
-use borrow.Author.Tests.{leb-true, le-leb, ltb-true, eqb-true, eqb-false}
+use borrow.Author.Tests.{leb-true, le-leb, eqb-true, eqb-false}
 use Rattle.record.specs.declared.Access.{Access}
 use Rattle.record.specs.Tests.{either, upTo, isFlag, isShort}
 use Rattle.record.specs.Network.{isNetwork}
@@ -49,7 +49,7 @@ module _ (card limit : ℕ) (a : Access) (g : Fit limit a) where
     unfolding clocked flagAfter
     still-turned = record { fit = fit-clocked limit a g (ordersOf Leave Leave Leave); timely = t; carded = c; equivalents = omega arith; entries = refl }
 
-    pub counted-turned : Turned card limit (a .equivalents) (a .entries) (after (still (counted limit a)))
+    counted-turned : Turned card limit (a .equivalents) (a .entries) (after (still (counted limit a)))
     unfolding clocked flagAfter counted
     counted-turned = record {
       fit = fit-clocked limit (counted limit a) (fit-counted limit a g limit (le-leb limit limit (omega arith))) (ordersOf Leave Leave Leave);
@@ -194,7 +194,7 @@ module _ (card limit : ℕ) (a : Access) (g : Fit limit a) where
     row-turned Other w cause found = t3510-turned
 
 -- a new record's access
-pub new-fits : (limit state : ℕ) → upTo 6 state ≡ true → Fit limit (newAccess state)
+new-fits : (limit state : ℕ) → upTo 6 state ≡ true → Fit limit (newAccess state)
 unfolding newAccess isNetwork
 new-fits limit state p = record {
   mode = (p, refl, refl);
