@@ -94,7 +94,7 @@ module _ (r : Record) (g : Good r) (z : Sized r) (octets : List ℕ) where
 
   taken-good : (e : Event) → Octets octets → isTaken (answeredBy r e octets) ≡ true
       → Good (carry r octets (takenPlan (r .hot) (askIn r e) (seenAt r e) (heardOf e octets) (effectIn r e octets)) .next)
-  unfolding answeredBy answerOf askOf effectOf heardOf startEffect keyEffect timerEffect isTaken
+  unfolding answeredBy answerOf askOf effectOf heardOf startEffect keyEffect isTaken
   taken-good (Card home) o q =
       let p = card-passed home octets q in
       card-good r g z octets 0 0 false 0 (seenAt r (Card home)) (heardOf (Card home) octets) home (p .0) (p .1) (p .2)
