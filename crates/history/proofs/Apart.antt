@@ -33,10 +33,10 @@ use Rattle.validity.specs.Answered.{seenAt, answeredBy}
 use Rattle.validity.proofs.Refusal.{effectIn, taken-plan, refused}
 use Rattle.validity.proofs.Taken.{message-passed}
 use Rattle.validity.proofs.Next.{other-is}
+use Rattle.validity.proofs.Own.{row-early}
 use Rattle.history.specs.Cell.{entriesIn}
 use Rattle.history.specs.Apart.{Half, halfOf}
 use Rattle.history.proofs.Next.{other-of, next, plan, idle-on, carry-guti, carry-equivalents, taken-access, taken-entries}
-use Rattle.history.proofs.Rows.{few}
 use Rattle.history.proofs.Stays.{small}
 
 -- the rows of an unprotected reject leave the other access
@@ -88,7 +88,7 @@ module _ (r : Record) (b draw : ℕ) (octets : List ℕ) where
   bare : (m : Reading) (s : Seen) → isTaken (readAnswer (r .hot) b 0 m s) ≡ true → Bare (messageEffect (r .hot) b 0 draw m s)
   unfolding readAnswer messageEffect rejectEffect rowWork isTaken
   bare (reading.Accept g) s t = absurd (false≢true t)
-  bare (reading.Reject cause) s t = record { theirs = bare-row cause; deed = few (rowNow (r .hot) b 0 cause); keep = refl }
+  bare (reading.Reject cause) s t = record { theirs = bare-row cause; deed = row-early (rowNow (r .hot) b 0 cause); keep = refl }
   bare (reading.Bad f at) s t = absurd (false≢true t)
 
   module _ (t : isTaken (answeredBy r event octets) ≡ true) (w : ℕ) (hw : w < 2) (q : eqb b w ≡ false) where

@@ -5,14 +5,15 @@ use mathlib.Core.Bool.{Bool, true, false, cond, not}
 use mathlib.Core.List.{List}
 use native.Mathlib.Omega.{arith}
 use lib.Dec.{ltb, eqb}
+use lib.ListN.{length}
 use borrow.Author.Tests.{ltb-true, ltb-false, eqb-true}
 use Rattle.entries.specs.declared.Entries.{Entries}
 use Rattle.entries.specs.declared.Deed.{Deed}
-use Rattle.entries.specs.Entries.{sizeOf, placeIn, peekAt, liftMark, bumped, putAt, clearUnless, raised, accepted, swept, cycled, none}
+use Rattle.entries.specs.Entries.{sizeOf, placeIn, peekAt, liftMark, bumped, putAt, raised, accepted, swept, cycled, none}
 use Rattle.entries.specs.Entries as entries
 use Rattle.validity.specs.Sized.{Columns}
 use Rattle.validity.proofs.Setters.{grown}
-use Rattle.history.specs.Cell.{columnIn, cellIn}
+use Rattle.history.specs.Cell.{Cell, columnIn, cellIn}
 use Rattle.history.specs.History.{Limits, banned, barred, ended}
 use Rattle.history.specs.History as history
 use Rattle.history.proofs.Said.{raise, cell, blank, cellAfter}
@@ -26,6 +27,18 @@ raise-is limit sure n = elim (eqb sure 0) as (λ b. cond b (cond (ltb n limit) (
 -- four columns
 cells : {a a′ b b′ f f′ g g′ : ℕ} → a ≡ a′ → b ≡ b′ → f ≡ f′ → g ≡ g′ → cell a b f g ≡ cell a′ b′ f′ g′
 cells p q s t = cc
+
+-- a ban or a bar of this network, or of another
+module _ (l : Limits) where
+  ban-after : (b p : Bool) (c : Cell) → cell (cond b (raise (l .ban) p (c .ban)) (c .ban)) (c .n1) (cond b 1 (c .forbidden)) (c .barred) ≡ cellAfter l (cond b (banned p) history.nothing) c
+  unfolding cellAfter
+  ban-after true p c = refl
+  ban-after false p c = refl
+
+  bar-after : (b p : Bool) (c : Cell) → cell (c .ban) (cond b (raise (l .n1) p (c .n1)) (c .n1)) (c .forbidden) (cond b 1 (c .barred)) ≡ cellAfter l (cond b (barred p) history.nothing) c
+  unfolding cellAfter
+  bar-after true p c = refl
+  bar-after false p c = refl
 
 pub cell-none : (count m : ℕ) → cellIn count none m ≡ blank
 unfolding cellIn none
@@ -68,49 +81,30 @@ module _ (l : Limits) (count net sure : ℕ) (t : Entries) (w : Columns t) where
   unfolding raised peekAt
   raised-is xs limit = ap (λ (n : ℕ). putAt xs at n) (raise-is limit sure (columnIn count (t .nets) xs net))
 
+  -- a counter's column, for each network
+  counts : at < 16 → (limit : ℕ) (xs : List ℕ) → length xs ≡ 16 → (m : ℕ)
+      → columnIn (grown found count) (putAt (t .nets) at net) (raised xs at found limit sure) m ≡ cond (eqb net m) (counted limit xs m) (columnIn count (t .nets) xs m)
+  counts room limit xs len m = rw (raised-is xs limit) (touched count net (t .nets) (w .nets) room xs len (counted limit xs net) m ∙ go (eqb net m) refl)
+    where
+      go : (b : Bool) → eqb net m ≡ b → cond (eqb net m) (counted limit xs net) (columnIn count (t .nets) xs m) ≡ cond (eqb net m) (counted limit xs m) (columnIn count (t .nets) xs m)
+      go true q = rw q (ap (counted limit xs) (eqb-true net m q))
+      go false q = rw q
+
   pub cell-banned : at < 16 → (kind m : ℕ)
       → cellIn (grown found count) (entries.banned (deedAt kind) (l .ban) t) m ≡ cellAfter l (cond (eqb net m) (banned (not (eqb sure 0))) history.nothing) (cellIn count t m)
-  unfolding cellIn entries.banned cellAfter
-  cell-banned room kind m = go (eqb net m) refl
-    where
-      bans : columnIn (grown found count) (putAt (t .nets) at net) (raised (t .bans) at found (l .ban) sure) m ≡ cond (eqb net m) (counted (l .ban) (t .bans) net) (columnIn count (t .nets) (t .bans) m)
-      bans = rw (raised-is (t .bans) (l .ban)) (touched count net (t .nets) (w .nets) room (t .bans) (w .bans) (counted (l .ban) (t .bans) net) m)
-
-      n1s : columnIn (grown found count) (putAt (t .nets) at net) (clearUnless found (t .n1s) at) m ≡ columnIn count (t .nets) (t .n1s) m
-      n1s = spared count net (t .nets) (w .nets) room (t .n1s) (w .n1s) m
-
-      forbids : columnIn (grown found count) (putAt (t .nets) at net) (putAt (t .forbidden) at 1) m ≡ cond (eqb net m) 1 (columnIn count (t .nets) (t .forbidden) m)
-      forbids = touched count net (t .nets) (w .nets) room (t .forbidden) (w .forbidden) 1 m
-
-      bars : columnIn (grown found count) (putAt (t .nets) at net) (clearUnless found (t .barred) at) m ≡ columnIn count (t .nets) (t .barred) m
-      bars = spared count net (t .nets) (w .nets) room (t .barred) (w .barred) m
-
-      go : (b : Bool) → eqb net m ≡ b
-          → cellIn (grown found count) (entries.banned (deedAt kind) (l .ban) t) m ≡ cellAfter l (cond (eqb net m) (banned (not (eqb sure 0))) history.nothing) (cellIn count t m)
-      go true q = rw q (cells (rw q at bans ∙ ap (counted (l .ban) (t .bans)) (eqb-true net m q)) n1s (rw q at forbids) bars)
-      go false q = rw q (cells (rw q at bans) n1s (rw q at forbids) bars)
+  unfolding cellIn entries.banned
+  cell-banned room kind m =
+      cells (counts room (l .ban) (t .bans) (w .bans) m) (spared count net (t .nets) (w .nets) room (t .n1s) (w .n1s) m)
+      (touched count net (t .nets) (w .nets) room (t .forbidden) (w .forbidden) 1 m) (spared count net (t .nets) (w .nets) room (t .barred) (w .barred) m)
+      ∙ ban-after l (eqb net m) (not (eqb sure 0)) (cellIn count t m)
 
   pub cell-barred : at < 16 → (kind m : ℕ)
       → cellIn (grown found count) (entries.barredBy (deedAt kind) (l .n1) t) m ≡ cellAfter l (cond (eqb net m) (barred (not (eqb sure 0))) history.nothing) (cellIn count t m)
-  unfolding cellIn entries.barredBy cellAfter
-  cell-barred room kind m = go (eqb net m) refl
-    where
-      bans : columnIn (grown found count) (putAt (t .nets) at net) (clearUnless found (t .bans) at) m ≡ columnIn count (t .nets) (t .bans) m
-      bans = spared count net (t .nets) (w .nets) room (t .bans) (w .bans) m
-
-      n1s : columnIn (grown found count) (putAt (t .nets) at net) (raised (t .n1s) at found (l .n1) sure) m ≡ cond (eqb net m) (counted (l .n1) (t .n1s) net) (columnIn count (t .nets) (t .n1s) m)
-      n1s = rw (raised-is (t .n1s) (l .n1)) (touched count net (t .nets) (w .nets) room (t .n1s) (w .n1s) (counted (l .n1) (t .n1s) net) m)
-
-      forbids : columnIn (grown found count) (putAt (t .nets) at net) (clearUnless found (t .forbidden) at) m ≡ columnIn count (t .nets) (t .forbidden) m
-      forbids = spared count net (t .nets) (w .nets) room (t .forbidden) (w .forbidden) m
-
-      bars : columnIn (grown found count) (putAt (t .nets) at net) (putAt (t .barred) at 1) m ≡ cond (eqb net m) 1 (columnIn count (t .nets) (t .barred) m)
-      bars = touched count net (t .nets) (w .nets) room (t .barred) (w .barred) 1 m
-
-      go : (b : Bool) → eqb net m ≡ b
-          → cellIn (grown found count) (entries.barredBy (deedAt kind) (l .n1) t) m ≡ cellAfter l (cond (eqb net m) (barred (not (eqb sure 0))) history.nothing) (cellIn count t m)
-      go true q = rw q (cells bans (rw q at n1s ∙ ap (counted (l .n1) (t .n1s)) (eqb-true net m q)) forbids (rw q at bars))
-      go false q = rw q (cells bans (rw q at n1s) forbids (rw q at bars))
+  unfolding cellIn entries.barredBy
+  cell-barred room kind m =
+      cells (spared count net (t .nets) (w .nets) room (t .bans) (w .bans) m) (counts room (l .n1) (t .n1s) (w .n1s) m)
+      (spared count net (t .nets) (w .nets) room (t .forbidden) (w .forbidden) m) (touched count net (t .nets) (w .nets) room (t .barred) (w .barred) 1 m)
+      ∙ bar-after l (eqb net m) (not (eqb sure 0)) (cellIn count t m)
 
   -- an accept clears the mark where there is an entry; elsewhere there is none to clear
   pub cell-accepted : (kind m : ℕ) → cellIn count (accepted (deedAt kind) t) m ≡ cellAfter l (cond (eqb net m) history.accepted history.nothing) (cellIn count t m)

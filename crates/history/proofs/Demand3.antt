@@ -6,15 +6,11 @@ use mathlib.Core.Bool.{Bool, true, false, cond, false≢true}
 use mathlib.Core.List.{List, [], _∷_, reverseAux}
 use lib.Dec.{eqb}
 use lib.ListN.{length}
-use Rattle.octets.specs.declared.Fault.{Fault}
-use Rattle.octets.specs.declared.Fault.the-variants.{Cut, First, Second, Kind, Past, Strange}
 use Rattle.entries.specs.Entries.{none}
 use Rattle.record.specs.Answers.{numberOf, isTaken}
 use Rattle.record.specs.New.{newDevice, newAccess, emptyRecord, newRecord, mayMake, madeOf}
 use Rattle.ranges.specs.Valid.{validOf}
 use Rattle.record.specs.declared.Record.{Record}
-use Rattle.record.specs.declared.Answer.{Answer}
-use Rattle.record.specs.declared.Answer.the-variants as answer
 use Rattle.rules.specs.declared.Event.{Event}
 use Rattle.rules.specs.declared.Event.the-variants.{Card, Start, Message, Timer, Power, Key, Unknown}
 use Rattle.record.specs.Sides.{accessOf}
@@ -24,6 +20,7 @@ use Rattle.events.specs.Step.{advanceOf, stepOf}
 use Rattle.validity.specs.Answered.{answeredBy}
 use Rattle.validity.specs.Run.{Heard, runOf}
 use Rattle.validity.specs.Sized.{Sized}
+use Rattle.record.proofs.Numbers.{taken-zero}
 use Rattle.validity.proofs.Refusal.{refused, answer-told}
 use Rattle.validity.proofs.Sizes.{advance-sized, new-sized}
 use Rattle.history.specs.Run.{answersOf}
@@ -34,33 +31,6 @@ use Rattle.history.proofs.Cells.{cell-none}
 use Rattle.history.proofs.Next.{next, limitsOf}
 use Rattle.history.proofs.Steps.{home-step, ban-step, n1-step, net-step}
 use Rattle.history.proofs.Events.{card-cell, event-cell}
-
--- no fault is answer 0
-fault-number : (f : Fault) (at : ℕ) → eqb (numberOf (answer.Malformed f at)) 0 ≡ false
-unfolding numberOf
-fault-number Cut at = refl
-fault-number First at = refl
-fault-number Second at = refl
-fault-number Kind at = refl
-fault-number Past at = refl
-fault-number Strange at = refl
-
--- taken is answer 0, and no other is
-taken-zero : (a : Answer) → eqb (numberOf a) 0 ≡ isTaken a
-unfolding numberOf isTaken
-taken-zero answer.Taken = refl
-taken-zero answer.Range = refl
-taken-zero answer.Ignored = refl
-taken-zero (answer.Malformed f at) = fault-number f at
-taken-zero answer.Full = refl
-taken-zero answer.NoCard = refl
-taken-zero answer.State = refl
-taken-zero answer.Same = refl
-taken-zero answer.Listed = refl
-taken-zero answer.Area = refl
-taken-zero answer.Bare = refl
-taken-zero answer.Idle = refl
-taken-zero answer.Short = refl
 
 -- the record agrees with the taken events, the latest first
 record Agrees (l : Limits) (r : Record) (t : List Heard) : Type 0 where

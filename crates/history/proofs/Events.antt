@@ -18,14 +18,14 @@ use Rattle.record.specs.Sides.{accessOf, otherOf}
 use Rattle.rules.specs.Plan.{askOf, answerOf, effectOf, mineOf}
 use Rattle.validity.specs.Sized.{Columns}
 use Rattle.validity.specs.Answered.{askIn, answeredBy}
-use Rattle.validity.proofs.Refusal.{effectIn}
+use Rattle.validity.proofs.Refusal.{effectIn, idle-mine}
 use Rattle.history.specs.Cell.{cellIn, entriesIn, cellOf}
 use Rattle.history.specs.History.{nothing, ended, isCardChange, eventNews}
 use Rattle.history.specs.History as history
 use Rattle.history.proofs.Said.{blank, cellAfter}
 use Rattle.history.proofs.Cells.{cell-none, cell-swept, cell-cycled}
 use Rattle.history.proofs.Next.{next, deedOn, idle-on, taken-cell, limitsOf, columns}
-use Rattle.history.proofs.Stays.{t3247-zero, small, idle-mine, both-kept, each-kept, out-effect, clock-entries, clock-others}
+use Rattle.history.proofs.Stays.{t3247-zero, small, both-kept, each-kept, out-effect, clock-spares}
 use Rattle.history.proofs.Messages.{message-cell}
 
 module _ (r : Record) where
@@ -77,7 +77,7 @@ module _ (r : Record) where
         go : (s : Bool) → eqb number 4 ≡ s → cellOf (next r (Timer number b) octets) w n ≡ cellAfter (limitsOf r) (cond (eqb number 4) ended nothing) (cellOf r w n)
         go true q = rw q (ended-cell number b octets t q w n hw)
         go false q =
-            rw q (cell-kept (Timer number b) octets t (rw q (clock-entries (r .hot) number b)) (rw q (clock-others (r .hot) number b .0)) (rw q (clock-others (r .hot) number b .1)) w n hw)
+            let s = clock-spares (r .hot) number b in rw q (cell-kept (Timer number b) octets t (rw q (s .mine)) (rw q (s .theirs)) (rw q (s .deed)) w n hw)
 
     -- the cell of network n on access w after a taken event
     pub event-cell : (e : Event) (octets : List ℕ) → isTaken (answeredBy r e octets) ≡ true → isCardChange e ≡ false → (w n : ℕ) → w < 2

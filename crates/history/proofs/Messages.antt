@@ -32,13 +32,14 @@ use Rattle.validity.specs.Answered.{seenAt, answeredBy}
 use Rattle.validity.proofs.Setters.{grown}
 use Rattle.validity.proofs.Taken.{message-passed, reject-passed}
 use Rattle.validity.proofs.Next.{mine-is, other-is}
+use Rattle.validity.proofs.Own.{row-early}
 use Rattle.history.specs.Cell.{Cell, cellIn, entriesIn, cellOf}
 use Rattle.history.specs.History.{News, nothing, causeNews, messageNews, eventNews}
 use Rattle.history.specs.History as history
 use Rattle.history.proofs.Said.{cellAfter}
 use Rattle.history.proofs.Cells.{cell-accepted}
 use Rattle.history.proofs.Next.{other-of, next, taken-cell, limitsOf, columns}
-use Rattle.history.proofs.Rows.{few, rowNews, row-news, row-cell, row-entries, other-entries}
+use Rattle.history.proofs.Rows.{rowNews, row-news, row-cell, row-left, other-left}
 use Rattle.history.proofs.Stays.{small}
 
 module _ (r : Record) (c0 : Columns (r .e0)) (c1 : Columns (r .e1)) (b sure draw : ℕ) (octets : List ℕ) where
@@ -73,8 +74,8 @@ module _ (r : Record) (c0 : Columns (r .e0)) (c1 : Columns (r .e1)) (b sure draw
   unfolding messageEffect acceptEffect rejectEffect rowWork
   other-message (reading.Accept g) hb w n hw q = other-after (acceptEffect (r .hot) b g) refl refl hb w n hw q
   other-message (reading.Reject cause) hb w n hw q =
-      other-after (rejectEffect (r .hot) b sure draw (sight .found) cause (rowNow (r .hot) b sure cause)) (few (rowNow (r .hot) b sure cause))
-      (other-entries (r .hot .dev .cardlimit) (otherOf (r .hot) b) (rowNow (r .hot) b sure cause)) hb w n hw q
+      other-after (rejectEffect (r .hot) b sure draw (sight .found) cause (rowNow (r .hot) b sure cause)) (row-early (rowNow (r .hot) b sure cause))
+      (other-left (r .hot .dev .cardlimit) (otherOf (r .hot) b) (rowNow (r .hot) b sure cause) .1) hb w n hw q
   other-message (reading.Bad f at) hb w n hw q = other-after (messageEffect (r .hot) b sure draw (reading.Bad f at) sight) refl refl hb w n hw q
 
   -- what is seen on the message's access
@@ -132,7 +133,7 @@ module _ (r : Record) (c0 : Columns (r .e0)) (c1 : Columns (r .e1)) (b sure draw
   unfolding rejectEffect rowWork seenIn
   own-reject hb cause t n =
       own-after (rejectEffect (r .hot) b sure draw (sight .found) cause (here cause)) n
-      ∙ ap (λ (k : ℕ). cellIn k (done sight b (rowDeed (here cause))) n) (row-entries b (r .hot .dev .cardlimit) cause (sight .found) (accessOf (r .hot) b) (here cause))
+      ∙ ap (λ (k : ℕ). cellIn k (done sight b (rowDeed (here cause))) n) (row-left b (r .hot .dev .cardlimit) cause (sight .found) (accessOf (r .hot) b) (here cause) .1)
       ∙ ap (λ (s : Seen). cellIn (cond (needsEntry (here cause)) (grown (s .found) count) count) (done s b (rowDeed (here cause))) n) (seen-is hb)
       ∙ row-cell (limitsOf r) (here cause) count net sure table (columns r c0 c1 b) (room-for hb cause t) n
 

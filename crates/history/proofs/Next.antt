@@ -59,15 +59,11 @@ dev-of d b mine theirs =
       | false ↦ refl
     ]
 
-net-of : (b : Bool) (o o′ : Orders) (x y : Access) → cond b (clocked o x) (clocked o′ y) .net ≡ cond b (x .net) (y .net)
-unfolding clocked
-net-of true o o′ x y = refl
-net-of false o o′ x y = refl
-
-entries-of : (b : Bool) (o o′ : Orders) (x y : Access) → cond b (clocked o x) (clocked o′ y) .entries ≡ cond b (x .entries) (y .entries)
-unfolding clocked
-entries-of true o o′ x y = refl
-entries-of false o o′ x y = refl
+-- a number of an access that its timers do not touch
+number-of : (f : Access → ℕ) → ((o : Orders) (a : Access) → f (clocked o a) ≡ f a) → (b : Bool) (o o′ : Orders) (x y : Access)
+    → f (cond b (clocked o x) (clocked o′ y)) ≡ cond b (f x) (f y)
+number-of f k true o o′ x y = k o x
+number-of f k false o o′ x y = k o′ y
 
 -- A plan carried out.
 module _ (r : Record) (octets : List ℕ) (p : Plan) where
@@ -77,18 +73,6 @@ module _ (r : Record) (octets : List ℕ) (p : Plan) where
   carry-access : (w : ℕ) → accessOf (after .hot) w ≡ accessOf (p .hot) w
   unfolding accessOf joinedOf together carriedOut doneOf listed
   carry-access w = refl
-
-  carry-home : after .hot .dev .home ≡ p .hot .dev .home
-  unfolding joinedOf together carriedOut doneOf listed
-  carry-home = refl
-
-  carry-ban : after .hot .dev .banlimit ≡ p .hot .dev .banlimit
-  unfolding joinedOf together carriedOut doneOf listed
-  carry-ban = refl
-
-  carry-n1 : after .hot .dev .n1limit ≡ p .hot .dev .n1limit
-  unfolding joinedOf together carriedOut doneOf listed
-  carry-n1 = refl
 
   carry-entries : (w : ℕ) → w < 2 → entriesIn after w ≡ tableAfter p w (accessOf (r .hot) w .entries) (r .hot) (entriesIn r w)
   unfolding entriesIn accessOf joinedOf together carriedOut
@@ -121,7 +105,7 @@ module _ (r : Record) (e : Event) (octets : List ℕ) where
   abbrev pub deedOn : ℕ → ℕ → Deed
   deedOn deed w = record { kind = mineOf deed (askIn r e .access) w; at = seenAt r e .at; found = seenAt r e .found; net = askIn r e .net; sure = askIn r e .sure }
 
-  abbrev pub doneOn : ℕ → ℕ → Entries
+  abbrev doneOn : ℕ → ℕ → Entries
   doneOn deed w = entriesAfter (deedOn deed w) (accessOf (r .hot) w .entries) (r .hot .dev .banlimit) (r .hot .dev .n1limit) (entriesIn r w)
 
   pub idle-on : (deed w : ℕ) → mineOf deed (askIn r e .access) w ≡ 0 → doneOn deed w ≡ entriesIn r w
@@ -129,22 +113,12 @@ module _ (r : Record) (e : Event) (octets : List ℕ) where
   idle-on deed w z = rw z
 
   module _ (t : isTaken (answeredBy r e octets) ≡ true) where
-    pub taken-home : next .hot .dev .home ≡ effectIn r e octets .dev .home
-    unfolding takenPlan hotAfter ticked
-    taken-home =
-        ap (λ (o : Outcome). o .next .hot .dev .home) (taken-plan r e octets t) ∙ carry-home r octets plan ∙ ap (λ (d : Device). d .home) (dev-of _ (askIn r e .access) _ _)
-
-    pub taken-ban : next .hot .dev .banlimit ≡ effectIn r e octets .dev .banlimit
-    unfolding takenPlan hotAfter ticked
-    taken-ban =
-        ap (λ (o : Outcome). o .next .hot .dev .banlimit) (taken-plan r e octets t) ∙ carry-ban r octets plan
-        ∙ ap (λ (d : Device). d .banlimit) (dev-of _ (askIn r e .access) _ _)
-
-    pub taken-n1 : next .hot .dev .n1limit ≡ effectIn r e octets .dev .n1limit
-    unfolding takenPlan hotAfter ticked
-    taken-n1 =
-        ap (λ (o : Outcome). o .next .hot .dev .n1limit) (taken-plan r e octets t) ∙ carry-n1 r octets plan
-        ∙ ap (λ (d : Device). d .n1limit) (dev-of _ (askIn r e .access) _ _)
+    -- a number of the device that is neither T3247's nor a count of an area list
+    pub taken-device : (f : Device → ℕ) → ((t3247 : ℕ) (d : Device) → f (ticked t3247 d) ≡ f d) → ((m n : ℕ) (h : Hot) → f (listed m n h .dev) ≡ f (h .dev))
+        → f (next .hot .dev) ≡ f (effectIn r e octets .dev)
+    unfolding joinedOf together carriedOut doneOf takenPlan hotAfter
+    taken-device f k m =
+        ap (λ (o : Outcome). f (o .next .hot .dev)) (taken-plan r e octets t) ∙ m _ _ (plan .hot) ∙ ap f (dev-of _ (askIn r e .access) _ _) ∙ k _ (effectIn r e octets .dev)
 
     pub taken-entries : (w : ℕ) → w < 2 → entriesIn next w ≡ doneOn (effectIn r e octets .work .deed) w
     unfolding tableAfter takenPlan deedOf
@@ -158,22 +132,21 @@ module _ (r : Record) (e : Event) (octets : List ℕ) where
       taken-access =
           ap (λ (o : Outcome). accessOf (o .next .hot) w) (taken-plan r e octets t) ∙ carry-access r octets plan w ∙ access-of _ (askIn r e .access) _ _ w hb hw
 
+      taken-number : (f : Access → ℕ) → ((o : Orders) (a : Access) → f (clocked o a) ≡ f a)
+          → f (accessOf (next .hot) w) ≡ cond (eqb (askIn r e .access) w) (f (effectIn r e octets .mine .access)) (f (effectIn r e octets .theirs .access))
+      taken-number f k = ap f taken-access ∙ number-of f k (eqb (askIn r e .access) w) _ _ _ _
+
       pub taken-net : accessOf (next .hot) w .net ≡ cond (eqb (askIn r e .access) w) (effectIn r e octets .mine .access .net) (effectIn r e octets .theirs .access .net)
-      taken-net =
-          ap (λ (a : Access). a .net) taken-access
-          ∙ net-of (eqb (askIn r e .access) w) (effectIn r e octets .mine .orders) (effectIn r e octets .theirs .orders) (effectIn r e octets .mine .access)
-          (effectIn r e octets .theirs .access)
+      unfolding clocked
+      taken-net = taken-number (λ (a : Access). a .net) (λ o a. refl)
 
       -- the cell of network n after a taken event
       pub taken-cell : (n : ℕ) → cellOf next w n
           ≡ cellIn (cond (eqb (askIn r e .access) w) (effectIn r e octets .mine .access .entries) (effectIn r e octets .theirs .access .entries))
           (doneOn (effectIn r e octets .work .deed) w) n
-      unfolding cellOf
+      unfolding cellOf clocked
       taken-cell n =
-          rw (taken-entries w hw)
-          (ap (λ (k : ℕ). cellIn k (doneOn (effectIn r e octets .work .deed) w) n) (ap (λ (a : Access). a .entries) taken-access
-          ∙ entries-of (eqb (askIn r e .access) w) (effectIn r e octets .mine .orders) (effectIn r e octets .theirs .orders) (effectIn r e octets .mine .access)
-          (effectIn r e octets .theirs .access)))
+          rw (taken-entries w hw) (ap (λ (k : ℕ). cellIn k (doneOn (effectIn r e octets .work .deed) w) n) (taken-number (λ (a : Access). a .entries) (λ o a. refl)))
 
 module _ (r : Record) where
   -- the limits of the network counters

@@ -6,7 +6,6 @@ use mathlib.Core.Bool.{Bool, true, false, cond}
 use native.Mathlib.Omega.{arith}
 use lib.Dec.{ltb, eqb}
 use lib.ListN.{length, getD, take, drop}
-use lib.Seq.{getD-drop}
 use mathlib.Core.List.{List, [], _∷_}
 use Rattle.record.specs.declared.Record.{Record}
 use Rattle.ranges.specs.Valid.{validOf}
@@ -18,6 +17,7 @@ use Rattle.log.specs.Held.{endOf}
 use Rattle.log.specs.Replay.{bare}
 use Rattle.validity.specs.Sized.{Sized}
 use Rattle.validity.specs.Run.{Octets, AllOctets, runOf}
+use Rattle.validity.proofs.Messages.{drop-octets}
 use Rattle.validity.proofs.Kept.{step-advances, step-valid}
 use Rattle.validity.proofs.Sizes.{step-sized, made-sized}
 use Rattle.ranges.proofs.MadeValid.{made-valid}
@@ -49,9 +49,6 @@ take-small (suc n) k [] o = omega arith
 take-small (suc n) zero (x ∷ s) o = o 0
 take-small (suc n) (suc k) (x ∷ s) o = take-small n k s (λ j. o (suc j))
 
-drop-small : (n : ℕ) (s : List ℕ) → Octets s → Octets (drop n s)
-drop-small n s o k = rw (getD-drop n s k 0) (o (n + k))
-
 either-small : (t : Bool) (x y : List ℕ) → Octets x → Octets y → Octets (cond t x y)
 either-small true x y a b = a
 either-small false x y a b = b
@@ -59,8 +56,8 @@ either-small false x y a b = b
 beside-small : (s : List ℕ) → Octets s → Octets (octetsIn s)
 unfolding octetsOf
 beside-small s o =
-    either-small (eqb (pairAt s 0) 1) _ _ (drop-small 3 (drop 2 s) (drop-small 2 s o))
-    (either-small (eqb (pairAt s 0) 3) _ _ (drop-small 4 (drop 2 s) (drop-small 2 s o)) (λ k. omega arith))
+    either-small (eqb (pairAt s 0) 1) _ _ (drop-octets 3 (drop 2 s) (drop-octets 2 s o))
+    (either-small (eqb (pairAt s 0) 3) _ _ (drop-octets 4 (drop 2 s) (drop-octets 2 s o)) (λ k. omega arith))
 
 or-bad : (t : Bool) (at : ℕ) (l : Log) → AllOctets (heardIn l) → AllOctets (heardIn (cond t (bad at) l))
 unfolding heardIn
@@ -74,7 +71,7 @@ record-small len at s l o a =
     (or-bad (ltb (length s) len) at (entry (eventIn (take len s)) (octetsIn (take len s)) l)
     (beside-small (take len s) (λ k. take-small len k s o), a))
 
-pub log-small : (k at : ℕ) (s : List ℕ) → Octets s → AllOctets (heardIn (logOf k at s))
+log-small : (k at : ℕ) (s : List ℕ) → Octets s → AllOctets (heardIn (logOf k at s))
 unfolding logOf heardIn
 log-small k at [] o = tt
 log-small (suc k) at (x ∷ s) o = log-small k (suc at) s (λ j. o (suc j))

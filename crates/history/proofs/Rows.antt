@@ -3,7 +3,7 @@
 use Prim.Native.Nat.{ℕ}
 use mathlib.Core.Path.{_≡_, refl}
 use mathlib.Core.Bool.{Bool, true, false, cond, not}
-use lib.Dec.{leb, ltb, eqb}
+use lib.Dec.{ltb, eqb}
 use borrow.Author.Tests.{ltb-true, eqb-true}
 use Rattle.record.specs.Tests.{both}
 use Rattle.record.specs.declared.Access.{Access}
@@ -102,121 +102,60 @@ row-cell l N1 count net sure t w h n = cell-barred l count net sure t w (ltb-tru
 row-cell l Protocol count net sure t w h n = same l (eqb net n) count t n
 row-cell l Other count net sure t w h n = same l (eqb net n) count t n
 
--- no row goes over both accesses' entries
-pub few : (row : Row) → leb 4 (rowDeed row) ≡ false
-unfolding rowDeed
-few CardBelow = refl
-few CardLimit = refl
-few CardProtected = refl
-few Away = refl
-few Home = refl
-few Area = refl
-few N1 = refl
-few Protocol = refl
-few Other = refl
+-- the pending network and the count of entries that a turn leaves
+abbrev Left : ℕ → ℕ → Access → Type 0
+Left net entries a = (a .net ≡ net) × (a .entries ≡ entries)
 
-failed-net : (n : ℕ) (a : Access) → failed n a .access .net ≡ a .net
+failed-left : (n : ℕ) (a : Access) → Left (a .net) (a .entries) (failed n a .access)
 unfolding failed moved forgotten emptied
-failed-net n a = go (ltb n 5) refl
+failed-left n a = go (ltb n 5) refl
   where
-    go : (b : Bool) → ltb n 5 ≡ b → failed n a .access .net ≡ a .net
-    go true q = rw q
-    go false q = rw q
+    go : (b : Bool) → ltb n 5 ≡ b → Left (a .net) (a .entries) (failed n a .access)
+    go true q = rw q (refl, refl)
+    go false q = rw q (refl, refl)
 
-failed-entries : (n : ℕ) (a : Access) → failed n a .access .entries ≡ a .entries
-unfolding failed moved forgotten emptied
-failed-entries n a = go (ltb n 5) refl
-  where
-    go : (b : Bool) → ltb n 5 ≡ b → failed n a .access .entries ≡ a .entries
-    go true q = rw q
-    go false q = rw q
-
-pub out-net : (a : Access) → t3510Out a .access .net ≡ a .net
+pub out-left : (a : Access) → Left (a .net) (a .entries) (t3510Out a .access)
 unfolding t3510Out
-out-net a = failed-net (tried (a .attempts)) a
-
-pub out-entries : (a : Access) → t3510Out a .access .entries ≡ a .entries
-unfolding t3510Out
-out-entries a = failed-entries (tried (a .attempts)) a
+out-left a = failed-left (tried (a .attempts)) a
 
 module _ (w limit cause : ℕ) (found : Bool) (a : Access) where
-  below-net : cardBelow w limit a .access .net ≡ a .net
+  below-left : Left (a .net) (a .entries) (cardBelow w limit a .access)
   unfolding cardBelow moved forgotten emptied counted
-  below-net = go (eqb w 0) refl
+  below-left = go (eqb w 0) refl
     where
-      go : (b : Bool) → eqb w 0 ≡ b → cardBelow w limit a .access .net ≡ a .net
-      go true q = rw q
-      go false q = rw q
+      go : (b : Bool) → eqb w 0 ≡ b → Left (a .net) (a .entries) (cardBelow w limit a .access)
+      go true q = rw q (refl, refl)
+      go false q = rw q (refl, refl)
 
-  below-entries : cardBelow w limit a .access .entries ≡ a .entries
-  unfolding cardBelow moved forgotten emptied counted
-  below-entries = go (eqb w 0) refl
-    where
-      go : (b : Bool) → eqb w 0 ≡ b → cardBelow w limit a .access .entries ≡ a .entries
-      go true q = rw q
-      go false q = rw q
-
-  area-net : area cause a .access .net ≡ a .net
+  area-left : Left (a .net) (a .entries) (area cause a .access)
   unfolding area moved forgotten emptied
-  area-net = go (eqb cause 13) refl
+  area-left = go (eqb cause 13) refl
     where
-      go : (b : Bool) → eqb cause 13 ≡ b → area cause a .access .net ≡ a .net
-      go true q = rw q
-      go false q = rw q
+      go : (b : Bool) → eqb cause 13 ≡ b → Left (a .net) (a .entries) (area cause a .access)
+      go true q = rw q (refl, refl)
+      go false q = rw q (refl, refl)
 
-  area-entries : area cause a .access .entries ≡ a .entries
-  unfolding area moved forgotten emptied
-  area-entries = go (eqb cause 13) refl
-    where
-      go : (b : Bool) → eqb cause 13 ≡ b → area cause a .access .entries ≡ a .entries
-      go true q = rw q
-      go false q = rw q
-
-  pub row-net : (row : Row) → rowTurn row w limit cause found a .access .net ≡ a .net
-  unfolding rowTurn cardLimit cardProtected away home n1 moved forgotten emptied counted entered
-  row-net CardBelow = below-net
-  row-net CardLimit = refl
-  row-net CardProtected = refl
-  row-net Away = refl
-  row-net Home = refl
-  row-net Area = area-net
-  row-net N1 = refl
-  row-net Protocol = failed-net 5 a
-  row-net Other = out-net a
-
-  pub row-entries : (row : Row) → rowTurn row w limit cause found a .access .entries ≡ cond (needsEntry row) (grown found (a .entries)) (a .entries)
+  pub row-left : (row : Row) → Left (a .net) (cond (needsEntry row) (grown found (a .entries)) (a .entries)) (rowTurn row w limit cause found a .access)
   unfolding rowTurn needsEntry cardLimit cardProtected away home n1 moved forgotten emptied counted entered
-  row-entries CardBelow = below-entries
-  row-entries CardLimit = refl
-  row-entries CardProtected = refl
-  row-entries Away = refl
-  row-entries Home = refl
-  row-entries Area = area-entries
-  row-entries N1 = refl
-  row-entries Protocol = failed-entries 5 a
-  row-entries Other = out-entries a
+  row-left CardBelow = below-left
+  row-left CardLimit = (refl, refl)
+  row-left CardProtected = (refl, refl)
+  row-left Away = (refl, refl)
+  row-left Home = (refl, refl)
+  row-left Area = area-left
+  row-left N1 = (refl, refl)
+  row-left Protocol = failed-left 5 a
+  row-left Other = out-left a
 
 module _ (limit : ℕ) (a : Access) where
-  pub other-net : (row : Row) → otherTurn row limit a .access .net ≡ a .net
+  pub other-left : (row : Row) → Left (a .net) (a .entries) (otherTurn row limit a .access)
   unfolding otherTurn counted
-  other-net CardBelow = refl
-  other-net CardLimit = refl
-  other-net CardProtected = refl
-  other-net Away = refl
-  other-net Home = refl
-  other-net Area = refl
-  other-net N1 = refl
-  other-net Protocol = refl
-  other-net Other = refl
-
-  pub other-entries : (row : Row) → otherTurn row limit a .access .entries ≡ a .entries
-  unfolding otherTurn counted
-  other-entries CardBelow = refl
-  other-entries CardLimit = refl
-  other-entries CardProtected = refl
-  other-entries Away = refl
-  other-entries Home = refl
-  other-entries Area = refl
-  other-entries N1 = refl
-  other-entries Protocol = refl
-  other-entries Other = refl
+  other-left CardBelow = (refl, refl)
+  other-left CardLimit = (refl, refl)
+  other-left CardProtected = (refl, refl)
+  other-left Away = (refl, refl)
+  other-left Home = (refl, refl)
+  other-left Area = (refl, refl)
+  other-left N1 = (refl, refl)
+  other-left Protocol = (refl, refl)
+  other-left Other = (refl, refl)

@@ -22,11 +22,11 @@ use Rattle.rules.specs.declared.Event.{Event}
 use Rattle.rules.specs.declared.Event.the-variants.{Card, Start, Message, Timer, Power, Key, Unknown}
 use Rattle.record.specs.Sides.{accessOf, otherOf}
 use Rattle.checks.specs.Answers.{rowNow, timerAnswer}
-use Rattle.rules.specs.Plan.{askOf, answerOf, messageEffect, mineOf}
+use Rattle.rules.specs.Plan.{askOf, answerOf, messageEffect}
 use Rattle.validity.specs.Answered.{askIn, answeredBy}
 use Rattle.validity.proofs.Taken.{start-passed, message-passed, timer-passed, key-passed}
 use Rattle.history.proofs.Next.{other-of}
-use Rattle.history.proofs.Rows.{out-net, out-entries, row-net, other-net}
+use Rattle.history.proofs.Rows.{out-left, row-left, other-left}
 
 -- T3247 is named with access 0
 pub t3247-zero : (h : Hot) (number w : ℕ) → isTaken (timerAnswer h number w) ≡ true → eqb number 4 ≡ true → w ≡ 0
@@ -47,10 +47,6 @@ small r (Key w set) octets t = flag-small w (key-passed (r .hot) w set t .0)
 small r Unknown octets t = omega arith
 
 -- What stays.
-
-pub idle-mine : (b w : ℕ) → mineOf 0 b w ≡ 0
-unfolding mineOf
-idle-mine b w = elim (eqb b w) as (λ s. cond {A = ℕ} s 0 0 ≡ 0) [ true ↦ refl | false ↦ refl ]
 
 module _ (h : Hot) where
   -- both accesses' numbers, read from the event's own and the other
@@ -76,32 +72,22 @@ module _ (h : Hot) where
     pub net : e .mine .access .net ≡ accessOf h b .net
     pub others : e .theirs .access .net ≡ otherOf h b .net
 
-  clock-keeps : (number b : ℕ) → Keeps b (clockEffect h number b)
-  unfolding clockEffect t3511Out t3502Out moved
-  clock-keeps number b = go (eqb number 1) refl (eqb number 2) refl
-    where
-      go : (s : Bool) → eqb number 1 ≡ s → (s′ : Bool) → eqb number 2 ≡ s′ → Keeps b (clockEffect h number b)
-      go true q s′ q′ = rw q (record { dev = refl; net = out-net (accessOf h b); others = refl })
-      go false q true q′ = rw (q, q′) (record { dev = refl; net = refl; others = refl })
-      go false q false q′ = rw (q, q′) (record { dev = refl; net = refl; others = refl })
+  -- the same of one that touches no entry
+  pub record Spares (b : ℕ) (e : Effect) : Type 0 where
+    pub keeps : Keeps b e
+    pub mine : e .mine .access .entries ≡ accessOf h b .entries
+    pub theirs : e .theirs .access .entries ≡ otherOf h b .entries
+    pub deed : e .work .deed ≡ 0
 
-  pub clock-entries : (number b : ℕ) → clockEffect h number b .mine .access .entries ≡ accessOf h b .entries
+  pub clock-spares : (number b : ℕ) → Spares b (clockEffect h number b)
   unfolding clockEffect t3511Out t3502Out moved
-  clock-entries number b = go (eqb number 1) refl (eqb number 2) refl
+  clock-spares number b = go (eqb number 1) refl (eqb number 2) refl
     where
-      go : (s : Bool) → eqb number 1 ≡ s → (s′ : Bool) → eqb number 2 ≡ s′ → clockEffect h number b .mine .access .entries ≡ accessOf h b .entries
-      go true q s′ q′ = rw q (out-entries (accessOf h b))
-      go false q true q′ = rw (q, q′)
-      go false q false q′ = rw (q, q′)
-
-  pub clock-others : (number b : ℕ) → (clockEffect h number b .theirs .access .entries ≡ otherOf h b .entries) × (clockEffect h number b .work .deed ≡ 0)
-  unfolding clockEffect
-  clock-others number b = go (eqb number 1) refl (eqb number 2) refl
-    where
-      go : (s : Bool) → eqb number 1 ≡ s → (s′ : Bool) → eqb number 2 ≡ s′ → (clockEffect h number b .theirs .access .entries ≡ otherOf h b .entries) × (clockEffect h number b .work .deed ≡ 0)
-      go true q s′ q′ = rw q (refl, refl)
-      go false q true q′ = rw (q, q′) (refl, refl)
-      go false q false q′ = rw (q, q′) (refl, refl)
+      go : (s : Bool) → eqb number 1 ≡ s → (s′ : Bool) → eqb number 2 ≡ s′ → Spares b (clockEffect h number b)
+      go true q s′ q′ =
+          let l = out-left (accessOf h b) in rw q (record { keeps = record { dev = refl; net = l .0; others = refl }; mine = l .1; theirs = refl; deed = refl })
+      go false q true q′ = rw (q, q′) (record { keeps = record { dev = refl; net = refl; others = refl }; mine = refl; theirs = refl; deed = refl })
+      go false q false q′ = rw (q, q′) (record { keeps = record { dev = refl; net = refl; others = refl }; mine = refl; theirs = refl; deed = refl })
 
   pub timer-keeps : (number b : ℕ) → isTaken (timerAnswer h number b) ≡ true → Keeps b (timerEffect h number b)
   unfolding timerEffect t3247Effect accessOf otherOf
@@ -109,7 +95,7 @@ module _ (h : Hot) where
     where
       go : (s : Bool) → eqb number 4 ≡ s → Keeps b (timerEffect h number b)
       go true q = rw (q, t3247-zero h number b t q) (record { dev = refl; net = refl; others = refl })
-      go false q = rw q (clock-keeps number b)
+      go false q = rw q (clock-spares number b .keeps)
 
   pub message-keeps : (b sure draw : ℕ) (m : Reading) (s : Seen) → Keeps b (messageEffect h b sure draw m s)
   unfolding messageEffect acceptEffect rejectEffect turns.accepted taught moved
@@ -117,7 +103,7 @@ module _ (h : Hot) where
   message-keeps b sure draw (reading.Reject cause) s =
       record {
         dev = refl;
-        net = row-net b (h .dev .cardlimit) cause (s .found) (accessOf h b) (rowNow h b sure cause);
-        others = other-net (h .dev .cardlimit) (otherOf h b) (rowNow h b sure cause);
+        net = row-left b (h .dev .cardlimit) cause (s .found) (accessOf h b) (rowNow h b sure cause) .0;
+        others = other-left (h .dev .cardlimit) (otherOf h b) (rowNow h b sure cause) .0;
       }
   message-keeps b sure draw (reading.Bad f at) s = record { dev = refl; net = refl; others = refl }

@@ -13,15 +13,16 @@ use Rattle.record.specs.declared.Record.{Record}
 use Rattle.record.specs.Setters.{moved, pending, keyed}
 use Rattle.turns.specs.Turns.{started, keySet, renewed}
 use Rattle.turns.specs.Turns as turns
-use Rattle.effects.specs.Effects.{carded, cardEffect, startEffect, keyEffect, powerEffect}
+use Rattle.effects.specs.Effects.{ticked, carded, cardEffect, startEffect, keyEffect, powerEffect}
 use Rattle.rules.specs.declared.Event.{Event}
 use Rattle.rules.specs.declared.Event.the-variants.{Card, Start, Message, Timer, Power, Key, Unknown}
 use Rattle.record.specs.Sides.{accessOf, otherOf}
 use Rattle.rules.specs.Plan.{askOf, answerOf, effectOf}
+use Rattle.events.specs.Parts.{listed}
 use Rattle.validity.specs.Answered.{askIn, answeredBy}
 use Rattle.validity.proofs.Refusal.{effectIn}
 use Rattle.history.specs.History.{homeAfter, pendingAfter}
-use Rattle.history.proofs.Next.{other-of, next, taken-home, taken-ban, taken-n1, taken-net}
+use Rattle.history.proofs.Next.{other-of, next, taken-device, taken-net}
 use Rattle.history.proofs.Stays.{small, both-kept, Keeps, timer-keeps, message-keeps}
 
 module _ (r : Record) where
@@ -48,15 +49,16 @@ module _ (r : Record) where
   event-device f k Unknown octets t = refl
 
   pub home-step : (e : Event) (octets : List ℕ) → isTaken (answeredBy r e octets) ≡ true → next r e octets .hot .dev .home ≡ homeAfter e (r .hot .dev .home)
-  home-step e octets t = taken-home r e octets t ∙ event-home e octets t
+  unfolding ticked listed
+  home-step e octets t = taken-device r e octets t (λ (d : Device). d .home) (λ n d. refl) (λ m n h. refl) ∙ event-home e octets t
 
   pub ban-step : (e : Event) (octets : List ℕ) → isTaken (answeredBy r e octets) ≡ true → next r e octets .hot .dev .banlimit ≡ r .hot .dev .banlimit
-  unfolding carded
-  ban-step e octets t = taken-ban r e octets t ∙ event-device (λ (d : Device). d .banlimit) (λ home suci. refl) e octets t
+  unfolding ticked listed carded
+  ban-step e octets t = taken-device r e octets t (λ (d : Device). d .banlimit) (λ n d. refl) (λ m n h. refl) ∙ event-device (λ (d : Device). d .banlimit) (λ home suci. refl) e octets t
 
   pub n1-step : (e : Event) (octets : List ℕ) → isTaken (answeredBy r e octets) ≡ true → next r e octets .hot .dev .n1limit ≡ r .hot .dev .n1limit
-  unfolding carded
-  n1-step e octets t = taken-n1 r e octets t ∙ event-device (λ (d : Device). d .n1limit) (λ home suci. refl) e octets t
+  unfolding ticked listed carded
+  n1-step e octets t = taken-device r e octets t (λ (d : Device). d .n1limit) (λ n d. refl) (λ m n h. refl) ∙ event-device (λ (d : Device). d .n1limit) (λ home suci. refl) e octets t
 
   -- the pending network after an event that keeps it
   net-kept : (e : Event) (octets : List ℕ) (t : isTaken (answeredBy r e octets) ≡ true) → Keeps (r .hot) (askIn r e .access) (effectIn r e octets) → (w : ℕ) → w < 2

@@ -1,6 +1,6 @@
 -- What becomes of an area list keeps it valid: an area is put behind the others only where it was not found, one already listed keeps its area,
 -- a full list drops its oldest, and those that stay were there before. Assumes nothing.
-use Prim.Native.Nat.{ℕ, suc, _+_, _*_, _/_, _≤_, _<_}
+use Prim.Native.Nat.{ℕ, _+_, _*_, _/_, _≤_, _<_}
 use mathlib.Core.Path.{_≡_, refl, sym, _∙_, ap}
 use mathlib.Core.Bool.{Bool, true, false, cond}
 use mathlib.Core.List.{List, [], _∷_, _++_}
@@ -8,24 +8,21 @@ use mathlib.Core.Logic.{_≢_}
 use native.Mathlib.Omega.{arith}
 use lib.Dec.{ltb, eqb}
 use lib.ListN.{length, getD, set, take, drop, replicate, length-drop, List·getD-append}
-use lib.Seq.{getD-append-seam}
+use lib.Seq.{getD-set-same, getD-set-other, getD-drop, getD-append-seam}
 use borrow.Author.Tests.{leb-true, le-leb, ltb-true, ltb-false, lt-ltb, eqb-true, eqb-false}
 use Rattle.laws.specs.Upto.{seekTo}
 use Rattle.areas.specs.declared.Task.{Task}
 use Rattle.areas.specs.Areas.{kept, areaOf, isProtected, sameArea, sizeOf, placeIn, listedIn, marked, remarked, placed, placedCount, stayed, sweptList, listAfter, countAfter}
 use Rattle.record.specs.Tests.{upTo, isShort}
 use Rattle.ranges.specs.Valid.{isItem, halved}
-use Rattle.validity.proofs.Arrays.{seek-found, seek-before, set-same, set-other, set-reads}
+use Rattle.validity.proofs.Bools.{most-is}
+use Rattle.validity.proofs.Arrays.{seek-found, seek-before, set-reads}
 use Rattle.validity.proofs.Good.{Listing}
 use Rattle.validity.proofs.Filter.{kept-le, kept-all, kept-once}
 
 size-is : (n : ℕ) → upTo 40 n ≡ true → sizeOf n ≡ n
 unfolding sizeOf
-size-is n e = go (ltb n 40) refl
-  where
-    go : (b : Bool) → ltb n 40 ≡ b → cond (ltb n 40) n 40 ≡ n
-    go true q = rw q
-    go false q = rw q (omega (arith, ltb-false n 40 q, leb-true n 40 e))
+size-is n e = most-is 40 n e
 
 -- an element is read back as its area
 half-marked : (area sure : ℕ) → halved (marked area sure) ≡ area
@@ -60,8 +57,8 @@ module _ (n : ℕ) (xs : List ℕ) (len : length xs ≡ 40) (g : Listing n xs) w
       same k = go (eqb k i) refl
         where
           go : (b : Bool) → eqb k i ≡ b → halved (getD (set xs i v) k 0) ≡ halved (getD xs k 0)
-          go true w = rw (eqb-true k i w) (ap halved (set-same xs i v (omega (arith, bound))) ∙ e)
-          go false w = ap halved (set-other xs i v k (eqb-false k i w))
+          go true w = rw (eqb-true k i w) (ap halved (getD-set-same xs i v 0 (omega (arith, bound))) ∙ e)
+          go false w = ap halved (getD-set-other xs i k v 0 (eqb-false k i w))
 
   module _ (v : ℕ) (q : isItem v ≡ true) (f : (k : ℕ) → k < n → halved (getD xs k 0) ≢ halved v) where
     -- one more behind the others
@@ -75,14 +72,10 @@ module _ (n : ℕ) (xs : List ℕ) (len : length xs ≡ 40) (g : Listing n xs) w
         go : (i j : ℕ) → i < j → j < n + 1 → (b : Bool) → eqb j n ≡ b → halved (getD (set xs n v) i 0) ≡ halved (getD (set xs n v) j 0) → ⊥
         go i j l m true w e =
             let w′ : j ≡ n = eqb-true j n w in
-            f i (omega arith) (ap halved (sym (set-other xs n v i (omega arith))) ∙ e ∙ ap (λ (k : ℕ). halved (getD (set xs n v) k 0)) w′ ∙ ap halved (set-same xs n v (omega arith)))
+            f i (omega arith) (ap halved (sym (getD-set-other xs n i v 0 (omega arith))) ∙ e ∙ ap (λ (k : ℕ). halved (getD (set xs n v) k 0)) w′ ∙ ap halved (getD-set-same xs n v 0 (omega arith)))
         go i j l m false w e =
             let ne : j ≢ n = eqb-false j n w in
-            g .once i j l (omega arith) (ap halved (sym (set-other xs n v i (omega arith))) ∙ e ∙ ap halved (set-other xs n v j ne))
-
-    behind : (k : ℕ) (l : List ℕ) → getD (drop 1 l) k 0 ≡ getD l (suc k) 0
-    behind k [] = refl
-    behind k (x ∷ l) = refl
+            g .once i j l (omega arith) (ap halved (sym (getD-set-other xs n i v 0 (omega arith))) ∙ e ∙ ap halved (getD-set-other xs n j v 0 ne))
 
     -- one more, and the oldest gone
     shifted : 40 ≤ n → Listing n (drop 1 xs ++ (v ∷ []))
@@ -95,21 +88,21 @@ module _ (n : ℕ) (xs : List ℕ) (len : length xs ≡ 40) (g : Listing n xs) w
         rest : length (drop 1 xs) ≡ 39
         rest = let e = length-drop 1 xs in omega arith
 
-        early : (k : ℕ) → k < 39 → getD (drop 1 xs ++ (v ∷ [])) k 0 ≡ getD xs (suc k) 0
-        early k l = List·getD-append (drop 1 xs) (v ∷ []) 0 k (omega (arith, rest)) ∙ behind k xs
+        early : (k : ℕ) → k < 39 → getD (drop 1 xs ++ (v ∷ [])) k 0 ≡ getD xs (1 + k) 0
+        early k l = List·getD-append (drop 1 xs) (v ∷ []) 0 k (omega (arith, rest)) ∙ getD-drop 1 xs k 0
 
         last : (k : ℕ) → k < n → 39 ≤ k → getD (drop 1 xs ++ (v ∷ [])) k 0 ≡ v
         last k l m = let e : k ≡ length (drop 1 xs) = omega (arith, rest, bound) in rw e (getD-append-seam (drop 1 xs) v [] 0)
 
         go : (k : ℕ) → k < n → (b : Bool) → ltb k 39 ≡ b → isItem (getD (drop 1 xs ++ (v ∷ [])) k 0) ≡ true
-        go k l true w = let s : k < 39 = ltb-true k 39 w in rw (early k s) (g .items (suc k) (omega arith))
+        go k l true w = let s : k < 39 = ltb-true k 39 w in rw (early k s) (g .items (1 + k) (omega arith))
         go k l false w = rw (last k l (ltb-false k 39 w)) q
 
         apart : (i j : ℕ) → i < j → j < n → (b : Bool) → ltb j 39 ≡ b → halved (getD (drop 1 xs ++ (v ∷ [])) i 0) ≡ halved (getD (drop 1 xs ++ (v ∷ [])) j 0) → ⊥
         apart i j l m true w e =
             let s : j < 39 = ltb-true j 39 w in
-            g .once (suc i) (suc j) (omega arith) (omega arith) (ap halved (sym (early i (omega arith))) ∙ e ∙ ap halved (early j s))
-        apart i j l m false w e = f (suc i) (omega (arith, bound)) (ap halved (sym (early i (omega (arith, bound)))) ∙ e ∙ ap halved (last j m (ltb-false j 39 w)))
+            g .once (1 + i) (1 + j) (omega arith) (omega arith) (ap halved (sym (early i (omega arith))) ∙ e ∙ ap halved (early j s))
+        apart i j l m false w e = f (1 + i) (omega (arith, bound)) (ap halved (sym (early i (omega (arith, bound)))) ∙ e ∙ ap halved (last j m (ltb-false j 39 w)))
 
   -- a reject puts an area there
   placed-listing : (area sure : ℕ) → area < 281474976710656 → Listing (placedCount area n xs) (placed area sure n xs)
@@ -146,7 +139,7 @@ module _ (n : ℕ) (xs : List ℕ) (len : length xs ≡ 40) (g : Listing n xs) w
   })
 
 -- no area in use
-pub none-listing : (xs : List ℕ) → Listing 0 xs
+none-listing : (xs : List ℕ) → Listing 0 xs
 none-listing xs = record { count = refl; items = λ k h. absurd (omega arith); once = λ i j l h. absurd (omega arith) }
 
 -- an area of three octets and three octets

@@ -10,7 +10,8 @@ use lib.Dec.{ltb, eqb}
 use lib.ListN.{length, getD, set}
 use borrow.Author.Tests.{eqb-true, eqb-false, eq-eqb, ne-eqb, ltb-true, ltb-false}
 use Rattle.laws.specs.Upto.{upto, seekTo, allTo, distinctTo, sameBy}
-use Rattle.validity.proofs.Bools.{both-left, both-right, both-true}
+use Rattle.record.proofs.Bounds.{one, rest}
+use Rattle.validity.proofs.Bools.{both-true}
 
 -- each of the first n passes
 abbrev pub All : (ℕ → Bool) → ℕ → List ℕ → Type 0
@@ -32,7 +33,7 @@ pub all-of : (p : ℕ → Bool) (n : ℕ) (xs : List ℕ) → allTo p n xs ≡ t
 unfolding allTo
 all-of p zero xs e k h = absurd (omega arith)
 all-of p (suc n) xs e k h =
-    split (λ j. p (getD xs j 0) ≡ true) k n h (all-of p n xs (both-left (allTo p n xs) (p (getD xs n 0)) e) k) (both-right (allTo p n xs) (p (getD xs n 0)) e)
+    split (λ j. p (getD xs j 0) ≡ true) k n h (all-of p n xs (one (allTo p n xs) (p (getD xs n 0)) e) k) (rest (allTo p n xs) (p (getD xs n 0)) e)
 
 pub of-all : (p : ℕ → Bool) (n : ℕ) (xs : List ℕ) → All p n xs → allTo p n xs ≡ true
 unfolding allTo
@@ -87,7 +88,7 @@ module _ (p : ℕ → Bool) where
       go false e g ih = ih (let q : suc k < suc (seekTo p n xs) = rw e at g in omega arith)
 
   -- none passes
-  pub seek-none : (n : ℕ) (xs : List ℕ) → ((k : ℕ) → k < n → p (getD xs k 0) ≡ false) → seekTo p n xs ≡ n
+  seek-none : (n : ℕ) (xs : List ℕ) → ((k : ℕ) → k < n → p (getD xs k 0) ≡ false) → seekTo p n xs ≡ n
   seek-none n xs f = go (ltb (seekTo p n xs) n) refl
     where
       go : (b : Bool) → ltb (seekTo p n xs) n ≡ b → seekTo p n xs ≡ n
@@ -98,10 +99,10 @@ module _ (key : ℕ → ℕ) where
   pub once-of : (n : ℕ) (xs : List ℕ) → distinctTo key n xs ≡ true → Once key n xs
   unfolding distinctTo
   once-of zero xs e i j g h = absurd (omega arith)
-  once-of (suc n) xs e i j g h = split (λ m. i < m → key (getD xs i 0) ≡ key (getD xs m 0) → ⊥) j n h (λ l w. once-of n xs (both-left (distinctTo key n xs) (eqb (seekTo (sameBy key (getD xs n 0)) n xs) n) e) i j w l) last g
+  once-of (suc n) xs e i j g h = split (λ m. i < m → key (getD xs i 0) ≡ key (getD xs m 0) → ⊥) j n h (λ l w. once-of n xs (one (distinctTo key n xs) (eqb (seekTo (sameBy key (getD xs n 0)) n xs) n) e) i j w l) last g
     where
       q : seekTo (sameBy key (getD xs n 0)) n xs ≡ n
-      q = eqb-true (seekTo (sameBy key (getD xs n 0)) n xs) n (both-right (distinctTo key n xs) (eqb (seekTo (sameBy key (getD xs n 0)) n xs) n) e)
+      q = eqb-true (seekTo (sameBy key (getD xs n 0)) n xs) n (rest (distinctTo key n xs) (eqb (seekTo (sameBy key (getD xs n 0)) n xs) n) e)
 
       last : i < n → key (getD xs i 0) ≡ key (getD xs n 0) → ⊥
       last l = eqb-false (key (getD xs i 0)) (key (getD xs n 0)) (seek-before (sameBy key (getD xs n 0)) n xs i (rw q l))
@@ -112,19 +113,6 @@ module _ (key : ℕ → ℕ) where
   of-once (suc n) xs f =
       both-true (distinctTo key n xs) (eqb (seekTo (sameBy key (getD xs n 0)) n xs) n) (of-once n xs (λ i j g h. f i j g (omega arith)))
       (eq-eqb (seekTo (sameBy key (getD xs n 0)) n xs) n (seek-none (sameBy key (getD xs n 0)) n xs (λ k h. ne-eqb (key (getD xs k 0)) (key (getD xs n 0)) (f k n h (omega arith)))))
-
--- a store, read at its place and at any other
-pub set-same : (xs : List ℕ) (i v : ℕ) → i < length xs → getD (set xs i v) i 0 ≡ v
-set-same [] i v h = absurd (omega arith)
-set-same (x ∷ xs) zero v h = refl
-set-same (x ∷ xs) (suc i) v h = set-same xs i v (omega arith)
-
-pub set-other : (xs : List ℕ) (i v k : ℕ) → k ≢ i → getD (set xs i v) k 0 ≡ getD xs k 0
-set-other [] i v k h = refl
-set-other (x ∷ xs) zero v zero h = absurd (h refl)
-set-other (x ∷ xs) zero v (suc k) h = refl
-set-other (x ∷ xs) (suc i) v zero h = refl
-set-other (x ∷ xs) (suc i) v (suc k) h = set-other xs i v k (λ e. h (ap suc e))
 
 -- what passes everywhere but at the place of the store passes everywhere if what was stored does (or 0, past the end)
 pub set-reads : (xs : List ℕ) (i v k : ℕ) (P : ℕ → Type 0) → (i < length xs → P v) → (length xs ≤ i → P 0) → (k ≢ i → P (getD xs k 0)) → P (getD (set xs i v) k 0)

@@ -1,23 +1,16 @@
 -- Tests that hold: both, either one, a bound, and an answer that passed a check. Each is by cases on the test. Assumes nothing.
-use Prim.Native.Nat.{ℕ, _≤_}
+use Prim.Native.Nat.{ℕ, _+_, _≤_}
 use mathlib.Core.Path.{_≡_, refl, sym, _∙_}
 use mathlib.Core.Bool.{Bool, true, false, cond, true≢false, false≢true}
 use native.Mathlib.Omega.{arith}
 use lib.Dec.{leb, ltb}
-use borrow.Author.Tests.{leb-true, ltb-false}
+use borrow.Author.Tests.{leb-true, le-leb, ltb-true, ltb-false}
 use Rattle.record.specs.Tests.{both, either, flip, within, upTo}
 use Rattle.record.specs.declared.Answer.{Answer}
 use Rattle.record.specs.Answers.{isTaken}
+use Rattle.record.proofs.Bounds.{one}
 use Rattle.checks.specs.Answers.{check}
 use Rattle.events.specs.Parts.{atMost}
-
-pub both-left : (a b : Bool) → both a b ≡ true → a ≡ true
-both-left true b e = refl
-both-left false b e = absurd (false≢true e)
-
-pub both-right : (a b : Bool) → both a b ≡ true → b ≡ true
-both-right true b e = e
-both-right false b e = absurd (false≢true e)
 
 pub both-true : (a b : Bool) → a ≡ true → b ≡ true → both a b ≡ true
 both-true true b p q = q
@@ -41,11 +34,8 @@ pub flip-true : (a : Bool) → flip a ≡ true → a ≡ false
 flip-true true e = absurd (false≢true e)
 flip-true false e = refl
 
-pub within-high : (a b n : ℕ) → within a b n ≡ true → n ≤ b
-within-high a b n e = leb-true n b (both-right (leb a n) (leb n b) e)
-
 pub within-low : (a b n : ℕ) → within a b n ≡ true → a ≤ n
-within-low a b n e = leb-true a n (both-left (leb a n) (leb n b) e)
+within-low a b n e = leb-true a n (one (leb a n) (leb n b) e)
 
 -- a number below the most
 pub most-is : (m n : ℕ) → upTo m n ≡ true → atMost m n ≡ n
@@ -54,6 +44,14 @@ most-is m n e = go (ltb n m) refl
     go : (b : Bool) → ltb n m ≡ b → cond (ltb n m) n m ≡ n
     go true q = rw q
     go false q = rw q (let l = ltb-false n m q in let h = leb-true n m e in omega arith)
+
+-- one more, unless at the limit
+pub more-fits : (limit n : ℕ) → upTo limit n ≡ true → upTo limit (cond (ltb n limit) (n + 1) n) ≡ true
+more-fits limit n e = go (ltb n limit) refl
+  where
+    go : (b : Bool) → ltb n limit ≡ b → upTo limit (cond (ltb n limit) (n + 1) n) ≡ true
+    go true q = rw q (le-leb (n + 1) limit (omega (arith, ltb-true n limit q)))
+    go false q = rw q e
 
 -- what was taken passed the check, and the rest was taken
 pub check-passed : (b : Bool) (n rest : Answer) → isTaken n ≡ false → isTaken (check b n rest) ≡ true → b ≡ true

@@ -24,7 +24,8 @@ use Rattle.effects.specs.Effects.{ticked, carded, cardEffect, t3247Effect, powe
 use Rattle.rules.specs.Plan.{askAt, hotAfter, takenPlan, mineOf, deedOf}
 use Rattle.events.specs.Parts.{tableAfter, taskOf, equivalentsAfter, suciAfter}
 use Rattle.validity.specs.Sized.{Sized}
-use Rattle.validity.proofs.Bools.{within-low, within-high, most-is}
+use Rattle.record.proofs.Bounds.{most}
+use Rattle.validity.proofs.Bools.{within-low, most-is}
 use Rattle.validity.proofs.Arrays.{All}
 use Rattle.validity.proofs.Good.{Good}
 use Rattle.validity.proofs.Turns.{after, still-turned, cycled-turned, renewed-turned}
@@ -106,4 +107,4 @@ module _ (r : Record) (g : Good r) (z : Sized r) (octets : List ℕ) (net code :
       (half-turned (ticked 0 (carded home (length octets) (r .hot .dev))) 0 0 (after turns.renewed) (zeros 15) none a (none-short (zeros 15)) (none-held (r .hot .dev .banlimit) (r .hot .dev .n1limit) none))
       (list-kept (taskOf 3 (askAt 0 net code area sure)) (r .hot .dev .roaming) (r .roaming) (z .roaming) (g .roaming) (λ e. absurd (false≢true e)))
       (list-kept (taskOf 3 (askAt 0 net code area sure)) (r .hot .dev .regional) (r .regional) (z .regional) (g .regional) (λ e. absurd (false≢true e)))
-      (rw (most-is 64 (length octets) (le-leb (length octets) 64 (within-high 9 64 (length octets) q)), copied-first (length octets) octets (zeros 64) b (omega arith)) o)
+      (rw (most-is 64 (length octets) (le-leb (length octets) 64 (most 9 64 (length octets) q)), copied-first (length octets) octets (zeros 64) b (omega arith)) o)

@@ -8,6 +8,7 @@ use mathlib.Core.Logic.{_≢_}
 use native.Mathlib.Omega.{arith}
 use lib.Dec.{ltb, eqb}
 use lib.ListN.{length, getD, set, getD-replicate}
+use lib.Seq.{getD-set-same, getD-set-other}
 use borrow.Author.Tests.{leb-true, le-leb, ltb-true, ltb-false, lt-ltb, eqb-true, eqb-false}
 use Rattle.laws.specs.Upto.{upto, seekTo}
 use Rattle.entries.specs.declared.Entries.{Entries}
@@ -17,7 +18,8 @@ use Rattle.record.specs.Tests.{upTo, isFlag}
 use Rattle.record.specs.Network.{isNetwork}
 use Rattle.ranges.specs.Valid.{itself}
 use Rattle.validity.specs.Sized.{Columns}
-use Rattle.validity.proofs.Arrays.{All, Once, seek-le, seek-found, seek-before, set-same, set-other, set-reads, upto-reads}
+use Rattle.validity.proofs.Bools.{most-is, more-fits}
+use Rattle.validity.proofs.Arrays.{All, Once, seek-le, seek-found, seek-before, set-reads, upto-reads}
 use Rattle.validity.proofs.Good.{Held}
 use Rattle.validity.proofs.Setters.{grown}
 
@@ -31,11 +33,7 @@ pub record Sought (n net at : ℕ) (found : Bool) (nets : List ℕ) : Type 0 whe
 
 size-is : (n : ℕ) → upTo 16 n ≡ true → sizeOf n ≡ n
 unfolding sizeOf
-size-is n e = go (ltb n 16) refl
-  where
-    go : (b : Bool) → ltb n 16 ≡ b → cond (ltb n 16) n 16 ≡ n
-    go true q = rw q
-    go false q = rw q (omega (arith, ltb-false n 16 q, leb-true n 16 e))
+size-is n e = most-is 16 n e
 
 -- what a search sees, where there is room
 pub sought : (n net : ℕ) (nets forbidden barred : List ℕ) → upTo 16 n ≡ true → ltb (seenIn n net nets forbidden barred .at) 16 ≡ true
@@ -51,14 +49,8 @@ sought n net nets forbidden barred e r = rw (size-is n e) (record {
 
 bump-fits : (limit sure n : ℕ) → upTo limit n ≡ true → upTo limit (bumped limit sure n) ≡ true
 unfolding bumped
-bump-fits limit sure n e = elim (eqb sure 0) as (λ b. upTo limit (cond b (cond (ltb n limit) (n + 1) n) limit) ≡ true) [
-  | true ↦ go (ltb n limit) refl
-  | false ↦ le-leb limit limit (omega arith)
-]
-  where
-    go : (b : Bool) → ltb n limit ≡ b → upTo limit (cond (ltb n limit) (n + 1) n) ≡ true
-    go true q = rw q (le-leb (n + 1) limit (omega (arith, ltb-true n limit q)))
-    go false q = rw q e
+bump-fits limit sure n e =
+    elim (eqb sure 0) as (λ b. upTo limit (cond b (cond (ltb n limit) (n + 1) n) limit) ≡ true) [ true ↦ more-fits limit n e | false ↦ le-leb limit limit (omega arith) ]
 
 lift-fits : (limit n mark : ℕ) → isFlag mark ≡ true → isFlag (liftMark limit n mark) ≡ true
 unfolding liftMark
@@ -107,18 +99,18 @@ module _ (n net at : ℕ) (found : Bool) (nets : List ℕ) (s : Sought n net at 
   put-once len f i j l h = rw (lt-ltb at 16 (s .room)) (go (eqb i at) (eqb j at) refl refl)
     where
       here : getD (set nets at net) at 0 ≡ net
-      here = set-same nets at net (omega (arith, s .room))
+      here = getD-set-same nets at net 0 (omega (arith, s .room))
 
       go : (b c : Bool) → eqb i at ≡ b → eqb j at ≡ c → getD (set nets at net) i 0 ≡ getD (set nets at net) j 0 → ⊥
       go true true p q e = let p′ : i ≡ at = eqb-true i at p in let q′ : j ≡ at = eqb-true j at q in absurd (omega arith)
       go true false p q e =
           let p′ : i ≡ at = eqb-true i at p in
           let u : at < n = behind j h (omega arith) in
-          f at j (omega arith) (below j h (eqb-false j at q)) (s .hit u ∙ sym here ∙ ap (λ (k : ℕ). getD (set nets at net) k 0) (sym p′) ∙ e ∙ set-other nets at net j (eqb-false j at q))
+          f at j (omega arith) (below j h (eqb-false j at q)) (s .hit u ∙ sym here ∙ ap (λ (k : ℕ). getD (set nets at net) k 0) (sym p′) ∙ e ∙ getD-set-other nets at j net 0 (eqb-false j at q))
       go false true p q e =
           let q′ : j ≡ at = eqb-true j at q in
-          s .miss i (omega arith) (sym (set-other nets at net i (eqb-false i at p)) ∙ e ∙ ap (λ (k : ℕ). getD (set nets at net) k 0) q′ ∙ here)
-      go false false p q e = f i j l (below j h (eqb-false j at q)) (sym (set-other nets at net i (eqb-false i at p)) ∙ e ∙ set-other nets at net j (eqb-false j at q))
+          s .miss i (omega arith) (sym (getD-set-other nets at i net 0 (eqb-false i at p)) ∙ e ∙ ap (λ (k : ℕ). getD (set nets at net) k 0) q′ ∙ here)
+      go false false p q e = f i j l (below j h (eqb-false j at q)) (sym (getD-set-other nets at i net 0 (eqb-false i at p)) ∙ e ∙ getD-set-other nets at j net 0 (eqb-false j at q))
 
 module _ (banlimit n1limit n : ℕ) (t : Entries) (w : Columns t) (g : Held banlimit n1limit n t) where
   module _ (k : Deed) (s : Sought n (k .net) (k .at) (k .found) (t .nets)) (net : isNetwork (k .net) ≡ true) where

@@ -26,16 +26,16 @@ pub record Fair (d : Device) : Type 0 where
   pub home : isNetwork (d .home) ≡ true
 
 -- an access's numbers, in the groups that the setters change
-abbrev pub Mode : Access → Type 0
+abbrev Mode : Access → Type 0
 Mode a = (upTo 6 (a .state) ≡ true) × (within 1 3 (a .status) ≡ true) × (upTo 5 (a .attempts) ≡ true)
 
-abbrev pub Flags : Access → Type 0
+abbrev Flags : Access → Type 0
 Flags a = (isFlag (a .t3510) ≡ true) × (isFlag (a .t3511) ≡ true) × (isFlag (a .t3502) ≡ true)
 
-abbrev pub Pending : Access → Type 0
+abbrev Pending : Access → Type 0
 Pending a = (isNetwork (a .net) ≡ true) × (isShort (a .code) ≡ true)
 
-abbrev pub Known : Access → Type 0
+abbrev Known : Access → Type 0
 Known a =
     (isFlag (a .guti) ≡ true)
     × (isFlag (a .visited) ≡ true)

@@ -94,7 +94,7 @@ module _ (r : Record) (g : Good r) (z : Sized r) (octets : List ℕ) where
 
   taken-good : (e : Event) → Octets octets → isTaken (answeredBy r e octets) ≡ true
       → Good (carry r octets (takenPlan (r .hot) (askIn r e) (seenAt r e) (heardOf e octets) (effectIn r e octets)) .next)
-  unfolding answeredBy answerOf askOf effectOf heardOf startEffect keyEffect timerEffect isTaken
+  unfolding answeredBy answerOf askOf effectOf heardOf startEffect keyEffect isTaken
   taken-good (Card home) o q =
       let p = card-passed home octets q in
       card-good r g z octets 0 0 false 0 (seenAt r (Card home)) (heardOf (Card home) octets) home (p .0) (p .1) (p .2)
@@ -116,7 +116,7 @@ module _ (r : Record) (g : Good r) (z : Sized r) (octets : List ℕ) where
       (key-turned (r .hot .dev .card) (r .hot .dev .cardlimit) (accessOf (r .hot) w) (access-fit r g w) (access-timely r g w) (access-carded r g w) set (le-leb set 7 (let l = leb-true set 6 (p .1) in omega arith)))
   taken-good Unknown o q = absurd (false≢true q)
 
-pub advance-good : (r : Record) (e : Event) (octets : List ℕ) → Sized r → Octets octets → Good r → Good (advanceOf r e octets .next)
+advance-good : (r : Record) (e : Event) (octets : List ℕ) → Sized r → Octets octets → Good r → Good (advanceOf r e octets .next)
 advance-good r e octets z o g = go (isTaken (answeredBy r e octets)) refl
   where
     go : (b : Bool) → isTaken (answeredBy r e octets) ≡ b → Good (advanceOf r e octets .next)

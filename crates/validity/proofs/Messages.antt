@@ -2,10 +2,11 @@
 use Prim.Native.Nat.{ℕ, zero, suc, _+_, _*_, _/_, _%_, _≤_}
 use mathlib.Core.Path.{_≡_, refl}
 use mathlib.Core.Bool.{Bool, true, false, cond}
-use mathlib.Core.List.{List, [], _∷_}
+use mathlib.Core.List.{List}
 use native.Mathlib.Omega.{arith}
 use lib.Dec.{ltb, eqb}
 use lib.ListN.{length, getD, drop}
+use lib.Seq.{getD-drop}
 use borrow.Author.Tests.{le-leb, lt-ltb, ltb-true}
 use Rattle.laws.specs.Upto.{first, copied}
 use Rattle.octets.specs.declared.Fault.{Fault}
@@ -112,10 +113,8 @@ pub reading-mild : (s : List ℕ) → Mild (readingOf s)
 unfolding readingOf
 reading-mild s = opened-mild s 0 0x7E First (openedBy s 1 0x00 Second (typeReading s)) (opened-mild s 1 0x00 Second (typeReading s) (type-mild s))
 
-drop-octets : (n : ℕ) (s : List ℕ) → Octets s → Octets (drop n s)
-drop-octets zero s h = h
-drop-octets (suc n) [] h = h
-drop-octets (suc n) (x ∷ s) h = drop-octets n s (λ k. h (suc k))
+pub drop-octets : (n : ℕ) (s : List ℕ) → Octets s → Octets (drop n s)
+drop-octets n s h k = rw (getD-drop n s k 0) (h (n + k))
 
 networks-short : (n : ℕ) (s : List ℕ) → Octets s → (k : ℕ) → isShort (getD (networksOf n s) k 0) ≡ true
 unfolding networksOf

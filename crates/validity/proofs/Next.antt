@@ -98,7 +98,7 @@ ticked-fair d o f = record {
 }
 
 -- an event of one access: its numbers stay those of the device but for T3247
-abbrev pub ownEffect : Record → Turn → Turn → Order → ℕ → ℕ → ℕ → ℕ → Bool → Effect
+abbrev ownEffect : Record → Turn → Turn → Order → ℕ → ℕ → ℕ → ℕ → Bool → Effect
 ownEffect r mine theirs o deed roaming regional keep restart = record {
   dev = r .hot .dev;
   mine = mine;
@@ -112,7 +112,7 @@ module _ (r : Record) (g : Good r) (z : Sized r) (octets : List ℕ) (net code :
     (mine theirs : Turn) (o : Order) (deed roaming regional keep : ℕ) (restart : Bool)
     (d : leb 4 deed ≡ false) (c : eqb keep 2 ≡ false)
     (u : eqb roaming 1 ≡ true → (isShort net ≡ true) × (isShort code ≡ true)) (v : eqb regional 1 ≡ true → (isShort net ≡ true) × (isShort code ≡ true)) where
-  abbrev pub planned : ℕ → Plan
+  abbrev planned : ℕ → Plan
   planned w = takenPlan (r .hot) (askAt w net code area sure) s m (ownEffect r mine theirs o deed roaming regional keep restart)
 
   pub own-first : Half (r .hot .dev) (after mine) (equivalentsAfter (planned 0) 0 octets (r .equivalents0)) (tableAfter (planned 0) 0 (r .hot .a0 .entries) (r .hot) (r .e0))

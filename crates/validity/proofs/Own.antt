@@ -41,7 +41,7 @@ use Rattle.validity.proofs.Refusal.{carry, table-idle}
 use Rattle.validity.proofs.Next.{half-turned, mine-is, equivalents-stay, own-first, own-second}
 
 -- no access but 0 and 1
-pub no-third : (w : ℕ) → isFlag (suc (suc w)) ≡ true → ⊥
+no-third : (w : ℕ) → isFlag (suc (suc w)) ≡ true → ⊥
 no-third w e = absurd (omega (arith, leb-true (suc (suc w)) 1 e))
 
 module _ (r : Record) (g : Good r) where
@@ -140,7 +140,8 @@ row-held banlimit n1limit n t w g N1 k e f net = rw e (barred-held banlimit n1li
 row-held banlimit n1limit n t w g Protocol k e f net = rw e g
 row-held banlimit n1limit n t w g Other k e f net = rw e g
 
-row-early : (row : Row) → leb 4 (rowDeed row) ≡ false
+-- no row goes over both accesses' entries
+pub row-early : (row : Row) → leb 4 (rowDeed row) ≡ false
 unfolding rowDeed
 row-early CardBelow = refl
 row-early CardLimit = refl

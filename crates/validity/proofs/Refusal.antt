@@ -43,7 +43,7 @@ pub table-idle : (p : Plan) (me count : ℕ) (h : Hot) (t : Entries) → mineOf 
 unfolding tableAfter entriesAfter deedOf
 table-idle p me count h t e = rw e
 
-idle-mine : (w me : ℕ) → mineOf 0 w me ≡ 0
+pub idle-mine : (w me : ℕ) → mineOf 0 w me ≡ 0
 unfolding mineOf
 idle-mine w me = elim (eqb w me) as (λ b. cond {A = ℕ} b 0 0 ≡ 0) [ true ↦ refl | false ↦ refl ]
 
@@ -55,7 +55,7 @@ module _ (r : Record) (q : Ask) (s : Seen) (m : Reading) (n : Answer) where
   unfolding refusedPlan
   table-stays me count t = table-idle p me count (r .hot) t (idle-mine (q .access) me)
 
-  pub refused-carry : (octets : List ℕ) → carry r octets p ≡ record { reply = refusedReply n (q .access); next = r }
+  refused-carry : (octets : List ℕ) → carry r octets p ≡ record { reply = refusedReply n (q .access); next = r }
   unfolding joinedOf together carriedOut doneOf listed refusedPlan keptAfter gutiAfter equivalentsAfter suciAfter listAfter countAfter
   refused-carry octets = rw (table-stays 0 (r .hot .a0 .entries) (r .e0), table-stays 1 (r .hot .a1 .entries) (r .e1))
 

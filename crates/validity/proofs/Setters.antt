@@ -2,9 +2,7 @@
 use Prim.Native.Nat.{ℕ, _+_}
 use mathlib.Core.Path.{_≡_, refl}
 use mathlib.Core.Bool.{Bool, true, false, cond}
-use native.Mathlib.Omega.{arith}
 use lib.Dec.{ltb, eqb}
-use borrow.Author.Tests.{le-leb, ltb-true}
 use Rattle.record.specs.declared.Access.{Access}
 use Rattle.record.specs.Tests.{both, either, within, upTo, isFlag, isShort}
 use Rattle.record.specs.Network.{isNetwork, half, isDigit}
@@ -13,26 +11,23 @@ use Rattle.turns.specs.declared.Order.the-variants.{Leave, Stop, Run}
 use Rattle.turns.specs.declared.Orders.{Orders}
 use Rattle.turns.specs.Timers.{flagAfter, clocked}
 use Rattle.record.specs.Setters.{moved, forgotten, emptied, counted, pending, keyed, taught, entered}
-use Rattle.validity.proofs.Bools.{both-left, both-true}
+use Rattle.record.proofs.Bounds.{one}
+use Rattle.validity.proofs.Bools.{both-true, more-fits}
 use Rattle.validity.proofs.Good.{Fit}
 
 -- the entries' count after a ban or a bar
 abbrev pub grown : Bool → ℕ → ℕ
 grown found n = cond found n (cond (ltb n 16) (n + 1) n)
 
-pub grown-fits : (found : Bool) (n : ℕ) → upTo 16 n ≡ true → upTo 16 (grown found n) ≡ true
+grown-fits : (found : Bool) (n : ℕ) → upTo 16 n ≡ true → upTo 16 (grown found n) ≡ true
 grown-fits true n e = e
-grown-fits false n e = go (ltb n 16) refl
-  where
-    go : (b : Bool) → ltb n 16 ≡ b → upTo 16 (cond (ltb n 16) (n + 1) n) ≡ true
-    go true q = rw q (le-leb (n + 1) 16 (omega (arith, ltb-true n 16 q)))
-    go false q = rw q e
+grown-fits false n e = more-fits 16 n e
 
 -- a network code is a number of three octets
 pub network-short : (n : ℕ) → isNetwork n ≡ true → isShort n ≡ true
 unfolding isNetwork
 network-short n e =
-    both-left (isShort n)
+    one (isShort n)
     (both (isDigit (half 1048576 n))
     (both (isDigit (half 65536 n))
     (both (either (isDigit (half 4096 n)) (eqb (half 4096 n) 15))

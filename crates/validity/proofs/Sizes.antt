@@ -114,7 +114,7 @@ cond-columns : (b : Bool) (t s : Entries) → Columns t → Columns s → Column
 cond-columns true t s p q = p
 cond-columns false t s p q = q
 
-pub entries-columns : (k : Deed) (count banlimit n1limit : ℕ) (t : Entries) → Columns t → Columns (entriesAfter k count banlimit n1limit t)
+entries-columns : (k : Deed) (count banlimit n1limit : ℕ) (t : Entries) → Columns t → Columns (entriesAfter k count banlimit n1limit t)
 unfolding entriesAfter
 entries-columns k count banlimit n1limit t w =
     cond-columns (isBan (k .kind)) (banned k banlimit t) others (banned-columns t w k banlimit)
@@ -157,7 +157,7 @@ placed-length area sure count xs e =
     (length-set xs (placeIn area count xs) (remarked area sure (getD xs (placeIn area count xs) 0)) ∙ e)
     (cond-length (ltb count 40) (set xs count (marked area sure)) (drop 1 xs ++ (marked area sure ∷ [])) 40 (length-set xs count (marked area sure) ∙ e) (shifted-length xs (marked area sure) e))
 
-pub list-length : (t : Task) (count : ℕ) (xs : List ℕ) → length xs ≡ 40 → length (listAfter t count xs) ≡ 40
+list-length : (t : Task) (count : ℕ) (xs : List ℕ) → length xs ≡ 40 → length (listAfter t count xs) ≡ 40
 unfolding listAfter
 list-length t count xs e =
     cond-length (eqb (t .kind) 1) (placed (areaOf (t .net) (t .code)) (t .sure) count xs) (cond (eqb (t .kind) 2) (sweptList count xs) (cond (eqb (t .kind) 3) (replicate 40 0) xs)) 40

@@ -16,15 +16,16 @@ use Rattle.record.specs.Network.{isNetwork}
 use Rattle.turns.specs.Rows.{needsEntry}
 use Rattle.record.specs.Sides.{accessOf, otherOf}
 use Rattle.checks.specs.Answers.{check, mayStart, isSame, isFree, startRange, startAnswer, rowNow, isIgnored, isFull, rejectAnswer, readAnswer, messageRange, messageAnswer, timerRange, runs, timerAnswer, keyAnswer, cardAnswer}
-use Rattle.validity.proofs.Bools.{both-left, both-right, flip-true, check-passed, check-rest}
+use Rattle.record.proofs.Bounds.{one, rest}
+use Rattle.validity.proofs.Bools.{flip-true, check-passed, check-rest}
 
 pub start-passed : (h : Hot) (w manual net code : ℕ) (s : Seen) (listed : Bool) → isTaken (startAnswer h w manual net code s listed) ≡ true
     → (isFlag w ≡ true) × (isNetwork net ≡ true) × (isShort code ≡ true) × (eqb (accessOf h w .state) 0 ≡ false)
 unfolding startAnswer startRange isTaken
 start-passed h w manual net code s listed q = (
-  both-left (isFlag w) (both (isFlag manual) (both (isNetwork net) (isShort code))) range,
-  both-left (isNetwork net) (isShort code) place,
-  both-right (isNetwork net) (isShort code) place,
+  one (isFlag w) (both (isFlag manual) (both (isNetwork net) (isShort code))) range,
+  one (isNetwork net) (isShort code) place,
+  rest (isNetwork net) (isShort code) place,
   flip-true (eqb (accessOf h w .state) 0) (check-passed (flip (eqb (accessOf h w .state) 0)) answer.NoCard third refl (check-rest (startRange w manual net code) answer.Range second refl q)),
 )
   where
@@ -41,13 +42,13 @@ start-passed h w manual net code s listed q = (
     range = check-passed (startRange w manual net code) answer.Range second refl q
 
     place : both (isNetwork net) (isShort code) ≡ true
-    place = both-right (isFlag manual) (both (isNetwork net) (isShort code)) (both-right (isFlag w) (both (isFlag manual) (both (isNetwork net) (isShort code))) range)
+    place = rest (isFlag manual) (both (isNetwork net) (isShort code)) (rest (isFlag w) (both (isFlag manual) (both (isNetwork net) (isShort code))) range)
 
 pub message-passed : (h : Hot) (w sure draw : ℕ) (m : Reading) (s : Seen) → isTaken (messageAnswer h w sure draw m s) ≡ true
     → (isFlag w ≡ true) × (eqb (accessOf h w .state) 4 ≡ true) × (isTaken (readAnswer h w sure m s) ≡ true)
 unfolding messageAnswer messageRange isTaken
 message-passed h w sure draw m s q = (
-  both-left (isFlag w) (both (isFlag sure) (within 1800 3600 draw)) (check-passed (messageRange w sure draw) answer.Range second refl q),
+  one (isFlag w) (both (isFlag sure) (within 1800 3600 draw)) (check-passed (messageRange w sure draw) answer.Range second refl q),
   check-passed (eqb (accessOf h w .state) 4) answer.State (readAnswer h w sure m s) refl (check-rest (messageRange w sure draw) answer.Range second refl q),
   check-rest (eqb (accessOf h w .state) 4) answer.State (readAnswer h w sure m s) refl (check-rest (messageRange w sure draw) answer.Range second refl q),
 )
@@ -73,8 +74,8 @@ pub timer-passed : (h : Hot) (number w : ℕ) → isTaken (timerAnswer h number 
     → (isFlag w ≡ true) × (either (ltb number 4) (eqb w 0) ≡ true) × (eqb (runs h number w) 0 ≡ false)
 unfolding timerAnswer timerRange isTaken
 timer-passed h number w q = (
-  both-left (isFlag w) (either (ltb number 4) (eqb w 0)) range,
-  both-right (isFlag w) (either (ltb number 4) (eqb w 0)) range,
+  one (isFlag w) (either (ltb number 4) (eqb w 0)) range,
+  rest (isFlag w) (either (ltb number 4) (eqb w 0)) range,
   flip-true (eqb (runs h number w) 0) (check-passed (flip (eqb (runs h number w) 0)) answer.Idle answer.Taken refl (check-rest (timerRange number w) answer.Range second refl q)),
 )
   where
@@ -82,21 +83,21 @@ timer-passed h number w q = (
     second = check (flip (eqb (runs h number w) 0)) answer.Idle answer.Taken
 
     range : both (isFlag w) (either (ltb number 4) (eqb w 0)) ≡ true
-    range = both-right (within 1 4 number) (both (isFlag w) (either (ltb number 4) (eqb w 0))) (check-passed (timerRange number w) answer.Range second refl q)
+    range = rest (within 1 4 number) (both (isFlag w) (either (ltb number 4) (eqb w 0))) (check-passed (timerRange number w) answer.Range second refl q)
 
 pub key-passed : (h : Hot) (w set : ℕ) → isTaken (keyAnswer h w set) ≡ true → (isFlag w ≡ true) × (leb set 6 ≡ true)
 unfolding keyAnswer isTaken
 key-passed h w set q =
     let range = check-passed (both (isFlag w) (leb set 6)) answer.Range (check (eqb (accessOf h w .state) 4) answer.State answer.Taken) refl q in
-    (both-left (isFlag w) (leb set 6) range, both-right (isFlag w) (leb set 6) range)
+    (one (isFlag w) (leb set 6) range, rest (isFlag w) (leb set 6) range)
 
 pub card-passed : (home : ℕ) (suci : List ℕ) → isTaken (cardAnswer home suci) ≡ true
     → (isNetwork home ≡ true) × (within 9 64 (length suci) ≡ true) × (eqb (getD suci 0 0) 1 ≡ true)
 unfolding cardAnswer isTaken
 card-passed home suci q =
     let range = check-passed (both (isNetwork home) (both (within 9 64 (length suci)) (eqb (getD suci 0 0) 1))) answer.Range answer.Taken refl q in
-    let two = both-right (isNetwork home) (both (within 9 64 (length suci)) (eqb (getD suci 0 0) 1)) range in (
-      both-left (isNetwork home) (both (within 9 64 (length suci)) (eqb (getD suci 0 0) 1)) range,
-      both-left (within 9 64 (length suci)) (eqb (getD suci 0 0) 1) two,
-      both-right (within 9 64 (length suci)) (eqb (getD suci 0 0) 1) two,
+    let two = rest (isNetwork home) (both (within 9 64 (length suci)) (eqb (getD suci 0 0) 1)) range in (
+      one (isNetwork home) (both (within 9 64 (length suci)) (eqb (getD suci 0 0) 1)) range,
+      one (within 9 64 (length suci)) (eqb (getD suci 0 0) 1) two,
+      rest (within 9 64 (length suci)) (eqb (getD suci 0 0) 1) two,
     )

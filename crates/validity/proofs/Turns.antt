@@ -1,12 +1,12 @@
 -- Each turn of an access keeps its numbers in their ranges; T3510 runs in state 4 only, since each turn that leaves state 4 stops it;
 -- a turn to a state above 0 has a card; equivalents get no more, entries as many as the row says. Assumes nothing.
-use Prim.Native.Nat.{ℕ, _+_, _≤_}
+use Prim.Native.Nat.{ℕ, _≤_}
 use mathlib.Core.Path.{_≡_, refl}
 use mathlib.Core.Bool.{Bool, true, false, cond}
 use native.Mathlib.Omega.{arith}
 use lib.Dec.{ltb, eqb}
 use mathlib.Core.Logic.{_≢_}
-use borrow.Author.Tests.{leb-true, le-leb, ltb-true, eqb-true, eqb-false}
+use borrow.Author.Tests.{leb-true, le-leb, eqb-true, eqb-false}
 use Rattle.record.specs.declared.Access.{Access}
 use Rattle.record.specs.Tests.{either, upTo, isFlag, isShort}
 use Rattle.record.specs.Network.{isNetwork}
@@ -19,7 +19,7 @@ use Rattle.turns.specs.Timers.{flagAfter, ordersOf, clocked}
 use Rattle.turns.specs.Rows.{needsEntry}
 use Rattle.record.specs.Setters.{moved, forgotten, emptied, counted, pending, keyed, taught, entered}
 use Rattle.turns.specs.Turns.{turnOf, rejected, still, started, keySet, accepted, tried, failed, t3510Out, t3511Out, t3502Out, cycled, renewed, oneMore, cardBelow, cardLimit, cardProtected, away, home, area, n1, rowTurn, otherTurn}
-use Rattle.validity.proofs.Bools.{either-first}
+use Rattle.validity.proofs.Bools.{either-first, more-fits}
 use Rattle.validity.proofs.Good.{Fit, Timely, Carded}
 use Rattle.validity.proofs.Setters.{grown, fit-moved, fit-forgotten, fit-emptied, fit-counted, fit-pending, fit-keyed, fit-taught, fit-entered, fit-clocked}
 
@@ -35,22 +35,6 @@ pub record Turned (card limit m n : ℕ) (b : Access) : Type 0 where
   pub equivalents : b .equivalents ≤ m
   pub entries : b .entries ≡ n
 
-tried-fits : (n : ℕ) → upTo 5 n ≡ true → upTo 5 (tried n) ≡ true
-unfolding tried
-tried-fits n e = go (ltb n 5) refl
-  where
-    go : (b : Bool) → ltb n 5 ≡ b → upTo 5 (cond (ltb n 5) (n + 1) n) ≡ true
-    go true q = rw q (le-leb (n + 1) 5 (omega (arith, ltb-true n 5 q)))
-    go false q = rw q e
-
-more-fits : (limit n : ℕ) → upTo limit n ≡ true → upTo limit (oneMore limit n) ≡ true
-unfolding oneMore
-more-fits limit n e = go (ltb n limit) refl
-  where
-    go : (b : Bool) → ltb n limit ≡ b → upTo limit (cond (ltb n limit) (n + 1) n) ≡ true
-    go true q = rw q (le-leb (n + 1) limit (omega (arith, ltb-true n limit q)))
-    go false q = rw q e
-
 module _ (card limit : ℕ) (a : Access) (g : Fit limit a) where
   -- after "5U3, clear identity": the state and the attempt counter of the row
   lost : (state attempts : ℕ) → upTo 6 state ≡ true → upTo 5 attempts ≡ true → Fit limit (forgotten (moved state 3 attempts a))
@@ -65,7 +49,7 @@ module _ (card limit : ℕ) (a : Access) (g : Fit limit a) where
     unfolding clocked flagAfter
     still-turned = record { fit = fit-clocked limit a g (ordersOf Leave Leave Leave); timely = t; carded = c; equivalents = omega arith; entries = refl }
 
-    pub counted-turned : Turned card limit (a .equivalents) (a .entries) (after (still (counted limit a)))
+    counted-turned : Turned card limit (a .equivalents) (a .entries) (after (still (counted limit a)))
     unfolding clocked flagAfter counted
     counted-turned = record {
       fit = fit-clocked limit (counted limit a) (fit-counted limit a g limit (le-leb limit limit (omega arith))) (ordersOf Leave Leave Leave);
@@ -173,8 +157,8 @@ module _ (card limit : ℕ) (a : Access) (g : Fit limit a) where
         at = turnOf (emptied (forgotten (moved 3 2 n a))) (ordersOf Stop Leave (Run (a .wait)))
 
     pub t3510-turned : Turned card limit (a .equivalents) (a .entries) (after (t3510Out a))
-    unfolding t3510Out
-    t3510-turned = failed-turned (tried (a .attempts)) (tried-fits (a .attempts) (g .mode .2))
+    unfolding t3510Out tried
+    t3510-turned = failed-turned (tried (a .attempts)) (more-fits 5 (a .attempts) (g .mode .2))
 
     -- a taken reject stops T3510: what is left is that the access fits, has a state with this card, and its counts
     rejected-turned : (m n : ℕ) (b : Access) → Fit limit b → b .equivalents ≤ m → b .entries ≡ n → Turned card limit m n (after (rejected b))
@@ -183,7 +167,7 @@ module _ (card limit : ℕ) (a : Access) (g : Fit limit a) where
         record { fit = fit-clocked limit b f (ordersOf Stop Leave Leave); timely = refl; carded = either-first (eqb card 1) (eqb (b .state) 0) h; equivalents = p; entries = q }
 
     pub row-turned : (r : Row) (w cause : ℕ) (found : Bool) → Turned card limit (a .equivalents) (cond (needsEntry r) (grown found (a .entries)) (a .entries)) (after (rowTurn r w limit cause found a))
-    unfolding rowTurn needsEntry cardBelow cardLimit cardProtected away home area n1 emptied forgotten moved counted entered
+    unfolding rowTurn needsEntry oneMore cardBelow cardLimit cardProtected away home area n1 emptied forgotten moved counted entered
     row-turned CardBelow w cause found = elim (eqb w 0) as (λ b. Turned card limit (a .equivalents) (a .entries) (after (cond b
         (rejected (emptied (counted (oneMore limit (a .cards)) (forgotten (moved 2 3 0 a)))))
         (rejected (counted (oneMore limit (a .cards)) (forgotten (moved 2 3 (a .attempts) a))))))) [
@@ -210,7 +194,7 @@ module _ (card limit : ℕ) (a : Access) (g : Fit limit a) where
     row-turned Other w cause found = t3510-turned
 
 -- a new record's access
-pub new-fits : (limit state : ℕ) → upTo 6 state ≡ true → Fit limit (newAccess state)
+new-fits : (limit state : ℕ) → upTo 6 state ≡ true → Fit limit (newAccess state)
 unfolding newAccess isNetwork
 new-fits limit state p = record {
   mode = (p, refl, refl);

@@ -12,7 +12,8 @@ use Rattle.record.specs.declared.Record.{Record}
 use Rattle.record.specs.Tests.{both, either, within, upTo, isFlag, isShort}
 use Rattle.record.specs.Network.{isNetwork}
 use Rattle.ranges.specs.Valid.{deviceRanges, modeRanges, identityRanges, heldRanges, accessRanges, isItem, rangesOf, countersOf, cardOf, suciOf, codesOf, clockOf, itself, halved, onceOf, validOf}
-use Rattle.validity.proofs.Bools.{both-left, both-right, both-true}
+use Rattle.record.proofs.Bounds.{one, rest}
+use Rattle.validity.proofs.Bools.{both-true}
 use Rattle.validity.proofs.Arrays.{all-of, of-all, once-of, of-once}
 use Rattle.validity.proofs.Good.{Carded, Listing, Half, Good}
 
@@ -27,7 +28,7 @@ Each b (c ∷ bs) = (b ≡ true) × Each c bs
 
 holds : (b : Bool) (bs : List Bool) → conj b bs ≡ true → Each b bs
 holds b [] e = e
-holds b (c ∷ bs) e = (both-left b (conj c bs) e, holds c bs (both-right b (conj c bs) e))
+holds b (c ∷ bs) e = (one b (conj c bs) e, holds c bs (rest b (conj c bs) e))
 
 joined : (b : Bool) (bs : List Bool) → Each b bs → conj b bs ≡ true
 joined b [] e = e
@@ -126,7 +127,7 @@ access-counters d a equivalents t g =
 -- "a state above 0 with no card", access by access
 card-each : (c p q : Bool) → either c (both p q) ≡ true → (either c p ≡ true) × (either c q ≡ true)
 card-each true p q e = (refl, refl)
-card-each false p q e = (both-left p q e, both-right p q e)
+card-each false p q e = (one p q e, rest p q e)
 
 card-both : (c p q : Bool) → either c p ≡ true → either c q ≡ true → either c (both p q) ≡ true
 card-both true p q e f = refl

@@ -9,7 +9,7 @@ use Rattle.record.specs.New.{newDevice, newAccess, emptyRecord, zeros}
 use Rattle.effects.specs.Effects.{carded}
 use Rattle.events.specs.Parts.{atMost}
 
-abbrev pub sameLimits : Device → Device
+abbrev sameLimits : Device → Device
 sameLimits d = newDevice (d .cardlimit) (d .banlimit) (d .n1limit) (d .capability) (d .security)
 
 -- "a new record with the same limits and capabilities, this card, both states 1"
