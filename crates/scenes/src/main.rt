@@ -4,7 +4,7 @@ ghost use Prim.Native.Nat.{_<_};
 use libc::STDOUT_FILENO;
 use record::Record;
 
-mod log;
+mod frames;
 mod show;
 
 // The record after an event, and how many octets of the log it took: 0 at the end, 1 where the log is bad.
@@ -22,8 +22,10 @@ fn end(used: u64, at: u64) {
 }
 
 fn event(r: Record, number: u64, s: &[u8]) -> Record {
-    let e = log::decode(s);
-    let o = events::step(r, e, log::rest(s));
+    let kind = frames::kind(s);
+    let body = events::tail(s, 2);
+    let e = log::event(kind, body);
+    let o = events::step(r, e, log::octets(kind, body));
     let p = o.reply;
     let next = o.next;
     show::line(number, p, next);
@@ -41,7 +43,7 @@ fn wide(n: usize) -> u64
 fn one(r: Record, number: u64) -> Turn
     ensures { λ t. ⌜ t .used < 65538 ⌝ }
 {
-    let n = log::head();
+    let n = frames::head();
     if n < 2 {
         return Turn {
             next: r,
@@ -49,7 +51,7 @@ fn one(r: Record, number: u64) -> Turn
         };
     }
     let mut body = [0u8; 65536];
-    if log::fill(&mut body, n) {
+    if frames::fill(&mut body, n) {
         let next = event(r, number, &body[..n]);
         return Turn {
             next,
@@ -59,16 +61,9 @@ fn one(r: Record, number: u64) -> Turn
     Turn { next: r, used: 1 }
 }
 
-fn first() -> Record {
-    let capability = [0u8; 1];
-    let security = [0xF0u8; 2];
-    let m = record::fresh(3, 3, 3, &capability, &security);
-    m.made
-}
-
 // Nothing says that the input ends, so the events are counted.
 fn main() {
-    let mut r = first();
+    let mut r = log::first();
     let mut number: u64 = 1;
     let mut at: u64 = 0;
     while number < 100000 {
