@@ -171,12 +171,10 @@ module _ (count : ℕ) (nets : List ℕ) (l : length nets ≡ 16) (room : count 
 
     -- it is the new one
     new-place : count ≤ was → eqb net m ≡ true → seekTo (sameNet m) (suc count) more ≡ count
-    unfolding was
     new-place h q = seek-is (sameNet m) (suc count) more count (omega arith) (λ k g. old-false k (omega arith)) (λ g. rw added q)
 
     -- it is none of them
     no-place : count ≤ was → eqb net m ≡ false → seekTo (sameNet m) (suc count) more ≡ suc count
-    unfolding was
     no-place h q = seek-is (sameNet m) (suc count) more (suc count) (omega arith) none (λ g. absurd (omega arith))
       where
         none : (k : ℕ) → k < suc count → sameNet m (getD more k 0) ≡ false
