@@ -3,7 +3,7 @@
 use Prim.Native.Nat.{ℕ, zero, suc, _+_, _≤_, _<_}
 use mathlib.Core.Path.{_≡_, refl, sym, _∙_, ap}
 use mathlib.Core.Bool.{Bool, true, false, cond}
-use mathlib.Core.List.{List, [], _∷_}
+use mathlib.Core.List.{List}
 use mathlib.Core.Logic.{_≢_}
 use native.Mathlib.Omega.{arith}
 use lib.Dec.{ltb, eqb}
@@ -13,28 +13,10 @@ use borrow.Author.Tests.{ltb-true, ltb-false, lt-ltb, le-ltb, eqb-true, eqb-fals
 use Rattle.laws.specs.Upto.{upto, seekTo}
 use Rattle.entries.specs.Entries.{sameNet, sizeOf, placeIn, peekAt, putAt, clearUnless}
 use Rattle.record.specs.New.{zeros}
-use Rattle.validity.proofs.Arrays.{seek-le, seek-found, seek-before}
+use Rattle.validity.proofs.Bools.{most-fits}
+use Rattle.validity.proofs.Arrays.{seek-le, seek-found, seek-before, seek-is, upto-reads}
 use Rattle.validity.proofs.Setters.{grown}
 use Rattle.history.specs.Cell.{columnIn}
-
-module _ (p : ℕ → Bool) where
-  -- the first that passes, or the count where none does
-  seek-is : (n : ℕ) (xs : List ℕ) (i : ℕ) → i ≤ n → ((k : ℕ) → k < i → p (getD xs k 0) ≡ false) → (i < n → p (getD xs i 0) ≡ true) → seekTo p n xs ≡ i
-  unfolding seekTo
-  seek-is zero xs i h f t = omega arith
-  seek-is (suc n) [] zero h f t = rw (t (omega arith))
-  seek-is (suc n) (x ∷ xs) zero h f t = rw (t (omega arith))
-  seek-is (suc n) [] (suc i) h f t = rw (f 0 (omega arith)) (ap suc (seek-is n [] i (omega arith) (λ k g. f (suc k) (omega arith)) (λ g. t (omega arith))))
-  seek-is (suc n) (x ∷ xs) (suc i) h f t = rw (f 0 (omega arith)) (ap suc (seek-is n xs i (omega arith) (λ k g. f (suc k) (omega arith)) (λ g. t (omega arith))))
-
-upto-at : (f : ℕ → ℕ → ℕ) (n : ℕ) (xs ys : List ℕ) (k : ℕ) → k < n → k < length ys → getD (upto f n xs ys) k 0 ≡ f (getD xs k 0) (getD ys k 0)
-unfolding upto
-upto-at f zero xs ys k h l = absurd (omega arith)
-upto-at f (suc n) xs [] k h l = absurd (omega arith)
-upto-at f (suc n) [] (y ∷ ys) zero h l = refl
-upto-at f (suc n) (x ∷ xs) (y ∷ ys) zero h l = refl
-upto-at f (suc n) [] (y ∷ ys) (suc k) h l = upto-at f n [] ys k (omega arith) (omega arith)
-upto-at f (suc n) (x ∷ xs) (y ∷ ys) (suc k) h l = upto-at f n xs ys k (omega arith) (omega arith)
 
 zero-at : (n k : ℕ) → getD (zeros n) k 0 ≡ 0
 zero-at zero k = refl
@@ -43,11 +25,7 @@ zero-at (suc n) (suc k) = zero-at n k
 
 pub size-fits : (count : ℕ) → sizeOf count ≤ 16
 unfolding sizeOf
-size-fits count = go (ltb count 16) refl
-  where
-    go : (b : Bool) → ltb count 16 ≡ b → cond (ltb count 16) count 16 ≤ 16
-    go true q = rw q (omega (arith, ltb-true count 16 q))
-    go false q = rw q (omega arith)
+size-fits count = most-fits 16 count
 
 size-is : (count : ℕ) → count < 16 → sizeOf count ≡ count
 unfolding sizeOf
@@ -95,7 +73,7 @@ module _ (count : ℕ) (nets : List ℕ) where
       go : (b : Bool) → ltb at size ≡ b → peekAt (upto f size xs ys) at size ≡ f (peekAt xs at size) (peekAt ys at size)
       go true q =
           let h : at < size = ltb-true at size q in
-          rw (peek-in (upto f size xs ys) at size h, peek-in xs at size h, peek-in ys at size h) (upto-at f size xs ys at h (omega (arith, size-fits count)))
+          rw (peek-in (upto f size xs ys) at size h, peek-in xs at size h, peek-in ys at size h) (upto-reads f size xs ys at (λ x. x ≡ f (getD xs at 0) (getD ys at 0)) h refl (λ g. absurd (omega (arith, size-fits count))))
       go false q =
           let h : size ≤ at = ltb-false at size q in
           rw (peek-out (upto f size xs ys) at size h, peek-out xs at size h, peek-out ys at size h) (sym z)
@@ -171,12 +149,10 @@ module _ (count : ℕ) (nets : List ℕ) (l : length nets ≡ 16) (room : count 
 
     -- it is the new one
     new-place : count ≤ was → eqb net m ≡ true → seekTo (sameNet m) (suc count) more ≡ count
-    unfolding was
     new-place h q = seek-is (sameNet m) (suc count) more count (omega arith) (λ k g. old-false k (omega arith)) (λ g. rw added q)
 
     -- it is none of them
     no-place : count ≤ was → eqb net m ≡ false → seekTo (sameNet m) (suc count) more ≡ suc count
-    unfolding was
     no-place h q = seek-is (sameNet m) (suc count) more (suc count) (omega arith) none (λ g. absurd (omega arith))
       where
         none : (k : ℕ) → k < suc count → sameNet m (getD more k 0) ≡ false

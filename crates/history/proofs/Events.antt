@@ -47,7 +47,7 @@ module _ (r : Record) where
       )
 
   pub card-cell : (home : ℕ) (octets : List ℕ) → isTaken (answeredBy r (Card home) octets) ≡ true → (w n : ℕ) → w < 2 → cellOf (next r (Card home) octets) w n ≡ blank
-  unfolding askOf effectOf cardEffect mineOf entriesAfter
+  unfolding effectOf cardEffect mineOf entriesAfter
   card-cell home octets t w n hw = taken-cell r (Card home) octets t (small r (Card home) octets t) w hw n ∙ cell-none _ n
 
   module _ (c0 : Columns (r .e0)) (c1 : Columns (r .e1)) where
@@ -71,7 +71,7 @@ module _ (r : Record) where
 
     timer-cell : (number b : ℕ) (octets : List ℕ) → isTaken (answeredBy r (Timer number b) octets) ≡ true → (w n : ℕ) → w < 2
         → cellOf (next r (Timer number b) octets) w n ≡ cellAfter (limitsOf r) (cond (eqb number 4) ended nothing) (cellOf r w n)
-    unfolding answeredBy answerOf effectOf timerEffect askOf cellAfter
+    unfolding effectOf timerEffect askOf cellAfter
     timer-cell number b octets t w n hw = go (eqb number 4) refl
       where
         go : (s : Bool) → eqb number 4 ≡ s → cellOf (next r (Timer number b) octets) w n ≡ cellAfter (limitsOf r) (cond (eqb number 4) ended nothing) (cellOf r w n)

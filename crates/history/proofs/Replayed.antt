@@ -21,7 +21,6 @@ use Rattle.validity.proofs.Messages.{drop-octets}
 use Rattle.validity.proofs.Kept.{step-advances, step-valid}
 use Rattle.validity.proofs.Sizes.{step-sized, made-sized}
 use Rattle.ranges.proofs.MadeValid.{made-valid}
-use Rattle.record.specs.Sides.{accessOf}
 use Rattle.history.specs.Cell.{cellOf, entriesIn}
 use Rattle.history.specs.History.{saidOf}
 use Rattle.history.specs.Run.{answersOf}
@@ -81,7 +80,7 @@ log-small zero at (low ∷ high ∷ s) o =
     (log-small (low + high * 256) (suc (suc at)) s (λ j. o (suc (suc j))))
 
 cell-stripped : (r : Record) (w n : ℕ) → cellOf (stripped r) w n ≡ cellOf r w n
-unfolding cellOf entriesIn stripped bare accessOf
+unfolding cellOf entriesIn stripped bare
 cell-stripped r w n = refl
 
 -- Demand 3 for what runs: over any log of octets from a new record, the replay ends with the counters and marks that the history says.

@@ -1,14 +1,14 @@
 -- Arrays read to a count, place by place: all elements pass, no two have one key; what a store, a change along another array and a search do.
 -- Each is by induction on the array or on the count. Assumes nothing.
 use Prim.Native.Nat.{ℕ, zero, suc, _≤_, _<_}
-use mathlib.Core.Path.{_≡_, refl, sym, ap, _∙_}
-use mathlib.Core.Bool.{Bool, true, false, cond, true≢false}
+use mathlib.Core.Path.{_≡_, refl, ap}
+use mathlib.Core.Bool.{Bool, true, false, cond}
 use mathlib.Core.List.{List, [], _∷_}
 use mathlib.Core.Logic.{_≢_}
 use native.Mathlib.Omega.{arith}
-use lib.Dec.{ltb, eqb}
+use lib.Dec.{eqb}
 use lib.ListN.{length, getD, set}
-use borrow.Author.Tests.{eqb-true, eqb-false, eq-eqb, ne-eqb, ltb-true, ltb-false}
+use borrow.Author.Tests.{eqb-true, eqb-false, eq-eqb, ne-eqb}
 use Rattle.laws.specs.Upto.{upto, seekTo, allTo, distinctTo, sameBy}
 use Rattle.record.proofs.Bounds.{one, rest}
 use Rattle.validity.proofs.Bools.{both-true}
@@ -87,13 +87,14 @@ module _ (p : ℕ → Bool) where
       go true e g ih = let q : suc k < 0 = rw e at g in absurd (omega arith)
       go false e g ih = ih (let q : suc k < suc (seekTo p n xs) = rw e at g in omega arith)
 
-  -- none passes
-  seek-none : (n : ℕ) (xs : List ℕ) → ((k : ℕ) → k < n → p (getD xs k 0) ≡ false) → seekTo p n xs ≡ n
-  seek-none n xs f = go (ltb (seekTo p n xs) n) refl
-    where
-      go : (b : Bool) → ltb (seekTo p n xs) n ≡ b → seekTo p n xs ≡ n
-      go true e = let h : seekTo p n xs < n = ltb-true (seekTo p n xs) n e in absurd (true≢false (sym (seek-found n xs h) ∙ f (seekTo p n xs) h))
-      go false e = let h : n ≤ seekTo p n xs = ltb-false (seekTo p n xs) n e in omega (arith, seek-le n xs)
+  -- the first that passes, or the count where none does
+  pub seek-is : (n : ℕ) (xs : List ℕ) (i : ℕ) → i ≤ n → ((k : ℕ) → k < i → p (getD xs k 0) ≡ false) → (i < n → p (getD xs i 0) ≡ true) → seekTo p n xs ≡ i
+  unfolding seekTo
+  seek-is zero xs i h f t = omega arith
+  seek-is (suc n) [] zero h f t = rw (t (omega arith))
+  seek-is (suc n) (x ∷ xs) zero h f t = rw (t (omega arith))
+  seek-is (suc n) [] (suc i) h f t = rw (f 0 (omega arith)) (ap suc (seek-is n [] i (omega arith) (λ k g. f (suc k) (omega arith)) (λ g. t (omega arith))))
+  seek-is (suc n) (x ∷ xs) (suc i) h f t = rw (f 0 (omega arith)) (ap suc (seek-is n xs i (omega arith) (λ k g. f (suc k) (omega arith)) (λ g. t (omega arith))))
 
 module _ (key : ℕ → ℕ) where
   pub once-of : (n : ℕ) (xs : List ℕ) → distinctTo key n xs ≡ true → Once key n xs
@@ -112,7 +113,7 @@ module _ (key : ℕ → ℕ) where
   of-once zero xs f = refl
   of-once (suc n) xs f =
       both-true (distinctTo key n xs) (eqb (seekTo (sameBy key (getD xs n 0)) n xs) n) (of-once n xs (λ i j g h. f i j g (omega arith)))
-      (eq-eqb (seekTo (sameBy key (getD xs n 0)) n xs) n (seek-none (sameBy key (getD xs n 0)) n xs (λ k h. ne-eqb (key (getD xs k 0)) (key (getD xs n 0)) (f k n h (omega arith)))))
+      (eq-eqb (seekTo (sameBy key (getD xs n 0)) n xs) n (seek-is (sameBy key (getD xs n 0)) n xs n (omega arith) (λ k h. ne-eqb (key (getD xs k 0)) (key (getD xs n 0)) (f k n h (omega arith))) (λ h. absurd (omega arith))))
 
 -- what passes everywhere but at the place of the store passes everywhere if what was stored does (or 0, past the end)
 pub set-reads : (xs : List ℕ) (i v k : ℕ) (P : ℕ → Type 0) → (i < length xs → P v) → (length xs ≤ i → P 0) → (k ≢ i → P (getD xs k 0)) → P (getD (set xs i v) k 0)
@@ -128,14 +129,14 @@ set-reads (x ∷ xs) (suc i) v zero P f z g = g (omega arith)
 set-reads (x ∷ xs) (suc i) v (suc k) P f z g = set-reads xs i v k P (λ h. f (omega arith)) (λ h. z (omega arith)) (λ h. g (λ e. h (omega arith)))
 
 -- a change along another array: an element at a place, and the length
-pub upto-reads : (f : ℕ → ℕ → ℕ) (n : ℕ) (xs ys : List ℕ) (k : ℕ) (P : ℕ → Type 0) → k < n → P (f (getD xs k 0) (getD ys k 0)) → P 0 → P (getD (upto f n xs ys) k 0)
+pub upto-reads : (f : ℕ → ℕ → ℕ) (n : ℕ) (xs ys : List ℕ) (k : ℕ) (P : ℕ → Type 0) → k < n → P (f (getD xs k 0) (getD ys k 0)) → (length ys ≤ k → P 0) → P (getD (upto f n xs ys) k 0)
 unfolding upto
 upto-reads f zero xs ys k P h p z = absurd (omega arith)
-upto-reads f (suc n) xs [] k P h p z = z
+upto-reads f (suc n) xs [] k P h p z = z (omega arith)
 upto-reads f (suc n) [] (y ∷ ys) zero P h p z = p
-upto-reads f (suc n) [] (y ∷ ys) (suc k) P h p z = upto-reads f n [] ys k P (omega arith) p z
+upto-reads f (suc n) [] (y ∷ ys) (suc k) P h p z = upto-reads f n [] ys k P (omega arith) p (λ g. z (omega arith))
 upto-reads f (suc n) (x ∷ xs) (y ∷ ys) zero P h p z = p
-upto-reads f (suc n) (x ∷ xs) (y ∷ ys) (suc k) P h p z = upto-reads f n xs ys k P (omega arith) p z
+upto-reads f (suc n) (x ∷ xs) (y ∷ ys) (suc k) P h p z = upto-reads f n xs ys k P (omega arith) p (λ g. z (omega arith))
 
 pub upto-length : (f : ℕ → ℕ → ℕ) (n : ℕ) (xs ys : List ℕ) → length (upto f n xs ys) ≡ length ys
 unfolding upto

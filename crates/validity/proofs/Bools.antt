@@ -45,6 +45,13 @@ most-is m n e = go (ltb n m) refl
     go true q = rw q
     go false q = rw q (let l = ltb-false n m q in let h = leb-true n m e in omega arith)
 
+pub most-fits : (m n : ℕ) → atMost m n ≤ m
+most-fits m n = go (ltb n m) refl
+  where
+    go : (b : Bool) → ltb n m ≡ b → cond (ltb n m) n m ≤ m
+    go true q = rw q (omega (arith, ltb-true n m q))
+    go false q = rw q (omega arith)
+
 -- one more, unless at the limit
 pub more-fits : (limit n : ℕ) → upTo limit n ≡ true → upTo limit (cond (ltb n limit) (n + 1) n) ≡ true
 more-fits limit n e = go (ltb n limit) refl

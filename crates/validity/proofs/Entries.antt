@@ -155,7 +155,7 @@ module _ (banlimit n1limit n : ℕ) (t : Entries) (w : Columns t) (g : Held banl
 
   lifted : (limit : ℕ) (counters marks : List ℕ) → upTo 16 n ≡ true → All isFlag n marks → All isFlag n (upto (liftMark limit) (sizeOf n) counters marks)
   lifted limit counters marks e f i h =
-      rw (size-is n e) (upto-reads (liftMark limit) n counters marks i (λ x. isFlag x ≡ true) h (lift-fits limit (getD counters i 0) (getD marks i 0) (f i h)) refl)
+      rw (size-is n e) (upto-reads (liftMark limit) n counters marks i (λ x. isFlag x ≡ true) h (lift-fits limit (getD counters i 0) (getD marks i 0) (f i h)) (λ _. refl))
 
   pub swept-held : upTo 16 n ≡ true → Held banlimit n1limit n (swept n banlimit n1limit t)
   unfolding swept

@@ -7,7 +7,7 @@ use native.Mathlib.Omega.{arith}
 use lib.Dec.{ltb, eqb}
 use lib.ListN.{length, getD, drop}
 use lib.Seq.{getD-drop}
-use borrow.Author.Tests.{le-leb, lt-ltb, ltb-true}
+use borrow.Author.Tests.{le-leb, lt-ltb}
 use Rattle.laws.specs.Upto.{first, copied}
 use Rattle.octets.specs.declared.Fault.{Fault}
 use Rattle.octets.specs.declared.Fault.the-variants.{Cut, First, Second, Kind}
@@ -24,7 +24,7 @@ use Rattle.record.specs.Tests.{upTo, isShort}
 use Rattle.record.specs.Network.{networkOf}
 use Rattle.events.specs.Parts.{atMost, networksOf}
 use Rattle.validity.specs.Run.{Octets}
-use Rattle.validity.proofs.Bools.{most-is}
+use Rattle.validity.proofs.Bools.{most-is, most-fits}
 use Rattle.validity.proofs.Arrays.{All, upto-reads}
 
 -- a reading whose numbers fit an access
@@ -59,11 +59,7 @@ wait-fits s p = elim (p .held) as (λ b. secondsOf (cond b (cond (eqb (p .len) 0
 
 count-fits : (p : Part) → countOf p ≤ 15
 unfolding countOf
-count-fits p = elim (p .held) as (λ b. cond b (cond (ltb (p .len / 3) 15) (p .len / 3) 15) 0 ≤ 15) [ true ↦ go (ltb (p .len / 3) 15) refl | false ↦ omega arith ]
-  where
-    go : (b : Bool) → ltb (p .len / 3) 15 ≡ b → cond (ltb (p .len / 3) 15) (p .len / 3) 15 ≤ 15
-    go true q = rw q (omega (arith, ltb-true (p .len / 3) 15 q))
-    go false q = rw q (omega arith)
+count-fits p = elim (p .held) as (λ b. cond b (cond (ltb (p .len / 3) 15) (p .len / 3) 15) 0 ≤ 15) [ true ↦ most-fits 15 (p .len / 3) | false ↦ omega arith ]
 
 accepted-mild : (s : List ℕ) (g : Gathered) → Mild (acceptedOf s g)
 unfolding acceptedOf acceptOf
@@ -128,4 +124,4 @@ pub copied-short : (count at : ℕ) (octets equivalents : List ℕ) → upTo 15 
 unfolding copied
 copied-short count at octets equivalents e h k l =
     rw (most-is 15 count e)
-    (upto-reads first count (networksOf count (drop at octets)) equivalents k (λ x. isShort x ≡ true) l (networks-short count (drop at octets) (drop-octets at octets h) k) refl)
+    (upto-reads first count (networksOf count (drop at octets)) equivalents k (λ x. isShort x ≡ true) l (networks-short count (drop at octets) (drop-octets at octets h) k) (λ _. refl))
