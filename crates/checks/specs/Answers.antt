@@ -1,5 +1,5 @@
 -- Answers: "Checks go 1, 5, 6, 7, 8, 9 for a start; 1, 6, 3, 10, 2, 4 for a message; 1, 11 for a timer; 1, 6 for a key set; 1 for a card or a power cycle".
--- Each check passes on to the next; the last one is taken. The record itself is tested before. Assumes nothing.
+-- Each check passes on to the next; the last one is taken. The record itself is tested before. An event's `sure` is 1 if protected. Assumes nothing.
 use Prim.Native.Nat.{ℕ}
 use mathlib.Core.Bool.{Bool, cond}
 use mathlib.Core.List.{List}
@@ -68,11 +68,11 @@ rejectAnswer h w sure cause s =
     (check (flip (isFull (rowNow h w sure cause) s)) answer.Full
     answer.Taken)
 
--- what was read: 3, 10, then those of a reject
+-- what was read: 3; 10 of an accept; 2, 4 of a reject
 unfoldable pub readAnswer : Hot → ℕ → ℕ → Reading → Seen → Answer
+readAnswer h w sure (reading.Bad f at) s = answer.Malformed f at
 readAnswer h w sure (reading.Accept g) s = check (flip (eqb sure 0)) answer.Bare answer.Taken
 readAnswer h w sure (reading.Reject cause) s = rejectAnswer h w sure cause s
-readAnswer h w sure (reading.Bad f at) s = answer.Malformed f at
 
 -- "a draw for T3247, 1800 to 3600 s, checked even if unused"
 unfoldable pub messageRange : ℕ → ℕ → ℕ → Bool

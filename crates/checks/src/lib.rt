@@ -1,6 +1,7 @@
 // Answers: each event's checks, in document 01's order.
 use entries::Seen;
 use messages::Reading;
+use messages::octet;
 use record::Access;
 use record::Answer;
 use record::Hot;
@@ -16,7 +17,6 @@ use turns::needs_entry;
 use turns::row_of;
 ghost use mathlib.Core.Path.{_≡_};
 ghost use lib.Dec.{eqb};
-ghost use lib.ListN.{getD};
 ghost use Rattle.record.specs.Tests.{both, flip};
 ghost use Rattle.record.specs.declared.Answer.the-variants as answer;
 ghost use Rattle.checks.specs.Answers as rules;
@@ -183,20 +183,10 @@ pub fn key_answer(h: Hot, w: u8, set: u8) -> Answer
     )
 }
 
-// The octet that opens a SUCI, 0 where there is none.
-fn opening(suci: &[u8]) -> u8
-    ensures { λ r. ⌜ r ≡ getD (now (suci .entry)) 0 0 ⌝ }
-{
-    if 0 < suci.len() {
-        return suci[0];
-    }
-    0
-}
-
 pub fn card_answer(home: u32, suci: &[u8]) -> Answer
     ensures { λ r. ⌜ r ≡ rules.cardAnswer home (now (suci .entry)) ⌝ }
 {
     let n = suci.len();
-    let whole = and(and(9 <= n, n <= 64), opening(suci) == 1);
+    let whole = and(and(9 <= n, n <= 64), octet(suci, 0) == 1);
     check(and(network(home), whole), Answer::Range, Answer::Taken)
 }

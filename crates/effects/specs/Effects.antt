@@ -43,7 +43,7 @@ ticked t3247 d = record {
   regional = d .regional;
 }
 
--- the device's numbers of a new record with the same limits and capabilities, and this card
+-- this card; limits and capabilities stay. T3247 and the lists' counts become those of a new record by the order and the tasks of the effect
 unfoldable pub carded : ℕ → ℕ → Device → Device
 carded home suci d = record {
   card = 1;
@@ -99,11 +99,11 @@ clockEffect h number w =
     (plain h w (t3502Out (accessOf h w)) true))
 
 -- T3247 out: stops; both accesses' entries and both lists are gone through
-unfoldable pub t3247Effect : Hot → Effect
-t3247Effect h = record { dev = h .dev; mine = still (h .a0); theirs = still (h .a1); t3247 = Stop; work = workOf sweepDeed sweepTask sweepTask keepNothing; restart = false }
+unfoldable pub t3247Effect : Hot → ℕ → Effect
+t3247Effect h w = record { dev = h .dev; mine = still (accessOf h w); theirs = still (otherOf h w); t3247 = Stop; work = workOf sweepDeed sweepTask sweepTask keepNothing; restart = false }
 
 unfoldable pub timerEffect : Hot → ℕ → ℕ → Effect
-timerEffect h number w = cond (eqb number 4) (t3247Effect h) (clockEffect h number w)
+timerEffect h number w = cond (eqb number 4) (t3247Effect h w) (clockEffect h number w)
 
 -- Power cycle
 unfoldable pub powerEffect : Hot → Effect

@@ -3,7 +3,7 @@ use Prim.Native.Nat.{ℕ, zero, suc}
 use mathlib.Core.Bool.{Bool, cond}
 use mathlib.Core.List.{List, [], _∷_}
 use lib.ListN.{length, getD, drop}
-use lib.Dec.{ltb, leb, eqb}
+use lib.Dec.{ltb, eqb}
 use Rattle.laws.specs.Upto.{copied}
 use Rattle.record.specs.Tests.{both, either}
 use Rattle.record.specs.Network.{networkOf}
@@ -11,14 +11,13 @@ use Rattle.record.specs.New.{zeros}
 use Rattle.record.specs.declared.Hot.{Hot}
 use Rattle.entries.specs.declared.Entries.{Entries}
 use Rattle.entries.specs.declared.Seen.{Seen}
-use Rattle.entries.specs.declared.Deed.{Deed}
 use Rattle.entries.specs.Entries.{seenIn, entriesAfter}
 use Rattle.areas.specs.declared.Task.{Task}
 use Rattle.areas.specs.Areas.{areaOf, listedIn, listAfter, countAfter}
 use Rattle.rules.specs.declared.Event.{Event}
 use Rattle.rules.specs.declared.Ask.{Ask}
 use Rattle.rules.specs.declared.Plan.{Plan}
-use Rattle.effects.specs.Kinds.{sweepDeed, keepAccept, keepCard}
+use Rattle.effects.specs.Kinds.{keepAccept, keepCard}
 use Rattle.rules.specs.Plan.{heardOf, askOf, planOf, deedOf}
 use Rattle.events.specs.declared.Done.{Done}
 

@@ -2,13 +2,11 @@
 use super::Done;
 use areas::Task;
 use entries::Seen;
-use record::Device;
 use record::Hot;
 use rules::Ask;
 use rules::Event;
 use rules::Plan;
 ghost use mathlib.Core.Path.{_≡_};
-ghost use mathlib.Core.Bool.{cond, true, false};
 ghost use Rattle.entries.specs.Entries.{entriesOf};
 ghost use Rattle.areas.specs.Areas.{listAfter, countAfter};
 ghost use Rattle.events.specs.Parts.{seenBy, listedOf, plannedBy, tableAfter, taskOf, listed, partsOf, partsAfter};

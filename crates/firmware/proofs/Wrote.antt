@@ -15,11 +15,12 @@ use Rattle.record.specs.Tests.{both}
 use Rattle.ranges.specs.Valid.{validOf}
 use Rattle.record.proofs.Bounds.{rest}
 use Rattle.record.proofs.Numbers.{taken-zero}
+use Rattle.record.specs.Sides.{accessOf}
 use Rattle.request.specs.declared.Written.{Written}
 use Rattle.request.specs.Layout.{headOf, layout}
 use Rattle.request.specs.Steps.{sizedOf, areaOf, shownCount, areaCount}
-use Rattle.request.specs.Writing.{accessOf, sayingOf, saysOf, fieldsOf, requestOf, answerOf, writtenOf}
-use Rattle.request.proofs.Pieces.{laid, long, take-short, identity-short}
+use Rattle.request.specs.Writing.{sayingOf, saysOf, fieldsOf, requestOf, answerOf, writtenOf}
+use Rattle.request.proofs.Pieces.{laid, length-head, long, take-short, identity-short}
 use Rattle.request.proofs.Ranges.{ready}
 use Rattle.firmware.specs.Calls.{wroteBy, wroteOf}
 
@@ -40,10 +41,6 @@ area-short : (ksi visited : ℕ) → areaCount ksi visited ≤ 7
 unfolding areaCount
 area-short ksi visited = pick-short (eqb ksi 7) 0 _ 7 (omega arith) (pick-short (eqb visited 0) 0 7 7 (omega arith) (omega arith))
 
-six : (kind ksi n : ℕ) → length (headOf kind ksi n) ≡ 6
-unfolding headOf
-six kind ksi n = refl
-
 -- 6, 64 of the identity, 15 and 10 of the capabilities, 7 of the last area
 module _ (a : Access) (i cap sec : List ℕ) (k m : ℕ) (hi : length i ≤ 64) (hk : k ≤ 13) (hm : m ≤ 8) where
   abbrev c : List ℕ
@@ -58,16 +55,16 @@ module _ (a : Access) (i cap sec : List ℕ) (k m : ℕ) (hi : length i ≤ 64) 
   layout-short : length (layout (sayingOf a i (take k cap) (take m sec))) ≤ 102
   layout-short =
       let whole : length (layout (sayingOf a i (take k cap) (take m sec))) ≡ 6 + (length i + (sizedOf (length c) + (sizedOf (length s) + length l))) =
-      ap length (laid a i cap s k) ∙ long (headOf 1 (a .ksi) (length i)) i c s l (length c) (length s) (length l) (six 1 (a .ksi) (length i)) refl refl refl in
+      ap length (laid a i cap s k) ∙ long (headOf 1 (a .ksi) (length i)) i c s l (length c) (length s) (length l) (length-head 1 (a .ksi) (length i)) refl refl refl in
       let shown : length c ≤ shownCount (a .ksi) k = take-short (shownCount (a .ksi) k) cap in
       let few : length l ≤ areaCount (a .ksi) (a .visited) = take-short (areaCount (a .ksi) (a .visited)) (areaOf (a .lastnet) (a .lastcode)) in
       omega (arith, whole, shown, few, take-short m sec, count-short (a .ksi) k, area-short (a .ksi) (a .visited), size-short (length c), size-short (length s))
 
-request-short : (r : Record) (access : ℕ) → validOf r ≡ true → accessOf access (r .hot) .state ≡ 4 → length (requestOf r access) ≤ 102
+request-short : (r : Record) (access : ℕ) → validOf r ≡ true → accessOf (r .hot) access .state ≡ 4 → length (requestOf r access) ≤ 102
 unfolding requestOf fieldsOf saysOf
 request-short r access valid state =
     let all = ready r access valid state in
-    layout-short (accessOf access (r .hot)) _ (r .capability) (r .security) (r .hot .dev .capability) (r .hot .dev .security)
+    layout-short (accessOf (r .hot) access) _ (r .capability) (r .security) (r .hot .dev .capability) (r .hot .dev .security)
     (identity-short _ (take (r .hot .dev .suci) (r .suci)) _ _ _ _ _ _ (omega (arith, take-short (r .hot .dev .suci) (r .suci), all .suci .1))) (all .capability .1) (all .security .1)
 
 -- nothing is written but of a valid record in state 4
@@ -81,7 +78,7 @@ chosen false y z k h = omega arith
 pub short : (r : Record) (access n : ℕ) → writtenOf r access n .len ≤ 102
 unfolding writtenOf answerOf
 short r access n =
-    chosen (both (leb access 1) (validOf r)) (eqb (accessOf access (r .hot) .state) 4) (leb (length (requestOf r access)) n) (length (requestOf r access))
+    chosen (both (leb access 1) (validOf r)) (eqb (accessOf (r .hot) access .state) 4) (leb (length (requestOf r access)) n) (length (requestOf r access))
     (λ x y. request-short r access (rest (leb access 1) _ x) (eqb-true _ 4 y))
 
 -- of what the writer says, by the answer's number

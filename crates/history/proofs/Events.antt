@@ -25,7 +25,7 @@ use Rattle.history.specs.History as history
 use Rattle.history.proofs.Said.{blank, cellAfter}
 use Rattle.history.proofs.Cells.{cell-none, cell-swept, cell-cycled}
 use Rattle.history.proofs.Next.{next, deedOn, idle-on, taken-cell, limitsOf, columns}
-use Rattle.history.proofs.Stays.{t3247-zero, small, both-kept, each-kept, out-effect, clock-spares}
+use Rattle.history.proofs.Stays.{small, both-kept, each-kept, out-effect, clock-spares}
 use Rattle.history.proofs.Messages.{message-cell}
 
 module _ (r : Record) where
@@ -59,7 +59,7 @@ module _ (r : Record) where
         taken-cell r (Timer number b) octets t (small r (Timer number b) octets t) w hw n
         ∙ ap (λ (x : Effect). cellIn (cond (eqb b w) (x .mine .access .entries) (x .theirs .access .entries)) (entriesAfter (deedOn r (Timer number b) octets (x .work .deed) w) (accessOf (r .hot) w .entries) (r .hot .dev .banlimit) (r .hot .dev .n1limit) (entriesIn r w)) n) (out-effect (r .hot) number b q)
         ∙ ap (λ (k : ℕ). cellIn k (swept (accessOf (r .hot) w .entries) (r .hot .dev .banlimit) (r .hot .dev .n1limit) (entriesIn r w)) n)
-        (ap (λ (z : ℕ). cond (eqb z w) (r .hot .a0 .entries) (r .hot .a1 .entries)) (t3247-zero (r .hot) number b t q) ∙ each-kept (r .hot) (λ (a : Access). a .entries) w hw)
+        (both-kept (r .hot) (λ (a : Access). a .entries) b w (small r (Timer number b) octets t) hw)
         ∙ cell-swept (limitsOf r) (accessOf (r .hot) w .entries) (entriesIn r w) (columns r c0 c1 w) n
 
     cycled-cell : (octets : List ℕ) → isTaken (answeredBy r Power octets) ≡ true → (w n : ℕ) → w < 2 → cellOf (next r Power octets) w n ≡ cellAfter (limitsOf r) history.cycled (cellOf r w n)

@@ -10,11 +10,10 @@ use mathlib.Core.List.{List, [], _∷_}
 use Rattle.record.specs.declared.Record.{Record}
 use Rattle.ranges.specs.Valid.{validOf}
 use Rattle.record.specs.New.{madeOf, mayMake}
-use Rattle.rules.specs.declared.Event.{Event}
-use Rattle.events.specs.Step.{together, joinedOf, advanceOf}
 use Rattle.log.specs.Log.{Log, over, bad, entry, pairAt, octetsOf, octetsIn, eventIn, recordOf, logOf}
 use Rattle.log.specs.Held.{endOf}
-use Rattle.log.specs.Replay.{bare}
+use Rattle.log.specs.Replay.{bare, stripped}
+use Rattle.log.proofs.Bare.{strips}
 use Rattle.validity.specs.Sized.{Sized}
 use Rattle.validity.specs.Run.{Octets, AllOctets, runOf}
 use Rattle.validity.proofs.Messages.{drop-octets}
@@ -24,13 +23,8 @@ use Rattle.ranges.proofs.MadeValid.{made-valid}
 use Rattle.history.specs.Cell.{cellOf, entriesIn}
 use Rattle.history.specs.History.{saidOf}
 use Rattle.history.specs.Run.{answersOf}
-use Rattle.history.specs.Replayed.{heardIn, stripped}
+use Rattle.history.specs.Replayed.{heardIn}
 use Rattle.history.proofs.Demand3.{demand3-made}
-
--- an event on a stripped record is the event on the record
-strips : (r : Record) (e : Event) (octets : List ℕ) → advanceOf (stripped r) e octets .next ≡ stripped (advanceOf r e octets .next)
-unfolding advanceOf joinedOf together stripped bare
-strips r e octets = refl
 
 pub replayed : (l : Log) (r : Record) → AllOctets (heardIn l) → Sized r → validOf r ≡ true → endOf (stripped r) l ≡ stripped (runOf r (heardIn l))
 unfolding endOf heardIn runOf

@@ -13,7 +13,7 @@ use Rattle.turns.specs.declared.Row.{Row}
 use Rattle.turns.specs.declared.Row.the-variants.{CardBelow, CardLimit, CardProtected, Away, Home, Area, N1, Protocol, Other}
 use Rattle.record.specs.Setters.{moved, forgotten, emptied, counted, entered}
 use Rattle.turns.specs.Rows.{isCard, isNetworkNo, isAreaNo, isN1No, isProtocol, rowOf, needsEntry}
-use Rattle.turns.specs.Turns.{tried, failed, t3510Out, cardBelow, cardLimit, cardProtected, away, home, area, n1, rowTurn, otherTurn}
+use Rattle.turns.specs.Turns.{oneMore, failed, t3510Out, cardBelow, cardLimit, cardProtected, away, home, area, n1, rowTurn, otherTurn}
 use Rattle.effects.specs.Effects.{rowDeed}
 use Rattle.validity.specs.Sized.{Columns}
 use Rattle.validity.proofs.Setters.{grown}
@@ -116,7 +116,7 @@ failed-left n a = go (ltb n 5) refl
 
 pub out-left : (a : Access) → Left (a .net) (a .entries) (t3510Out a .access)
 unfolding t3510Out
-out-left a = failed-left (tried (a .attempts)) a
+out-left a = failed-left (oneMore 5 (a .attempts)) a
 
 module _ (w limit cause : ℕ) (found : Bool) (a : Access) where
   below-left : Left (a .net) (a .entries) (cardBelow w limit a .access)

@@ -21,16 +21,12 @@ use Rattle.effects.specs.Effects.{Effect, acceptEffect, clockEffect, t3247Effec
 use Rattle.rules.specs.declared.Event.{Event}
 use Rattle.rules.specs.declared.Event.the-variants.{Card, Start, Message, Timer, Power, Key, Unknown}
 use Rattle.record.specs.Sides.{accessOf, otherOf}
-use Rattle.checks.specs.Answers.{rowNow, timerAnswer}
+use Rattle.checks.specs.Answers.{rowNow}
 use Rattle.rules.specs.Plan.{askOf, answerOf, messageEffect}
 use Rattle.validity.specs.Answered.{askIn, answeredBy}
 use Rattle.validity.proofs.Taken.{start-passed, message-passed, timer-passed, key-passed}
 use Rattle.history.proofs.Next.{other-of}
 use Rattle.history.proofs.Rows.{out-left, row-left, other-left}
-
--- T3247 is named with access 0
-pub t3247-zero : (h : Hot) (number w : ℕ) → isTaken (timerAnswer h number w) ≡ true → eqb number 4 ≡ true → w ≡ 0
-t3247-zero h number w t q = eqb-true w 0 (rw (eqb-true number 4 q) at (timer-passed h number w t .1))
 
 flag-small : (w : ℕ) → isFlag w ≡ true → w < 2
 flag-small w h = omega (arith, leb-true w 1 h)
@@ -62,7 +58,7 @@ module _ (h : Hot) where
   unfolding accessOf otherOf
   each-kept f w hw = both-kept f 0 w (omega arith) hw
 
-  pub out-effect : (number b : ℕ) → eqb number 4 ≡ true → timerEffect h number b ≡ t3247Effect h
+  pub out-effect : (number b : ℕ) → eqb number 4 ≡ true → timerEffect h number b ≡ t3247Effect h b
   unfolding timerEffect
   out-effect number b q = rw q
 
@@ -89,12 +85,12 @@ module _ (h : Hot) where
       go false q true q′ = rw (q, q′) (record { keeps = record { dev = refl; net = refl; others = refl }; mine = refl; theirs = refl; deed = refl })
       go false q false q′ = rw (q, q′) (record { keeps = record { dev = refl; net = refl; others = refl }; mine = refl; theirs = refl; deed = refl })
 
-  pub timer-keeps : (number b : ℕ) → isTaken (timerAnswer h number b) ≡ true → Keeps b (timerEffect h number b)
-  unfolding timerEffect t3247Effect accessOf otherOf
-  timer-keeps number b t = go (eqb number 4) refl
+  pub timer-keeps : (number b : ℕ) → Keeps b (timerEffect h number b)
+  unfolding timerEffect t3247Effect
+  timer-keeps number b = go (eqb number 4) refl
     where
       go : (s : Bool) → eqb number 4 ≡ s → Keeps b (timerEffect h number b)
-      go true q = rw (q, t3247-zero h number b t q) (record { dev = refl; net = refl; others = refl })
+      go true q = rw q (record { dev = refl; net = refl; others = refl })
       go false q = rw q (clock-spares number b .keeps)
 
   pub message-keeps : (b sure draw : ℕ) (m : Reading) (s : Seen) → Keeps b (messageEffect h b sure draw m s)

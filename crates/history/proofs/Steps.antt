@@ -31,7 +31,7 @@ module _ (r : Record) where
   event-home (Card home) octets t = refl
   event-home (Start b manual net code) octets t = refl
   event-home (Message b sure draw) octets t = ap (λ (d : Device). d .home) (message-keeps (r .hot) b sure draw _ _ .dev)
-  event-home (Timer number b) octets t = ap (λ (d : Device). d .home) (timer-keeps (r .hot) number b t .dev)
+  event-home (Timer number b) octets t = ap (λ (d : Device). d .home) (timer-keeps (r .hot) number b .dev)
   event-home Power octets t = refl
   event-home (Key b set) octets t = refl
   event-home Unknown octets t = refl
@@ -43,7 +43,7 @@ module _ (r : Record) where
   event-device f k (Card home) octets t = k home (length octets)
   event-device f k (Start b manual net code) octets t = refl
   event-device f k (Message b sure draw) octets t = ap f (message-keeps (r .hot) b sure draw _ _ .dev)
-  event-device f k (Timer number b) octets t = ap f (timer-keeps (r .hot) number b t .dev)
+  event-device f k (Timer number b) octets t = ap f (timer-keeps (r .hot) number b .dev)
   event-device f k Power octets t = refl
   event-device f k (Key b set) octets t = refl
   event-device f k Unknown octets t = refl
@@ -81,7 +81,7 @@ module _ (r : Record) where
       go true q = taken-net r (Start b manual net code) octets t hb w hw ∙ rw q
       go false q = taken-net r (Start b manual net code) octets t hb w hw ∙ rw q (ap (λ (a : Access). a .net) (other-of (r .hot) b w hb hw q))
   net-step (Message b sure draw) octets t w hw = net-kept (Message b sure draw) octets t (message-keeps (r .hot) b sure draw _ _) w hw
-  net-step (Timer number b) octets t w hw = net-kept (Timer number b) octets t (timer-keeps (r .hot) number b t) w hw
+  net-step (Timer number b) octets t w hw = net-kept (Timer number b) octets t (timer-keeps (r .hot) number b) w hw
   net-step Power octets t w hw = net-kept Power octets t (record { dev = refl; net = refl; others = refl }) w hw
   net-step (Key b set) octets t w hw = net-kept (Key b set) octets t (record { dev = refl; net = refl; others = refl }) w hw
   net-step Unknown octets t w hw = net-kept Unknown octets t (record { dev = refl; net = refl; others = refl }) w hw

@@ -1,6 +1,5 @@
 // Messages from the network: the reading of an accept or a reject, and the calls for C firmware.
 ghost use mathlib.Core.Path.{_≡_};
-ghost use Prim.Native.Nat.{_<_};
 ghost use mathlib.Core.Bool.{cond};
 ghost use lib.ListN.{getD};
 ghost use Rattle.timers.specs.Timer.{spanOf};

@@ -71,7 +71,7 @@ elementsOf request (suc k) at (o ∷ s) = elementsOf request k (suc at) s
 abbrev pub absent : Part
 absent = record { held = false; start = 0; len = 0 }
 
--- first of a repeat counts: what is held stays
+-- "First of a repeat counts, even where it reads as absent": held is that it stood in the message
 unfoldable pub keptOf : Part → Bool → ℕ → ℕ → Part
 keptOf p same start n = cond (p .held) p (cond same (record { held = true; start = start; len = n }) p)
 

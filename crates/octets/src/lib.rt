@@ -182,6 +182,7 @@ pub fn read(msg: &[u8], at: usize, request: bool) -> Element
     look(open(msg, at), request)
 }
 
+// Two steps of a walker: the element behind the one at a place.
 pub fn second(msg: &[u8], at: usize, request: bool) -> Element
     ensures { λ r. ⌜ r ≡ elementAt request (now (msg .entry)) (afterOf (elementAt request (now (msg .entry)) at) at) ⌝ }
 {
@@ -234,10 +235,4 @@ pub fn gather(msg: &[u8], from: usize, request: bool, x: u8, y: u8, z: u8) -> Ga
             }
         }
     }
-}
-
-pub fn first(msg: &[u8], from: usize, request: bool, id: u8) -> Gathered
-    ensures { λ r. ⌜ r ≡ gatherOf request (now (msg .entry)) from id id id ⌝ }
-{
-    gather(msg, from, request, id, id, id)
 }

@@ -13,6 +13,16 @@ use Rattle.record.specs.declared.Record.{Record}
 use Rattle.record.specs.declared.Made.{Made}
 use Rattle.record.specs.declared.Answer.the-variants.{Taken, Range}
 
+-- update status 5U1, 5U2 or 5U3
+abbrev pub u1 : ℕ
+u1 = 1
+
+abbrev pub u2 : ℕ
+u2 = 2
+
+abbrev pub u3 : ℕ
+u3 = 3
+
 -- "no card, .., no timer, empty lists, zeros elsewhere"
 unfoldable pub newDevice : ℕ → ℕ → ℕ → ℕ → ℕ → Device
 newDevice cardlimit banlimit n1limit capability security = record {
@@ -33,7 +43,7 @@ newDevice cardlimit banlimit n1limit capability security = record {
 unfoldable pub newAccess : ℕ → Access
 newAccess state = record {
   state = state;
-  status = 2;
+  status = u2;
   attempts = 0;
   cards = 0;
   t3510 = 0;

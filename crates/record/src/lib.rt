@@ -34,7 +34,7 @@ pub use sides::access_of;
 pub use sides::other_of;
 
 // The device's numbers. A flag is 0 or 1; lengths and counts say how much of an array is in use. Here and below the widest
-// fields come first: no gaps, so that a copy is a few wide moves.
+// fields come first: no gaps between them, so that a copy is a few wide moves.
 #[repr(C)]
 pub struct Device {
     pub home: u32,
@@ -50,7 +50,15 @@ pub struct Device {
     pub regional: u8,
 }
 
-// One access's numbers. The pending area is net and code; guti and visited say whether a GUTI and a last area are held.
+// Update status 5U1, 5U2 and 5U3.
+pub const U1: u8 = 1;
+
+pub const U2: u8 = 2;
+
+pub const U3: u8 = 3;
+
+// One access's numbers. States: 0 NO-SUPI, 1 NORMAL-SERVICE, 2 LIMITED-SERVICE, 3 ATTEMPTING-REGISTRATION, 4 REGISTERED-INITIATED,
+// 5 REGISTERED, 6 PLMN-SEARCH. The pending area is net and code; guti and visited say whether a GUTI and a last area are held.
 #[repr(C)]
 pub struct Access {
     pub net: u32,

@@ -5,6 +5,7 @@ use crate::Device;
 use crate::Hot;
 use crate::Made;
 use crate::Record;
+use crate::U2;
 use crate::joins::all;
 use crate::joins::and;
 use crate::joins::ranged;
@@ -22,7 +23,7 @@ pub fn new_access(state: u8) -> Access
 {
     Access {
         state,
-        status: 2,
+        status: U2,
         attempts: 0,
         cards: 0,
         t3510: 0,

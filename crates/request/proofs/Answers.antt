@@ -12,10 +12,11 @@ use Rattle.record.specs.declared.Answer.the-variants.{Taken, Range, State, Shor
 use Rattle.record.specs.Tests.{both}
 use Rattle.ranges.specs.Valid.{validOf}
 use Rattle.record.specs.Answers.{isTaken}
+use Rattle.record.specs.Sides.{accessOf}
 use Rattle.record.proofs.Bounds.{rest}
 use Rattle.request.specs.declared.Written.{Written}
 use Rattle.request.specs.Layout.{layout}
-use Rattle.request.specs.Writing.{accessOf, saysOf, fieldsOf, requestOf, answerOf, writtenOf, over, bufferOf}
+use Rattle.request.specs.Writing.{saysOf, fieldsOf, requestOf, answerOf, writtenOf, over, bufferOf}
 use Rattle.request.specs.Steps.{sentOf, sentOver}
 use Rattle.request.proofs.Ranges.{ready}
 
@@ -40,22 +41,18 @@ out-of-range r access t b e h =
     let fails : tested r access ≡ false = sym e ∙ not-true t h in
     (rw fails, rw fails)
 
-module _ (r : Record) (access : ℕ) (t : Bool) (own : Access) (e : t ≡ tested r access) (h : not t ≡ false) (o : own ≡ cond (eqb access 0) (r .hot .a0) (r .hot .a1)) where
+module _ (r : Record) (access : ℕ) (t : Bool) (own : Access) (e : t ≡ tested r access) (h : not t ≡ false) (same : own ≡ accessOf (r .hot) access) where
   holds : tested r access ≡ true
   holds = sym e ∙ not-false t h
-
-  same : own ≡ accessOf access (r .hot)
-  unfolding accessOf
-  same = o
 
   pub out-of-state : (b : List ℕ) → (own .state ≡ 4 → ⊥) → (record { answer = State; len = 0 } ≡ writtenOf r access (length b)) × (b ≡ bufferOf r access b)
   unfolding writtenOf bufferOf answerOf isTaken
   out-of-state b z =
-      let fails : eqb (accessOf access (r .hot) .state) 4 ≡ false = rw (← same) (ne-eqb (own .state) 4 z) in
+      let fails : eqb (accessOf (r .hot) access .state) 4 ≡ false = rw (← same) (ne-eqb (own .state) 4 z) in
       (rw (holds, fails), rw (holds, fails))
 
   module _ (s : own .state ≡ 4) where
-    four : accessOf access (r .hot) .state ≡ 4
+    four : accessOf (r .hot) access .state ≡ 4
     four = rw (← same) s
 
     pub allowed : (r .hot .dev .suci ≤ 64) × ((r .hot .dev .capability ≤ 13) × ((r .hot .dev .security ≤ 8) × (own .ksi ≤ 7)))

@@ -105,7 +105,7 @@ pub laid : (a : Access) (i cap sec : List ℕ) (k : ℕ)
 unfolding layout shown sayingOf lastOf shownCount areaCount
 laid a i cap sec k = shows (eqb (a .ksi) 7) (eqb (a .visited) 0) (a .ksi) k _ _ _ _ _ _ i cap sec
 
-length-head : (kind ksi n : ℕ) → length (headOf kind ksi n) ≡ 6
+pub length-head : (kind ksi n : ℕ) → length (headOf kind ksi n) ≡ 6
 unfolding headOf
 length-head kind ksi n = refl
 

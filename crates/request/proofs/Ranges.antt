@@ -14,7 +14,7 @@ use Rattle.record.specs.declared.Record.{Record}
 use Rattle.record.specs.Tests.{both, either, within, upTo, isFlag, isShort}
 use Rattle.ranges.specs.Valid.{deviceRanges, modeRanges, identityRanges, accessRanges, rangesOf, countersOf, cardOf, suciOf, validOf}
 use Rattle.record.proofs.Bounds.{one, rest, most}
-use Rattle.request.specs.Writing.{accessOf}
+use Rattle.record.specs.Sides.{accessOf}
 
 least : (a b n : ℕ) → within a b n ≡ true → a ≤ n
 least a b n e = leb-true a n (one (leb a n) (leb n b) e)
@@ -58,7 +58,7 @@ four : (b : Bool) (h : Hot) → cond b (h .a0) (h .a1) .state ≡ 4 → eqb (h .
 four true h e f g = omega (arith, eqb-true (h .a0 .state) 0 f)
 four false h e f g = omega (arith, eqb-true (h .a1 .state) 0 g)
 
-held : (access : ℕ) (h : Hot) → accessOf access h .state ≡ 4 → cardOf h ≡ true → h .dev .card ≡ 1
+held : (access : ℕ) (h : Hot) → accessOf h access .state ≡ 4 → cardOf h ≡ true → h .dev .card ≡ 1
 unfolding cardOf accessOf
 held access h e f = pick (choice (eqb (h .dev .card) 1) (eqb (h .a0 .state) 0) (eqb (h .a1 .state) 0) f)
   where
@@ -101,7 +101,7 @@ pub record Ready (r : Record) (a : Access) : Type 0 where
   pub security : (2 ≤ r .hot .dev .security) × (r .hot .dev .security ≤ 8)
   pub ksi : a .ksi ≤ 7
 
-module _ (r : Record) (access : ℕ) (valid : validOf r ≡ true) (state : accessOf access (r .hot) .state ≡ 4) where
+module _ (r : Record) (access : ℕ) (valid : validOf r ≡ true) (state : accessOf (r .hot) access .state ≡ 4) where
   carded : r .hot .dev .card ≡ 1
   carded = held access (r .hot) state (card r valid)
 
@@ -114,11 +114,11 @@ module _ (r : Record) (access : ℕ) (valid : validOf r ≡ true) (state : acces
   either-key true = keys (r .hot .a0) _ (one (accessRanges (r .hot .a0) (r .equivalents0) (r .e0)) _ (accesses r valid))
   either-key false = keys (r .hot .a1) _ (rest (accessRanges (r .hot .a0) (r .equivalents0) (r .e0)) _ (accesses r valid))
 
-  own-key : accessOf access (r .hot) .ksi ≤ 7
+  own-key : accessOf (r .hot) access .ksi ≤ 7
   unfolding accessOf
   own-key = either-key (eqb access 0)
 
-  pub ready : Ready r (accessOf access (r .hot))
+  pub ready : Ready r (accessOf (r .hot) access)
   ready =
       let sizes = lengths (r .hot .dev) carded (device r valid) in
       record { suci = sizes .0; opens = opened; capability = sizes .1 .0; security = sizes .1 .1; ksi = own-key }

@@ -1,5 +1,5 @@
 -- The round trip of a record: reading what the writer writes gives what the record says. Assumes nothing.
-use Prim.Native.Nat.{ℕ, zero, suc, _+_, _*_, _<_, _≤_}
+use Prim.Native.Nat.{ℕ, zero, suc, _*_, _<_, _≤_}
 use mathlib.Core.Path.{_≡_, refl, _∙_, ap}
 use mathlib.Core.Bool.{Bool, true, false, cond}
 use mathlib.Core.Logic.{_⊎_, inl, inr}
@@ -20,7 +20,8 @@ use Rattle.identity.specs.Identity.{slotOf, partOf, identityOf}
 use Rattle.request.specs.Layout.{Fit, shown}
 use Rattle.request.specs.Reading.{askingOf, toldBy}
 use Rattle.request.specs.Reading.Said.{says}
-use Rattle.request.specs.Writing.{accessOf, gutisOf, lastOf, sayingOf, saysOf, fieldsOf, requestOf, answerOf, writtenOf, over, bufferOf}
+use Rattle.record.specs.Sides.{accessOf}
+use Rattle.request.specs.Writing.{gutisOf, lastOf, sayingOf, saysOf, fieldsOf, requestOf, answerOf, writtenOf, over, bufferOf}
 use Rattle.request.proofs.Ranges.{Ready, ready}
 use Rattle.request.proofs.RoundTrip.{round-layout}
 
@@ -75,8 +76,8 @@ area : (a : Access) → (lastOf a ≡ []) ⊎ (length (lastOf a) ≡ 6)
 unfolding lastOf
 area a = six (eqb (a .visited) 0) _ _ _ _ _ _
 
-module _ (r : Record) (access : ℕ) (whole : Whole r) (valid : validOf r ≡ true) (state : accessOf access (r .hot) .state ≡ 4) where
-  abbrev all : Ready r (accessOf access (r .hot))
+module _ (r : Record) (access : ℕ) (whole : Whole r) (valid : validOf r ≡ true) (state : accessOf (r .hot) access .state ≡ 4) where
+  abbrev all : Ready r (accessOf (r .hot) access)
   all = ready r access valid state
 
   suci : Known (take (r .hot .dev .suci) (r .suci))
@@ -94,7 +95,7 @@ module _ (r : Record) (access : ℕ) (whole : Whole r) (valid : validOf r ≡ tr
     security =
         let n : length (take (r .hot .dev .security) (r .security)) ≡ r .hot .dev .security = length-take-le (r .hot .dev .security) (r .security) (omega (arith, all .security .1, whole .security)) in
         (rw n (all .security .0), rw n (all .security .1));
-    last = area (accessOf access (r .hot));
+    last = area (accessOf (r .hot) access);
   }
 
   -- reading back the octets of a request gives what the record says
@@ -109,7 +110,7 @@ passed true false z e = let n : _≡_ {A = ℕ} 0 1 = cc in absurd (omega arith)
 passed false y z e = let n : _≡_ {A = ℕ} 0 1 = cc in absurd (omega arith)
 
 module _ (r : Record) (access : ℕ) (b : List ℕ) (whole : Whole r) (taken : answerOf r access (length b) ≡ Taken) where
-  tests : (both (leb access 1) (validOf r) ≡ true) × (eqb (accessOf access (r .hot) .state) 4 ≡ true)
+  tests : (both (leb access 1) (validOf r) ≡ true) × (eqb (accessOf (r .hot) access .state) 4 ≡ true)
   unfolding answerOf
   tests = passed _ _ (leb (length (requestOf r access)) (length b)) taken
 

@@ -10,6 +10,7 @@ use Rattle.octets.specs.declared.Part.{Part}
 use Rattle.octets.specs.declared.Gathered.{Gathered}
 use Rattle.octets.specs.declared.Gathered.the-variants.{Broken, Whole}
 use Rattle.octets.specs.Element.{absent, gatherOf}
+use Rattle.messages.specs.Message.{numberOf}
 use Rattle.record.specs.Tests.{both, either, within}
 use Rattle.request.specs.Layout.{Fields}
 use Rattle.request.specs.declared.Request.{Request}
@@ -97,8 +98,8 @@ toldBy s (asking.Request q) = says (record {
 toldBy s (asking.Bad f at) = nothing
 toldBy s asking.Unfit = nothing
 
--- this paper's number for each case: 3 for all that is refused
+-- document 01's number for each case: a fault's own, and 3 for "All else"
 abbrev pub askingNumber : Asking → ℕ
 askingNumber (asking.Request q) = 0
-askingNumber (asking.Bad f at) = 3
+askingNumber (asking.Bad f at) = numberOf f
 askingNumber asking.Unfit = 3

@@ -7,17 +7,14 @@ use lib.Dec.{leb, eqb}
 use Rattle.record.specs.Tests.{both}
 use Rattle.ranges.specs.Valid.{validOf}
 use Rattle.record.specs.Answers.{isTaken}
+use Rattle.record.specs.Sides.{accessOf}
 use Rattle.record.specs.declared.Access.{Access}
-use Rattle.record.specs.declared.Hot.{Hot}
 use Rattle.record.specs.declared.Record.{Record}
 use Rattle.record.specs.declared.Answer.{Answer}
 use Rattle.record.specs.declared.Answer.the-variants.{Taken, Range, State, Short}
 use Rattle.identity.specs.Identity.{identityOf}
 use Rattle.request.specs.Layout.{Fields, layout}
 use Rattle.request.specs.declared.Written.{Written}
-
-unfoldable pub accessOf : ℕ → Hot → Access
-accessOf access h = cond (eqb access 0) (h .a0) (h .a1)
 
 -- F2 and ten octets for each access
 unfoldable pub gutisOf : List ℕ → List ℕ → List ℕ
@@ -44,7 +41,7 @@ saysOf r access a equivalents =
     (take (r .hot .dev .security) (r .security))
 
 unfoldable pub fieldsOf : Record → ℕ → Fields
-fieldsOf r access = saysOf r access (accessOf access (r .hot)) (cond (eqb access 0) (r .equivalents0) (r .equivalents1))
+fieldsOf r access = saysOf r access (accessOf (r .hot) access) (cond (eqb access 0) (r .equivalents0) (r .equivalents1))
 
 unfoldable pub requestOf : Record → ℕ → List ℕ
 requestOf r access = layout (fieldsOf r access)
@@ -53,7 +50,7 @@ requestOf r access = layout (fieldsOf r access)
 unfoldable pub answerOf : Record → ℕ → ℕ → Answer
 answerOf r access n =
     cond (both (leb access 1) (validOf r))
-    (cond (eqb (accessOf access (r .hot) .state) 4)
+    (cond (eqb (accessOf (r .hot) access .state) 4)
     (cond (leb (length (requestOf r access)) n) Taken Short)
     State)
     Range

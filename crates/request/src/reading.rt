@@ -149,7 +149,7 @@ pub fn number(a: Asking) -> u8
 {
     match a {
         Asking::Request(_) => 0,
-        Asking::Bad(_, _) => 3,
+        Asking::Bad(f, _) => messages::number(f),
         Asking::Unfit => 3,
     }
 }

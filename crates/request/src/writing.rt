@@ -6,6 +6,7 @@ use record::Access;
 use record::Answer;
 use record::Device;
 use record::Record;
+use record::access_of;
 ghost use mathlib.Core.Path.{_≡_};
 ghost use mathlib.Core.Bool.{cond};
 ghost use mathlib.Core.List.{_++_};
@@ -192,12 +193,6 @@ fn gutis(guti0: [u8; 10], guti1: [u8; 10]) -> [u8; 22]
     both
 }
 
-fn own(access: u8, a0: Access, a1: Access) -> Access
-    ensures { λ r. ⌜ r ≡ cond (eqb access 0) a0 a1 ⌝ }
-{
-    if access == 0 { a0 } else { a1 }
-}
-
 fn nets(access: u8, nets0: [u32; 15], nets1: [u32; 15]) -> [u32; 15]
     ensures { λ r. ⌜ r ≡ cond (eqb access 0) nets0 nets1 ⌝ }
 {
@@ -254,8 +249,7 @@ pub fn write(r: Record, access: u8, buffer: &mut [u8]) -> Written
             len: 0,
         };
     }
-    let h = r.hot;
-    let own = own(access, h.a0, h.a1);
+    let own = access_of(r.hot, access);
     if own.state != 4 {
         return Written {
             answer: Answer::State,

@@ -30,7 +30,6 @@ use record::Answer;
 use record::Hot;
 use record::access_of;
 use record::taken;
-use turns::Order;
 use turns::Turn;
 use turns::clocked;
 use turns::still;

@@ -26,7 +26,7 @@ isN1No w c = either (eqb c 27) (both (eqb c 72) (eqb w 1))
 unfoldable pub isProtocol : ℕ → Bool
 isProtocol c = either (eqb c 95) (either (eqb c 96) (either (eqb c 97) (either (eqb c 99) (eqb c 111))))
 
--- The row of a cause over access w; protected or not; at home or away; card counter below its limit or not
+-- The row of a cause over access w; bare, which is unprotected, or not; at home or away; card counter below its limit or not
 unfoldable pub rowOf : ℕ → Bool → Bool → Bool → ℕ → Row
 rowOf w bare home below c =
     cond (isCard c) (cond bare (cond below CardBelow CardLimit) CardProtected)

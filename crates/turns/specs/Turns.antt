@@ -3,7 +3,7 @@ use Prim.Native.Nat.{ℕ, _+_}
 use mathlib.Core.Bool.{Bool, cond}
 use lib.Dec.{ltb, eqb}
 use Rattle.record.specs.declared.Access.{Access}
-use Rattle.record.specs.New.{newAccess}
+use Rattle.record.specs.New.{newAccess, u1, u2, u3}
 use Rattle.turns.specs.declared.Order.the-variants.{Leave, Stop, Run}
 use Rattle.turns.specs.declared.Orders.{Orders}
 use Rattle.turns.specs.declared.Turn.{Turn}
@@ -29,21 +29,22 @@ keySet set a = still (keyed set a)
 
 -- Accept: "state 5, 5U1, attempt counter 0, T3510 stops, .."
 unfoldable pub accepted : Bool → ℕ → ℕ → Access → Turn
-accepted given count wait a = turnOf (taught given count wait (moved 5 1 0 a)) (ordersOf Stop Leave Leave)
+accepted given count wait a = turnOf (taught given count wait (moved 5 u1 0 a)) (ordersOf Stop Leave Leave)
 
--- "attempt counter up by one unless 5"
-unfoldable pub tried : ℕ → ℕ
-tried n = cond (ltb n 5) (n + 1) n
+-- "up by one unless" at its limit
+unfoldable pub oneMore : ℕ → ℕ → ℕ
+oneMore limit n = cond (ltb n limit) (n + 1) n
 
 -- T3510 out, with the attempt counter now n: "stops; .. state 3. Below 5, T3511 (10 s) starts. At 5, clear identity and equivalents, 5U2, T3502 starts."
 unfoldable pub failed : ℕ → Access → Turn
 failed n a =
     cond (ltb n 5)
     (turnOf (moved 3 (a .status) n a) (ordersOf Stop (Run 10) Leave))
-    (turnOf (emptied (forgotten (moved 3 2 n a))) (ordersOf Stop Leave (Run (a .wait))))
+    (turnOf (emptied (forgotten (moved 3 u2 n a))) (ordersOf Stop Leave (Run (a .wait))))
 
+-- "attempt counter up by one unless 5"
 unfoldable pub t3510Out : Access → Turn
-t3510Out a = failed (tried (a .attempts)) a
+t3510Out a = failed (oneMore 5 (a .attempts)) a
 
 -- T3511 out: stops
 unfoldable pub t3511Out : Access → Turn
@@ -61,44 +62,42 @@ cycled card a = turnOf (moved (cond (eqb card 0) 0 1) (a .status) 0 a) (ordersOf
 unfoldable pub renewed : Turn
 renewed = turnOf (newAccess 1) (ordersOf Stop Stop Stop)
 
+-- The rows of rejects. What they say of lists, marks and network counters stands in brackets: crates rules and entries carry it out.
+
 -- "Every taken reject stops T3510."
 abbrev pub rejected : Access → Turn
 rejected a = turnOf a (ordersOf Stop Leave Leave)
 
--- "counter +1"
-unfoldable pub oneMore : ℕ → ℕ → ℕ
-oneMore limit n = cond (ltb n limit) (n + 1) n
-
--- 3, 6, 7 unprotected, card counter below limit: 5U3, clear identity, counter +1, state 2; over access 0 also equivalents emptied, attempt counter 0
+-- 3, 6, 7 unprotected, card counter below limit: 5U3, clear identity, counter +1, state 2; over access 0 also equivalents emptied, attempt counter 0, (area to roaming list)
 unfoldable pub cardBelow : ℕ → ℕ → Access → Turn
 cardBelow w limit a =
     cond (eqb w 0)
-    (rejected (emptied (counted (oneMore limit (a .cards)) (forgotten (moved 2 3 0 a)))))
-    (rejected (counted (oneMore limit (a .cards)) (forgotten (moved 2 3 (a .attempts) a))))
+    (rejected (emptied (counted (oneMore limit (a .cards)) (forgotten (moved 2 u3 0 a)))))
+    (rejected (counted (oneMore limit (a .cards)) (forgotten (moved 2 u3 (a .attempts) a))))
 
 -- 3, 6, 7 unprotected at limit: 5U3, clear identity, equivalents emptied, state 0
 unfoldable pub cardLimit : Access → Turn
-cardLimit a = rejected (emptied (forgotten (moved 0 3 (a .attempts) a)))
+cardLimit a = rejected (emptied (forgotten (moved 0 u3 (a .attempts) a)))
 
 -- 3, 6, 7 protected: as the row above, and both accesses' card counters to the limit
 unfoldable pub cardProtected : ℕ → Access → Turn
-cardProtected limit a = rejected (counted limit (emptied (forgotten (moved 0 3 (a .attempts) a))))
+cardProtected limit a = rejected (counted limit (emptied (forgotten (moved 0 u3 (a .attempts) a))))
 
 -- 11, 73 away from home: 5U3, clear identity, equivalents emptied, attempt counter 0, (forbidden mark; ban counter); state 6 (access 1: 2)
 unfoldable pub away : ℕ → Bool → Access → Turn
-away w found a = rejected (entered found (emptied (forgotten (moved (cond (eqb w 0) 6 2) 3 0 a))))
+away w found a = rejected (entered found (emptied (forgotten (moved (cond (eqb w 0) 6 2) u3 0 a))))
 
--- 11, 73 unprotected at home: 5U3, clear identity, equivalents emptied, attempt counter 0, state 2
+-- 11, 73 unprotected at home: 5U3, clear identity, equivalents emptied, attempt counter 0, state 2; (access 0: area to roaming list)
 unfoldable pub home : Access → Turn
-home a = rejected (emptied (forgotten (moved 2 3 0 a)))
+home a = rejected (emptied (forgotten (moved 2 u3 0 a)))
 
--- 12 / 13 / 15, access 0: 5U3, clear identity, attempt counter 0, state 2; 13 empties equivalents
+-- 12 / 13 / 15, access 0: 5U3, clear identity, attempt counter 0, state 2; (12 regional list, else roaming); 13 empties equivalents
 unfoldable pub area : ℕ → Access → Turn
-area cause a = cond (eqb cause 13) (rejected (emptied (forgotten (moved 2 3 0 a)))) (rejected (forgotten (moved 2 3 0 a)))
+area cause a = cond (eqb cause 13) (rejected (emptied (forgotten (moved 2 u3 0 a)))) (rejected (forgotten (moved 2 u3 0 a)))
 
 -- 27; 72 over access 1: 5U3, clear identity, attempt counter 0, (N1 mark, N1 counter); state 2
 unfoldable pub n1 : Bool → Access → Turn
-n1 found a = rejected (entered found (forgotten (moved 2 3 0 a)))
+n1 found a = rejected (entered found (forgotten (moved 2 u3 0 a)))
 
 -- The receiving access, row by row
 unfoldable pub rowTurn : Row → ℕ → ℕ → ℕ → Bool → Access → Turn

@@ -4,7 +4,7 @@ use record::and;
 use record::not;
 use record::or;
 ghost use mathlib.Core.Path.{_≡_};
-ghost use mathlib.Core.Bool.{cond, true, false};
+ghost use mathlib.Core.Bool.{cond, false};
 ghost use lib.Dec.{eqb};
 ghost use Rattle.turns.specs.Rows.{isCard, isNetworkNo, isAreaNo, isN1No, isProtocol, rowOf, startsT3247, needsEntry, toRoaming, toRegional};
 ghost use Rattle.turns.specs.declared.Row.the-variants.{CardBelow, CardLimit, CardProtected, Away, Home, Area, N1, Protocol, Other};

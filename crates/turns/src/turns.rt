@@ -4,6 +4,9 @@ use crate::Orders;
 use crate::Row;
 use crate::Turn;
 use record::Access;
+use record::U1;
+use record::U2;
+use record::U3;
 use record::counted;
 use record::emptied;
 use record::entered;
@@ -15,8 +18,8 @@ use record::pending;
 use record::pick;
 use record::taught;
 ghost use mathlib.Core.Path.{_≡_};
-ghost use mathlib.Core.Bool.{cond};
 ghost use Rattle.turns.specs.declared.Order.the-variants.{Leave, Stop, Run};
+ghost use Rattle.record.specs.New.{u2, u3};
 ghost use Rattle.record.specs.Setters as sets;
 ghost use Rattle.turns.specs.Timers.{ordersOf};
 ghost use Rattle.turns.specs.Turns as events;
@@ -60,15 +63,14 @@ pub fn key_set(set: u8, a: Access) -> Turn
 pub fn accepted(given: bool, count: u8, wait: u16, a: Access) -> Turn
     ensures { λ r. ⌜ r ≡ events.accepted given count wait a ⌝ }
 {
-    let b = taught(given, count, wait, moved(5, 1, 0, a));
+    let b = taught(given, count, wait, moved(5, U1, 0, a));
     timed(b, Order::Stop, Order::Leave, Order::Leave)
 }
 
-// "up by one unless 5"
-fn tried(n: u8) -> u8
-    ensures { λ r. ⌜ r ≡ events.tried n ⌝ }
+fn one_more(limit: u8, n: u8) -> u8
+    ensures { λ r. ⌜ r ≡ events.oneMore limit n ⌝ }
 {
-    if n < 5 { n + 1 } else { n }
+    if n < limit { n + 1 } else { n }
 }
 
 // Below 5, T3511 starts.
@@ -87,14 +89,14 @@ fn seconds(wait: u16) -> u32
 
 // At 5, T3502 starts with the stored length.
 fn spent(n: u8, a: Access) -> Turn
-    ensures { λ r. ⌜ r ≡ events.turnOf (sets.emptied (sets.forgotten (sets.moved 3 2 n a))) (ordersOf Stop Leave (Run (a .wait))) ⌝ }
+    ensures { λ r. ⌜ r ≡ events.turnOf (sets.emptied (sets.forgotten (sets.moved 3 u2 n a))) (ordersOf Stop Leave (Run (a .wait))) ⌝ }
 {
-    let b = emptied(forgotten(moved(3, 2, n, a)));
+    let b = emptied(forgotten(moved(3, U2, n, a)));
     timed(b, Order::Stop, Order::Leave, Order::Run(seconds(a.wait)))
 }
 
 // T3510 out, with the attempt counter now n.
-pub fn failed(n: u8, a: Access) -> Turn
+fn failed(n: u8, a: Access) -> Turn
     ensures { λ r. ⌜ r ≡ events.failed n a ⌝ }
 {
     if n < 5 { again(n, a) } else { spent(n, a) }
@@ -103,7 +105,7 @@ pub fn failed(n: u8, a: Access) -> Turn
 pub fn t3510_out(a: Access) -> Turn
     ensures { λ r. ⌜ r ≡ events.t3510Out a ⌝ }
 {
-    failed(tried(a.attempts), a)
+    failed(one_more(5, a.attempts), a)
 }
 
 pub fn t3511_out(a: Access) -> Turn
@@ -141,32 +143,26 @@ fn rejected(a: Access) -> Turn
     timed(a, Order::Stop, Order::Leave, Order::Leave)
 }
 
-// "5U3, clear identity": how every row begins.
+// "5U3, clear identity": how the rows with a cause of their own begin.
 fn barred(state: u8, attempts: u8, a: Access) -> Access
-    ensures { λ r. ⌜ r ≡ sets.forgotten (sets.moved state 3 attempts a) ⌝ }
+    ensures { λ r. ⌜ r ≡ sets.forgotten (sets.moved state u3 attempts a) ⌝ }
 {
-    forgotten(moved(state, 3, attempts, a))
-}
-
-fn one_more(limit: u8, n: u8) -> u8
-    ensures { λ r. ⌜ r ≡ events.oneMore limit n ⌝ }
-{
-    if n < limit { n + 1 } else { n }
+    forgotten(moved(state, U3, attempts, a))
 }
 
 fn card_first(n: u8, a: Access) -> Turn
-    ensures { λ r. ⌜ r ≡ events.rejected (sets.emptied (sets.counted n (sets.forgotten (sets.moved 2 3 0 a)))) ⌝ }
+    ensures { λ r. ⌜ r ≡ events.rejected (sets.emptied (sets.counted n (sets.forgotten (sets.moved 2 u3 0 a)))) ⌝ }
 {
     rejected(emptied(counted(n, barred(2, 0, a))))
 }
 
 fn card_second(n: u8, a: Access) -> Turn
-    ensures { λ r. ⌜ r ≡ events.rejected (sets.counted n (sets.forgotten (sets.moved 2 3 (a .attempts) a))) ⌝ }
+    ensures { λ r. ⌜ r ≡ events.rejected (sets.counted n (sets.forgotten (sets.moved 2 u3 (a .attempts) a))) ⌝ }
 {
     rejected(counted(n, barred(2, a.attempts, a)))
 }
 
-pub fn card_below(w: u8, limit: u8, a: Access) -> Turn
+fn card_below(w: u8, limit: u8, a: Access) -> Turn
     ensures { λ r. ⌜ r ≡ events.cardBelow w limit a ⌝ }
 {
     let n = one_more(limit, a.cards);
@@ -177,32 +173,32 @@ pub fn card_below(w: u8, limit: u8, a: Access) -> Turn
     }
 }
 
-pub fn card_limit(a: Access) -> Turn
+fn card_limit(a: Access) -> Turn
     ensures { λ r. ⌜ r ≡ events.cardLimit a ⌝ }
 {
     rejected(emptied(barred(0, a.attempts, a)))
 }
 
-pub fn card_protected(limit: u8, a: Access) -> Turn
+fn card_protected(limit: u8, a: Access) -> Turn
     ensures { λ r. ⌜ r ≡ events.cardProtected limit a ⌝ }
 {
     rejected(counted(limit, emptied(barred(0, a.attempts, a))))
 }
 
-pub fn away(w: u8, found: bool, a: Access) -> Turn
+fn away(w: u8, found: bool, a: Access) -> Turn
     ensures { λ r. ⌜ r ≡ events.away w found a ⌝ }
 {
     let b = barred(pick(w == 0, 6, 2), 0, a);
     rejected(entered(found, emptied(b)))
 }
 
-pub fn home(a: Access) -> Turn
+fn home(a: Access) -> Turn
     ensures { λ r. ⌜ r ≡ events.home a ⌝ }
 {
     rejected(emptied(barred(2, 0, a)))
 }
 
-pub fn area(cause: u8, a: Access) -> Turn
+fn area(cause: u8, a: Access) -> Turn
     ensures { λ r. ⌜ r ≡ events.area cause a ⌝ }
 {
     let b = barred(2, 0, a);
@@ -213,7 +209,7 @@ pub fn area(cause: u8, a: Access) -> Turn
     }
 }
 
-pub fn n1(found: bool, a: Access) -> Turn
+fn n1(found: bool, a: Access) -> Turn
     ensures { λ r. ⌜ r ≡ events.n1 found a ⌝ }
 {
     rejected(entered(found, barred(2, 0, a)))

@@ -19,7 +19,7 @@ use Rattle.ranges.specs.Valid.{suciOf}
 use Rattle.turns.specs.declared.Order.the-variants.{Stop}
 use Rattle.turns.specs.Timers.{flagAfter}
 use Rattle.turns.specs.Turns as turns
-use Rattle.record.specs.Sides.{hotOf}
+use Rattle.record.specs.Sides.{accessOf, otherOf, hotOf}
 use Rattle.effects.specs.Effects.{ticked, carded, cardEffect, t3247Effect, powerEffect}
 use Rattle.rules.specs.Plan.{askAt, hotAfter, takenPlan, mineOf, deedOf}
 use Rattle.events.specs.Parts.{tableAfter, taskOf, equivalentsAfter, suciAfter}
@@ -47,8 +47,8 @@ none-short xs k h = absurd (omega arith)
 
 module _ (r : Record) (g : Good r) (z : Sized r) (octets : List ℕ) (net code : ℕ) (area : Bool) (sure : ℕ) (s : Seen) (m : Reading) where
   -- T3247 out: marks clear by their counters, and areas marked unprotected leave their lists
-  pub t3247-good : Good (carry r octets (takenPlan (r .hot) (askAt 0 net code area sure) s m (t3247Effect (r .hot))) .next)
-  unfolding takenPlan t3247Effect hotAfter hotOf ticked tableAfter entriesAfter deedOf mineOf equivalentsAfter suciAfter suciOf
+  pub t3247-good : Good (carry r octets (takenPlan (r .hot) (askAt 0 net code area sure) s m (t3247Effect (r .hot) 0)) .next)
+  unfolding takenPlan t3247Effect accessOf otherOf hotAfter hotOf ticked tableAfter entriesAfter deedOf mineOf equivalentsAfter suciAfter suciOf
   t3247-good =
       let a = half-turned (r .hot .dev) (r .hot .a0 .equivalents) (r .hot .a0 .entries) (after (turns.still (r .hot .a0))) (r .equivalents0)
       (swept (r .hot .a0 .entries) (r .hot .dev .banlimit) (r .hot .dev .n1limit) (r .e0))
@@ -58,7 +58,7 @@ module _ (r : Record) (g : Good r) (z : Sized r) (octets : List ℕ) (net code :
       (swept (r .hot .a1 .entries) (r .hot .dev .banlimit) (r .hot .dev .n1limit) (r .e1))
       (still-turned (r .hot .dev .card) (r .hot .dev .cardlimit) (r .hot .a1) (g .half1 .fit) (g .half1 .timely) (g .half1 .carded)) (g .half1 .equals)
       (swept-held (r .hot .dev .banlimit) (r .hot .dev .n1limit) (r .hot .a1 .entries) (r .e1) (z .e1) (g .half1 .held) (g .half1 .fit .entries)) in
-      good-next r octets (takenPlan (r .hot) (askAt 0 net code area sure) s m (t3247Effect (r .hot))) (ticked-fair (r .hot .dev) Stop (g .fair))
+      good-next r octets (takenPlan (r .hot) (askAt 0 net code area sure) s m (t3247Effect (r .hot) 0)) (ticked-fair (r .hot .dev) Stop (g .fair))
       (record { fit = a .fit; timely = a .timely; carded = a .carded; equals = a .equals; held = a .held })
       (record { fit = b .fit; timely = b .timely; carded = b .carded; equals = b .equals; held = b .held })
       (list-kept (taskOf 2 (askAt 0 net code area sure)) (r .hot .dev .roaming) (r .roaming) (z .roaming) (g .roaming) (λ e. absurd (false≢true e)))

@@ -18,7 +18,7 @@ use Rattle.turns.specs.declared.Row.the-variants.{CardBelow, CardLimit, CardPro
 use Rattle.turns.specs.Timers.{flagAfter, ordersOf, clocked}
 use Rattle.turns.specs.Rows.{needsEntry}
 use Rattle.record.specs.Setters.{moved, forgotten, emptied, counted, pending, keyed, taught, entered}
-use Rattle.turns.specs.Turns.{turnOf, rejected, still, started, keySet, accepted, tried, failed, t3510Out, t3511Out, t3502Out, cycled, renewed, oneMore, cardBelow, cardLimit, cardProtected, away, home, area, n1, rowTurn, otherTurn}
+use Rattle.turns.specs.Turns.{turnOf, rejected, still, started, keySet, accepted, failed, t3510Out, t3511Out, t3502Out, cycled, renewed, oneMore, cardBelow, cardLimit, cardProtected, away, home, area, n1, rowTurn, otherTurn}
 use Rattle.validity.proofs.Bools.{either-first, more-fits}
 use Rattle.validity.proofs.Good.{Fit, Timely, Carded}
 use Rattle.validity.proofs.Setters.{grown, fit-moved, fit-forgotten, fit-emptied, fit-counted, fit-pending, fit-keyed, fit-taught, fit-entered, fit-clocked}
@@ -157,8 +157,8 @@ module _ (card limit : ℕ) (a : Access) (g : Fit limit a) where
         at = turnOf (emptied (forgotten (moved 3 2 n a))) (ordersOf Stop Leave (Run (a .wait)))
 
     pub t3510-turned : Turned card limit (a .equivalents) (a .entries) (after (t3510Out a))
-    unfolding t3510Out tried
-    t3510-turned = failed-turned (tried (a .attempts)) (more-fits 5 (a .attempts) (g .mode .2))
+    unfolding t3510Out oneMore
+    t3510-turned = failed-turned (oneMore 5 (a .attempts)) (more-fits 5 (a .attempts) (g .mode .2))
 
     -- a taken reject stops T3510: what is left is that the access fits, has a state with this card, and its counts
     rejected-turned : (m n : ℕ) (b : Access) → Fit limit b → b .equivalents ≤ m → b .entries ≡ n → Turned card limit m n (after (rejected b))

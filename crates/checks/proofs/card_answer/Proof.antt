@@ -7,8 +7,8 @@ use Rattle.checks.proofs.card_answer.Tie as tie
 and-requires : tie.Need-and-requires
 and-requires c κs = search needs
 
-opening-requires : tie.Need-opening-requires
-opening-requires c κs = search needs
+octet-requires : tie.Need-octet-requires
+octet-requires c κs = search needs
 
 and-requires-2 : tie.Need-and-requires-2
 and-requires-2 c κs = search needs
@@ -24,14 +24,14 @@ check-requires c κs = search needs
 
 returns : tie.Need-returns
 unfolding cardAnswer
-returns c = rw (c .check .ensures, c .before .and3 .ensures, c .before .before .network .ensures, c .before .before .before .and2 .ensures, c .before .before .before .before .opening .ensures, c .before .before .before .before .before .and .ensures)
+returns c = rw (c .check .ensures, c .before .and3 .ensures, c .before .before .network .ensures, c .before .before .before .and2 .ensures, c .before .before .before .before .octet .ensures, c .before .before .before .before .before .and .ensures)
 
 pub card-answer-spec : {M : Type 1} → statement M
 card-answer-spec =
     tie.close
     (tie.spec
     and-requires
-    opening-requires
+    octet-requires
     and-requires-2
     network-requires
     and-requires-3

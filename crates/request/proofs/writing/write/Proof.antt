@@ -10,23 +10,23 @@ may-requires c κs = search needs
 returns : tie.Need-returns
 returns c = out-of-range (c .before .before .before .args .r) (c .before .before .before .args .access) _ (c .before .before .before .args .buffer .now) (c .before .may .ensures) (c .if1 .taken)
 
-own-requires : tie.Need-own-requires
-own-requires c κs = search needs
+access-of-requires : tie.Need-access-of-requires
+access-of-requires c κs = search needs
 
 returns-2 : tie.Need-returns-2
-returns-2 c = out-of-state (c .before .before .before .before .before .before .before .args .r) (c .before .before .before .before .before .before .before .args .access) _ _ (c .before .before .before .before .before .may .ensures) (c .before .before .before .before .if1 .left) (c .before .before .own .ensures) (c .before .before .before .before .before .before .before .args .buffer .now) (c .if2 .taken)
+returns-2 c = out-of-state (c .before .before .before .before .before .before .args .r) (c .before .before .before .before .before .before .args .access) _ _ (c .before .before .before .before .may .ensures) (c .before .before .before .if1 .left) (c .before .before .access-of .ensures) (c .before .before .before .before .before .before .args .buffer .now) (c .if2 .taken)
 
 nets-requires : tie.Need-nets-requires
 nets-requires c κs = search needs
 
 compose-requires : tie.Need-compose-requires
-compose-requires c κs = allowed (c .before .before .before .before .before .before .before .before .before .before .before .before .args .r) (c .before .before .before .before .before .before .before .before .before .before .before .before .args .access) _ _ (c .before .before .before .before .before .before .before .before .before .before .may .ensures) (c .before .before .before .before .before .before .before .before .before .if1 .left) (c .before .before .before .before .before .before .before .own .ensures) (c .before .before .before .before .before .if2 .left)
+compose-requires c κs = allowed (c .before .before .before .before .before .before .before .before .before .before .before .args .r) (c .before .before .before .before .before .before .before .before .before .before .before .args .access) _ _ (c .before .before .before .before .before .before .before .before .before .may .ensures) (c .before .before .before .before .before .before .before .before .if1 .left) (c .before .before .before .before .before .before .before .access-of .ensures) (c .before .before .before .before .before .if2 .left)
 
 same-length : tie.Need-same-length
 same-length c = search needs
 
 returns-3 : tie.Need-returns-3
-returns-3 c = written (c .before .before .before .before .before .before .before .before .before .before .before .before .before .before .before .args .r) (c .before .before .before .before .before .before .before .before .before .before .before .before .before .before .before .args .access) _ _ (c .before .before .before .before .before .before .before .before .before .before .before .before .before .may .ensures) (c .before .before .before .before .before .before .before .before .before .before .before .before .if1 .left) (c .before .before .before .before .before .before .before .before .before .before .own .ensures) (c .before .before .before .before .before .before .before .before .if2 .left) _ (c .before .before .before .before .before .before .before .before .before .before .before .before .before .before .before .args .buffer .now) _ _ (c .before .before .before .before .before .nets .ensures) (c .before .before .compose .ensures .0) (c .before .before .compose .ensures .1)
+returns-3 c = written (c .before .before .before .before .before .before .before .before .before .before .before .before .before .before .args .r) (c .before .before .before .before .before .before .before .before .before .before .before .before .before .before .args .access) _ _ (c .before .before .before .before .before .before .before .before .before .before .before .before .may .ensures) (c .before .before .before .before .before .before .before .before .before .before .before .if1 .left) (c .before .before .before .before .before .before .before .before .before .before .access-of .ensures) (c .before .before .before .before .before .before .before .before .if2 .left) _ (c .before .before .before .before .before .before .before .before .before .before .before .before .before .before .args .buffer .now) _ _ (c .before .before .before .before .before .nets .ensures) (c .before .before .compose .ensures .0) (c .before .before .compose .ensures .1)
 
 pub write-spec : {M : Type 1} → statement M
 write-spec =
@@ -34,7 +34,7 @@ write-spec =
     (tie.spec
     may-requires
     returns
-    own-requires
+    access-of-requires
     returns-2
     nets-requires
     compose-requires

@@ -4,8 +4,8 @@ use borrow.Author.Needs.{needs}
 use Rattle.turns.proofs.turns.t3510_out.Statement.{statement}
 use Rattle.turns.proofs.turns.t3510_out.Tie as tie
 
-tried-requires : tie.Need-tried-requires
-tried-requires c κs = search needs
+one-more-requires : tie.Need-one-more-requires
+one-more-requires c κs = search needs
 
 failed-requires : tie.Need-failed-requires
 failed-requires c κs = search needs
@@ -15,4 +15,4 @@ unfolding t3510Out
 returns c = cc
 
 pub t3510-out-spec : {M : Type 1} → statement M
-t3510-out-spec = tie.close (tie.spec tried-requires failed-requires returns)
+t3510-out-spec = tie.close (tie.spec one-more-requires failed-requires returns)
