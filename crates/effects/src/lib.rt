@@ -54,34 +54,11 @@ pub struct Sides {
 }
 
 // The turn of access 0, of an event's own access and the other one; turned round, that of access 1.
+// Each effect sorts for itself: one function that put all of them together would copy the turns once more.
 fn side(w: u8, mine: Turn, theirs: Turn) -> Turn
     ensures { λ r. ⌜ r ≡ cond (eqb w 0) mine theirs ⌝ }
 {
     if w == 0 { mine } else { theirs }
-}
-
-// A taken event of access w, sorted by access.
-fn sort(
-    w: u8,
-    dev: Device,
-    mine: Turn,
-    theirs: Turn,
-    t3247: Order,
-    work: Work,
-    restart: bool,
-) -> Sides
-    ensures { λ r. ⌜ r ≡ sidesOf w (record { dev = dev; mine = mine; theirs = theirs; t3247 = t3247; work = work; restart = restart }) ⌝ }
-{
-    let t0 = side(w, mine, theirs);
-    let t1 = side(w, theirs, mine);
-    Sides {
-        dev,
-        t0,
-        t1,
-        t3247,
-        work,
-        restart,
-    }
 }
 
 pub fn ticked(t3247: u8, d: Device) -> Device
@@ -123,8 +100,19 @@ pub fn idle() -> Work
 pub fn plain(h: Hot, w: u8, t: Turn, restart: bool) -> Sides
     ensures { λ r. ⌜ r ≡ sidesOf w (rules.plain h w t restart) ⌝ }
 {
+    let dev = h.dev;
     let theirs = still(other_of(h, w));
-    sort(w, h.dev, t, theirs, Order::Leave, idle(), restart)
+    let work = idle();
+    let t0 = side(w, t, theirs);
+    let t1 = side(w, theirs, t);
+    Sides {
+        dev,
+        t0,
+        t1,
+        t3247: Order::Leave,
+        work,
+        restart,
+    }
 }
 
 pub fn card_effect(h: Hot, home: u32, suci: u8) -> Sides
@@ -133,7 +121,14 @@ pub fn card_effect(h: Hot, home: u32, suci: u8) -> Sides
     let dev = carded(home, suci, h.dev);
     let turn = renewed();
     let work = work_of(entries::FRESH, areas::CLEAR, areas::CLEAR, CARDED);
-    sort(0, dev, turn, turn, Order::Stop, work, false)
+    Sides {
+        dev,
+        t0: turn,
+        t1: turn,
+        t3247: Order::Stop,
+        work,
+        restart: false,
+    }
 }
 
 pub fn start_effect(h: Hot, w: u8, net: u32, code: u32) -> Sides
@@ -158,11 +153,21 @@ fn wait_of(timed: bool, wait: u16, other: u16) -> u16
 pub fn accept_effect(h: Hot, w: u8, g: Accept) -> Sides
     ensures { λ r. ⌜ r ≡ sidesOf w (rules.acceptEffect h w g) ⌝ }
 {
+    let dev = h.dev;
     let wait = wait_of(g.timed, g.wait, 720);
     let mine = accepted(g.given, g.count, wait, access_of(h, w));
     let theirs = still(other_of(h, w));
     let work = work_of(entries::ACCEPT, 0, 0, ACCEPTED);
-    sort(w, h.dev, mine, theirs, Order::Leave, work, false)
+    let t0 = side(w, mine, theirs);
+    let t1 = side(w, theirs, mine);
+    Sides {
+        dev,
+        t0,
+        t1,
+        t3247: Order::Leave,
+        work,
+        restart: false,
+    }
 }
 
 fn clock_effect(h: Hot, number: u8, w: u8) -> Sides
@@ -181,10 +186,20 @@ fn clock_effect(h: Hot, number: u8, w: u8) -> Sides
 fn t3247_effect(h: Hot, w: u8) -> Sides
     ensures { λ r. ⌜ r ≡ sidesOf w (rules.t3247Effect h w) ⌝ }
 {
+    let dev = h.dev;
     let mine = still(access_of(h, w));
     let theirs = still(other_of(h, w));
     let work = work_of(entries::SWEEP, areas::SWEEP, areas::SWEEP, 0);
-    sort(w, h.dev, mine, theirs, Order::Stop, work, false)
+    let t0 = side(w, mine, theirs);
+    let t1 = side(w, theirs, mine);
+    Sides {
+        dev,
+        t0,
+        t1,
+        t3247: Order::Stop,
+        work,
+        restart: false,
+    }
 }
 
 pub fn timer_effect(h: Hot, number: u8, w: u8) -> Sides
@@ -200,10 +215,17 @@ pub fn power_effect(h: Hot) -> Sides
     ensures { λ r. ⌜ r ≡ sidesOf 0 (rules.powerEffect h) ⌝ }
 {
     let dev = h.dev;
-    let mine = cycled(dev.card, h.a0);
-    let theirs = cycled(dev.card, h.a1);
+    let t0 = cycled(dev.card, h.a0);
+    let t1 = cycled(dev.card, h.a1);
     let work = work_of(entries::POWER, areas::CLEAR, areas::CLEAR, 0);
-    sort(0, dev, mine, theirs, Order::Stop, work, false)
+    Sides {
+        dev,
+        t0,
+        t1,
+        t3247: Order::Stop,
+        work,
+        restart: false,
+    }
 }
 
 fn run_if(starts: bool, draw: u16) -> Order
@@ -254,5 +276,14 @@ pub fn reject_effect(h: Hot, w: u8, sure: u8, draw: u16, found: bool, cause: u8,
     let theirs = other_turn(row, dev.cardlimit, other_of(h, w));
     let t3247 = reject_t3247(dev.t3247, sure, cause, draw);
     let work = row_work(row, w, cause);
-    sort(w, dev, mine, theirs, t3247, work, false)
+    let t0 = side(w, mine, theirs);
+    let t1 = side(w, theirs, mine);
+    Sides {
+        dev,
+        t0,
+        t1,
+        t3247,
+        work,
+        restart: false,
+    }
 }

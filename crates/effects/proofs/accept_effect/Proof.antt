@@ -22,12 +22,26 @@ still-requires c κs = search needs
 work-of-requires : tie.Need-work-of-requires
 work-of-requires c κs = search needs
 
-sort-requires : tie.Need-sort-requires
-sort-requires c κs = search needs
+side-requires : tie.Need-side-requires
+side-requires c κs = search needs
+
+side-requires-2 : tie.Need-side-requires-2
+side-requires-2 c κs = search needs
 
 returns : tie.Need-returns
-unfolding acceptEffect sidesOf
-returns c = rw (c .sort .ensures, c .before .work-of .ensures, c .before .before .still .ensures, c .before .before .before .other-of .ensures, c .before .before .before .before .accepted .ensures, c .before .before .before .before .before .access-of .ensures, c .before .before .before .before .before .before .wait-of .ensures)
+unfolding sidesOf acceptEffect
+returns c = rw (c .side2 .ensures, c .before .side .ensures, c .before .before .work-of .ensures, c .before .before .before .still .ensures, c .before .before .before .before .other-of .ensures, c .before .before .before .before .before .accepted .ensures, c .before .before .before .before .before .before .access-of .ensures, c .before .before .before .before .before .before .before .wait-of .ensures)
 
 pub accept-effect-spec : {M : Type 1} → statement M
-accept-effect-spec = tie.close (tie.spec wait-of-requires access-of-requires accepted-requires other-of-requires still-requires work-of-requires sort-requires returns)
+accept-effect-spec =
+    tie.close
+    (tie.spec
+    wait-of-requires
+    access-of-requires
+    accepted-requires
+    other-of-requires
+    still-requires
+    work-of-requires
+    side-requires
+    side-requires-2
+    returns)

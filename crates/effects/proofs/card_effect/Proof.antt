@@ -13,12 +13,9 @@ renewed-requires c κs = search needs
 work-of-requires : tie.Need-work-of-requires
 work-of-requires c κs = search needs
 
-sort-requires : tie.Need-sort-requires
-sort-requires c κs = search needs
-
 returns : tie.Need-returns
-unfolding cardEffect sidesOf
-returns c = rw (c .sort .ensures, c .before .work-of .ensures, c .before .before .renewed .ensures, c .before .before .before .carded .ensures)
+unfolding sidesOf cardEffect
+returns c = rw (c .work-of .ensures, c .before .renewed .ensures, c .before .before .carded .ensures)
 
 pub card-effect-spec : {M : Type 1} → statement M
-card-effect-spec = tie.close (tie.spec carded-requires renewed-requires work-of-requires sort-requires returns)
+card-effect-spec = tie.close (tie.spec carded-requires renewed-requires work-of-requires returns)

@@ -13,12 +13,15 @@ still-requires c κs = search needs
 idle-requires : tie.Need-idle-requires
 idle-requires c κs = search needs
 
-sort-requires : tie.Need-sort-requires
-sort-requires c κs = search needs
+side-requires : tie.Need-side-requires
+side-requires c κs = search needs
+
+side-requires-2 : tie.Need-side-requires-2
+side-requires-2 c κs = search needs
 
 returns : tie.Need-returns
 unfolding sidesOf
-returns c = rw (c .sort .ensures, c .before .idle .ensures, c .before .before .still .ensures, c .before .before .before .other-of .ensures)
+returns c = rw (c .side2 .ensures, c .before .side .ensures, c .before .before .idle .ensures, c .before .before .before .still .ensures, c .before .before .before .before .other-of .ensures)
 
 pub plain-spec : {M : Type 1} → statement M
-plain-spec = tie.close (tie.spec other-of-requires still-requires idle-requires sort-requires returns)
+plain-spec = tie.close (tie.spec other-of-requires still-requires idle-requires side-requires side-requires-2 returns)

@@ -13,12 +13,9 @@ cycled-requires-2 c κs = search needs
 work-of-requires : tie.Need-work-of-requires
 work-of-requires c κs = search needs
 
-sort-requires : tie.Need-sort-requires
-sort-requires c κs = search needs
-
 returns : tie.Need-returns
-unfolding powerEffect sidesOf
-returns c = rw (c .sort .ensures, c .before .work-of .ensures, c .before .before .cycled2 .ensures, c .before .before .before .cycled .ensures)
+unfolding sidesOf powerEffect
+returns c = rw (c .work-of .ensures, c .before .cycled2 .ensures, c .before .before .cycled .ensures)
 
 pub power-effect-spec : {M : Type 1} → statement M
-power-effect-spec = tie.close (tie.spec cycled-requires cycled-requires-2 work-of-requires sort-requires returns)
+power-effect-spec = tie.close (tie.spec cycled-requires cycled-requires-2 work-of-requires returns)

@@ -22,12 +22,26 @@ reject-t3247-requires c κs = search needs
 row-work-requires : tie.Need-row-work-requires
 row-work-requires c κs = search needs
 
-sort-requires : tie.Need-sort-requires
-sort-requires c κs = search needs
+side-requires : tie.Need-side-requires
+side-requires c κs = search needs
+
+side-requires-2 : tie.Need-side-requires-2
+side-requires-2 c κs = search needs
 
 returns : tie.Need-returns
-unfolding rejectEffect sidesOf
-returns c = rw (c .sort .ensures, c .before .row-work .ensures, c .before .before .reject-t3247 .ensures, c .before .before .before .other-turn .ensures, c .before .before .before .before .other-of .ensures, c .before .before .before .before .before .row-turn .ensures, c .before .before .before .before .before .before .access-of .ensures)
+unfolding sidesOf rejectEffect
+returns c = rw (c .side2 .ensures, c .before .side .ensures, c .before .before .row-work .ensures, c .before .before .before .reject-t3247 .ensures, c .before .before .before .before .other-turn .ensures, c .before .before .before .before .before .other-of .ensures, c .before .before .before .before .before .before .row-turn .ensures, c .before .before .before .before .before .before .before .access-of .ensures)
 
 pub reject-effect-spec : {M : Type 1} → statement M
-reject-effect-spec = tie.close (tie.spec access-of-requires row-turn-requires other-of-requires other-turn-requires reject-t3247-requires row-work-requires sort-requires returns)
+reject-effect-spec =
+    tie.close
+    (tie.spec
+    access-of-requires
+    row-turn-requires
+    other-of-requires
+    other-turn-requires
+    reject-t3247-requires
+    row-work-requires
+    side-requires
+    side-requires-2
+    returns)

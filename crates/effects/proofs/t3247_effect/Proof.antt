@@ -19,12 +19,15 @@ still-requires-2 c κs = search needs
 work-of-requires : tie.Need-work-of-requires
 work-of-requires c κs = search needs
 
-sort-requires : tie.Need-sort-requires
-sort-requires c κs = search needs
+side-requires : tie.Need-side-requires
+side-requires c κs = search needs
+
+side-requires-2 : tie.Need-side-requires-2
+side-requires-2 c κs = search needs
 
 returns : tie.Need-returns
-unfolding t3247Effect sidesOf
-returns c = rw (c .sort .ensures, c .before .work-of .ensures, c .before .before .still2 .ensures, c .before .before .before .other-of .ensures, c .before .before .before .before .still .ensures, c .before .before .before .before .before .access-of .ensures)
+unfolding sidesOf t3247Effect
+returns c = rw (c .side2 .ensures, c .before .side .ensures, c .before .before .work-of .ensures, c .before .before .before .still2 .ensures, c .before .before .before .before .other-of .ensures, c .before .before .before .before .before .still .ensures, c .before .before .before .before .before .before .access-of .ensures)
 
 pub t3247-effect-spec : {M : Type 1} → statement M
-t3247-effect-spec = tie.close (tie.spec access-of-requires still-requires other-of-requires still-requires-2 work-of-requires sort-requires returns)
+t3247-effect-spec = tie.close (tie.spec access-of-requires still-requires other-of-requires still-requires-2 work-of-requires side-requires side-requires-2 returns)
