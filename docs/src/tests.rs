@@ -677,6 +677,23 @@ fn t3511_out() {
     assert_eq!(shown(&record, 0), FAILED);
 }
 
+/// Of a record handed in: a timer that does not run is left, one that runs is started again.
+#[test]
+fn timers_of_a_record_handed_in() {
+    let mut record = pending(0, AWAY);
+    record.access[0].t3510 = false;
+    record.access[0].t3511 = true;
+    record.access[0].t3502 = true;
+    for (cause, timer, seconds) in [(22, T3511, 10), (95, T3502, 60)] {
+        let mut record = record;
+        let mut expected = Reply::of(0);
+        expected.timers[timer] = Change::Started(seconds);
+        assert_eq!(reject(&mut record, 0, 0, cause), expected);
+    }
+    assert_eq!(out(&mut record, 2, 0).restart, Some(0));
+    assert_eq!(out(&mut record, 3, 0).restart, Some(0));
+}
+
 #[test]
 fn timer_checks() {
     let mut record = limited(3);
@@ -770,6 +787,8 @@ fn power() {
     let mut bare = Record::new(record.limits, &[0], &[0, 0]);
     assert_eq!(bare.power(), Reply::of(0));
     assert_eq!((bare.access[0].state, bare.access[1].state), (0, 0));
+    bare.t3247 = true;
+    assert_eq!(bare.power().timers[T3247], Change::Stopped);
 }
 
 #[test]
@@ -852,6 +871,7 @@ fn written(record: &Record, a: u8) -> Vec<u8> {
         assert_eq!(request::write(record, a, &mut buffer), Err(12));
         assert!(buffer.iter().all(|&octet| octet == 0xEE));
     }
+    assert_eq!(request::write(record, a, &mut buffer[..length]), Ok(length));
     buffer[..length].to_vec()
 }
 
