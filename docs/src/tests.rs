@@ -200,6 +200,20 @@ fn every_other_cause_fails() {
     }
 }
 
+/// A network that differs from home in one octet alone is away, and has its own marks.
+#[test]
+fn one_octet_makes_another_network() {
+    for near in [[0x10, 0xF1, 0x10], [0x00, 0x11, 0x10], [0x00, 0xF1, 0x11]] {
+        let mut record = pending(0, near);
+        assert_eq!(start(&mut record, 1, HOME), 0);
+        assert_eq!(out(&mut record, 1, 1).answer, 0);
+        assert_eq!(reject(&mut record, 0, 0, 11), reply(0, true, None));
+        assert_eq!(shown(&record, 0), "6 5U3 a0 - eq0 c11 e[10F-] r[] g[]");
+        assert_eq!(start(&mut record, 0, near), 8);
+        assert_eq!(start(&mut record, 0, HOME), 0);
+    }
+}
+
 #[test]
 fn card_row_at_the_limit() {
     for a in 0..2 {
@@ -283,6 +297,58 @@ fn bans() {
     assert_eq!(out(&mut record, 4, 0).answer, 11);
     record.power();
     assert_eq!(ban(&record), (3, true));
+}
+
+/// Limits 2, 3 and 4, and a card.
+fn apart() -> Record {
+    let mut record = Record::new(Limits { card: 2, ban: 3, n1: 4 }, &[0x00], &[0xF0, 0xF0]);
+    assert_eq!(record.card(HOME, &SUCI).answer, 0);
+    record
+}
+
+/// Each network counter goes to its own limit, and T3247 and a power cycle lift below that one.
+#[test]
+fn network_counters_have_their_own_limits() {
+    for (a, cause, limit) in [(0, 11, 3), (1, 73, 3), (0, 27, 4), (1, 27, 4), (1, 72, 4)] {
+        let mut record = apart();
+        for count in 1..=limit + 1 {
+            assert_eq!(record.start(a, 1, area(AWAY)).answer, 0);
+            assert_eq!(reject(&mut record, a, 0, cause).answer, 0);
+            let mut later = record;
+            assert_eq!(out(&mut later, 4, 0).answer, 0);
+            assert_eq!(record.power().answer, 0);
+            let marked = |record: &Record| {
+                let entry = record.access[a as usize].entries[0];
+                assert_eq!(entry.ban + entry.n1, limit.min(count), "cause {cause} access {a}");
+                (entry.forbidden, entry.n1_barred)
+            };
+            let (stays, ban) = (count >= limit, limit == 3);
+            assert_eq!(marked(&later), (ban && stays, !ban && stays), "cause {cause} access {a}");
+            assert_eq!(marked(&record), (ban && stays, false), "cause {cause} access {a}");
+        }
+        let mut record = apart();
+        assert_eq!(start(&mut record, a, AWAY), 0);
+        assert_eq!(reject(&mut record, a, 1, cause).answer, 0);
+        let entry = record.access[a as usize].entries[0];
+        assert_eq!(entry.ban + entry.n1, limit, "cause {cause} access {a}");
+    }
+}
+
+#[test]
+fn card_counters_have_their_own_limit() {
+    for a in 0..2 {
+        let mut record = apart();
+        for (count, state) in [(1, 2), (2, 2), (2, 0)] {
+            assert_eq!(record.power().answer, 0);
+            assert_eq!(start(&mut record, a as u8, AWAY), 0);
+            assert_eq!(reject(&mut record, a as u8, 0, 3).answer, 0);
+            assert_eq!((record.access[a].cards, record.access[a].state), (count, state));
+        }
+        let mut record = apart();
+        assert_eq!(start(&mut record, a as u8, AWAY), 0);
+        assert_eq!(reject(&mut record, a as u8, 1, 3).answer, 0);
+        assert_eq!((record.access[0].cards, record.access[1].cards), (2, 2));
+    }
 }
 
 /// Fact 7: the two-access rule.
@@ -611,6 +677,23 @@ fn t3511_out() {
     assert_eq!(shown(&record, 0), FAILED);
 }
 
+/// Of a record handed in: a timer that does not run is left, one that runs is started again.
+#[test]
+fn timers_of_a_record_handed_in() {
+    let mut record = pending(0, AWAY);
+    record.access[0].t3510 = false;
+    record.access[0].t3511 = true;
+    record.access[0].t3502 = true;
+    for (cause, timer, seconds) in [(22, T3511, 10), (95, T3502, 60)] {
+        let mut record = record;
+        let mut expected = Reply::of(0);
+        expected.timers[timer] = Change::Started(seconds);
+        assert_eq!(reject(&mut record, 0, 0, cause), expected);
+    }
+    assert_eq!(out(&mut record, 2, 0).restart, Some(0));
+    assert_eq!(out(&mut record, 3, 0).restart, Some(0));
+}
+
 #[test]
 fn timer_checks() {
     let mut record = limited(3);
@@ -704,6 +787,8 @@ fn power() {
     let mut bare = Record::new(record.limits, &[0], &[0, 0]);
     assert_eq!(bare.power(), Reply::of(0));
     assert_eq!((bare.access[0].state, bare.access[1].state), (0, 0));
+    bare.t3247 = true;
+    assert_eq!(bare.power().timers[T3247], Change::Stopped);
 }
 
 #[test]
@@ -786,6 +871,7 @@ fn written(record: &Record, a: u8) -> Vec<u8> {
         assert_eq!(request::write(record, a, &mut buffer), Err(12));
         assert!(buffer.iter().all(|&octet| octet == 0xEE));
     }
+    assert_eq!(request::write(record, a, &mut buffer[..length]), Ok(length));
     buffer[..length].to_vec()
 }
 
@@ -793,6 +879,7 @@ fn written(record: &Record, a: u8) -> Vec<u8> {
 fn requests() {
     let mut record = limited(3);
     assert_eq!(request::write(&record, 0, &mut [0; 200]), Err(6));
+    assert_eq!(request::write(&record, 0, &mut []), Err(6));
     assert_eq!(request::write(&record, 2, &mut [0; 200]), Err(1));
     start(&mut record, 0, AWAY);
     let plain = octets("7E 00 41 71 00 09 01 00 F1 10 F0 FF 00 00 07 2E 02 F0 F0");
@@ -830,10 +917,10 @@ fn requests() {
     assert!(request::read(&written(&record, 0)).is_ok());
 }
 
-/// The identity for GUTIs of two networks, either or none held.
+/// The identity for GUTIs of two networks, either or none held; their last octets differ.
 #[test]
 fn identities() {
-    let guti = |network: Network| [network[0], network[1], network[2], 1, 2, 3, 4, 5, 6, 7];
+    let guti = |[x, y, z]: Network, last| [x, y, z, 1, 2, 3, 4, 5, 6, last];
     let far: Network = [0x00, 0xF9, 0x90];
     // This access's GUTI, the other's, and which is sent: 0 this, 1 the other, 2 the SUCI.
     for (this, other, sent) in [
@@ -845,18 +932,21 @@ fn identities() {
         (Some(far), Some(far), 0),
         (None, Some(far), 1),
         (None, Some(EQUIVALENT), 1),
+        (Some([0x10, 0xF2, 0x20]), Some(EQUIVALENT), 1),
+        (Some([0x00, 0x12, 0x20]), Some(EQUIVALENT), 1),
+        (Some([0x00, 0xF2, 0x21]), Some(EQUIVALENT), 1),
         (Some(far), None, 0),
         (None, None, 2),
     ] {
         for a in 0..2 {
             let mut record = pending(a, AWAY);
-            record.access[a].guti = this.map(guti);
-            record.access[1 - a].guti = other.map(guti);
+            record.access[a].guti = this.map(|network| guti(network, 7));
+            record.access[1 - a].guti = other.map(|network| guti(network, 8));
             record.access[1 - a].equivalents = List::of(&[far]);
             let mut expected = vec![0xF2];
             match sent {
-                0 => expected.extend(guti(this.unwrap())),
-                1 => expected.extend(guti(other.unwrap())),
+                0 => expected.extend(guti(this.unwrap(), 7)),
+                1 => expected.extend(guti(other.unwrap(), 8)),
                 _ => expected = SUCI.to_vec(),
             }
             let octets = written(&record, a as u8);
@@ -915,6 +1005,8 @@ fn requests_read_back() {
     }
     let turned = with("31", suci, "52 0 1 2 3 4 5 2E 02 F0 F0 10 00 10 01 00").unwrap();
     assert_eq!((turned.area, turned.security, turned.capability), (Some(16..22), 24..26, None));
+    let twice = with("31", suci, "2E 02 F0 F0 53 0 52 0 1 2 3 4 5 52 0 1 2 3 4 5").unwrap();
+    assert_eq!((twice.area, twice.security, twice.capability), (Some(22..28), 17..19, None));
     assert_eq!(request::read(&[]), Err(3));
     assert_eq!(
         request::read(&octets("7E 00 42 71 00 09 01 00 F1 10 F0 FF 00 00 07 2E 02 F0 F0")),

@@ -82,10 +82,17 @@ const CAUSES: [u8; 24] =
     [3, 6, 7, 11, 73, 12, 13, 15, 27, 72, 95, 96, 97, 99, 111, 22, 5, 9, 10, 11, 27, 13, 62, 0];
 const ONE: [u8; 6] = [0x80, 0x9F, 0xA1, 0xB0, 0xFF, 0xD2];
 const SHORT: [u8; 12] = [0x10, 0x2E, 0x52, 0x5E, 0x5F, 0x15, 0x27, 0x31, 0x6F, 0x34, 0x4A, 0x16];
+/// 0 s, the most of each unit, and deactivated.
+const TIMERS: [u8; 5] = [0x00, 0x1F, 0x3F, 0x5F, 0xE5];
 const LONG: [u8; 7] = [0x70, 0x71, 0x72, 0x75, 0x79, 0x7F, 0x77];
 
-/// Two- and three-digit MNCs; the first two are homes.
+/// Two- and three-digit MNCs; the first three are homes. Each of the first eight differs from
+/// three others in one octet alone, so that a network compared on two octets shows.
 fn network(index: usize) -> [u8; 3] {
+    if index < 8 {
+        let bit = |place: usize, octets: [u8; 2]| octets[index >> place & 1];
+        return [bit(2, [0x00, 0x10]), bit(1, [0xF1, 0x11]), bit(0, [0x00, 0x20])];
+    }
     let digit = |value: usize| (value % 10) as u8;
     let third = if index % 3 == 2 { digit(index + 4) } else { 15 };
     [digit(index / 10) << 4, third << 4 | digit(index + 1), digit(index) << 4 | digit(index / 7)]
@@ -325,7 +332,11 @@ impl Generator {
             }
             _ => {
                 let length = if self.spoil(20) { self.random.below(4) } else { 1 };
-                self.element(0x16, length)
+                let mut octets = self.element(0x16, length);
+                if length > 0 && self.random.odds(50) {
+                    octets[2] = self.random.pick(&TIMERS);
+                }
+                octets
             }
         }
     }
