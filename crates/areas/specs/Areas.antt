@@ -4,6 +4,7 @@ use mathlib.Core.Bool.{Bool, cond}
 use mathlib.Core.List.{List, [], _∷_, _++_}
 use lib.Dec.{ltb, eqb}
 use lib.ListN.{set, getD, take, drop, length, replicate}
+use Rattle.laws.specs.Bounds.{atMost}
 use Rattle.laws.specs.Upto.{seekTo}
 use Rattle.areas.specs.declared.Task.{Task}
 
@@ -23,7 +24,7 @@ sameArea area x = eqb (areaIn x) area
 
 -- areas in use: a count above forty counts as forty
 unfoldable pub sizeOf : ℕ → ℕ
-sizeOf n = cond (ltb n 40) n 40
+sizeOf n = atMost 40 n
 
 unfoldable pub placeIn : ℕ → ℕ → List ℕ → ℕ
 placeIn area count xs = seekTo (sameArea area) (sizeOf count) xs

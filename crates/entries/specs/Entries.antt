@@ -1,9 +1,10 @@
 -- One access's entries and what becomes of them. Assumes nothing.
-use Prim.Native.Nat.{ℕ, _+_}
+use Prim.Native.Nat.{ℕ}
 use mathlib.Core.Bool.{Bool, cond}
 use mathlib.Core.List.{List}
 use lib.Dec.{ltb, eqb}
 use lib.ListN.{set, getD, replicate}
+use Rattle.laws.specs.Bounds.{atMost, oneMore}
 use Rattle.laws.specs.Upto.{upto, seekTo}
 use Rattle.entries.specs.declared.Entries.{Entries}
 use Rattle.entries.specs.declared.Seen.{Seen}
@@ -33,7 +34,7 @@ sameNet a b = eqb b a
 
 -- entries in use: a count above sixteen counts as sixteen
 unfoldable pub sizeOf : ℕ → ℕ
-sizeOf n = cond (ltb n 16) n 16
+sizeOf n = atMost 16 n
 
 -- the entry of a network, or the first free place
 unfoldable pub placeIn : ℕ → ℕ → List ℕ → ℕ
@@ -57,7 +58,7 @@ liftMark limit n mark = cond (eqb n 0) mark (cond (ltb n limit) 0 mark)
 
 -- "+1 if below limit, or to the limit if protected"
 unfoldable pub bumped : ℕ → ℕ → ℕ → ℕ
-bumped limit sure n = cond (eqb sure 0) (cond (ltb n limit) (n + 1) n) limit
+bumped limit sure n = cond (eqb sure 0) (oneMore limit n) limit
 
 unfoldable pub putAt : List ℕ → ℕ → ℕ → List ℕ
 putAt xs at v = cond (ltb at 16) (set xs at v) xs

@@ -3,6 +3,7 @@ ghost use mathlib.Core.Path.{_≡_};
 ghost use mathlib.Core.Bool.{cond};
 ghost use Prim.Native.Nat.{_≤_};
 ghost use lib.ListN.{replicate};
+ghost use Rattle.laws.specs.Bounds.{oneMore};
 ghost use Rattle.laws.specs.Upto.{upto, seekTo};
 ghost use Rattle.entries.specs.Entries.{sameNet, sizeOf, liftMark, bumped, putAt, raised, peekAt, seenIn, entriesOf, banned, none, entriesAfter};
 
@@ -119,14 +120,20 @@ fn sweep(marks: &mut [u8; 16], counts: &[u8; 16], n: usize, limit: u8)
     }
 }
 
+// Up by one unless at its limit.
+pub fn one_more(limit: u8, n: u8) -> u8
+    ensures { λ r. ⌜ r ≡ oneMore limit n ⌝ }
+{
+    if n < limit { n + 1 } else { n }
+}
+
 fn bump(n: u8, limit: u8, sure: u8) -> u8
     ensures { λ r. ⌜ r ≡ bumped limit sure n ⌝ }
 {
     if sure == 0 {
-        if n < limit { n + 1 } else { n }
-    } else {
-        limit
+        return one_more(limit, n);
     }
+    limit
 }
 
 // Sixteen is the place in a full table: nothing is stored there.

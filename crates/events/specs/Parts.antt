@@ -3,7 +3,8 @@ use Prim.Native.Nat.{ℕ, zero, suc}
 use mathlib.Core.Bool.{Bool, cond}
 use mathlib.Core.List.{List, [], _∷_}
 use lib.ListN.{length, getD, drop}
-use lib.Dec.{ltb, eqb}
+use lib.Dec.{eqb}
+use Rattle.laws.specs.Bounds.{atMost}
 use Rattle.laws.specs.Upto.{copied}
 use Rattle.record.specs.Tests.{both, either}
 use Rattle.record.specs.Network.{networkOf}
@@ -39,7 +40,7 @@ listedOf q h roaming regional =
 
 -- what is planned, once that is known and the octets are read
 unfoldable pub plannedBy : Hot → Event → List ℕ → Seen → Bool → Plan
-plannedBy h e octets s l = planOf h e (askOf h e) s l (heardOf e octets) octets
+plannedBy h e octets s l = planOf h e s l (heardOf e octets) octets
 
 unfoldable pub plannedOf : Hot → Event → List ℕ → Entries → Entries → List ℕ → List ℕ → Plan
 plannedOf h e octets e0 e1 roaming regional = plannedBy h e octets (seenOf (askOf h e) h e0 e1) (listedOf (askOf h e) h roaming regional)
@@ -103,10 +104,6 @@ partsAfter h e octets e0 e1 roaming regional = carriedOut (plannedOf h e octets 
 unfoldable pub networksOf : ℕ → List ℕ → List ℕ
 networksOf zero s = []
 networksOf (suc n) s = networkOf (getD s 0 0) (getD s 1 0) (getD s 2 0) ∷ networksOf n (drop 3 s)
-
--- no more than an array holds
-abbrev pub atMost : ℕ → ℕ → ℕ
-atMost m n = cond (ltb n m) n m
 
 -- keep: 1 an accept's GUTI and equivalents, on its access; 2 a card's SUCI, all else of a new record
 abbrev pub isAccepted : Plan → ℕ → Bool

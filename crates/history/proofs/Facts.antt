@@ -28,5 +28,5 @@ use Rattle.history.specs.Cell.{cellIn, entriesIn, cellOf}
 use Rattle.history.specs.Facts.{lineOf, linesOf, rejected, seen, asciiOf, pageOf, facts, AllHold}
 
 pub shown : AllHold facts
-unfolding facts firstRecord lineOf linesOf rejected seen asciiOf pageOf cellIn entriesIn cellOf upto.upto upto.copied upto.seekTo upto.allTo upto.distinctTo octets.formatOf octets.leadOf octets.contentsOf octets.sizeOf octets.elementOf octets.joined octets.elementsOf octets.keptOf octets.gatheredOf octets.gatherOf timers.unitOf timers.spanOf messages.gutiOf messages.countOf messages.tripletsOf messages.waitOf messages.acceptOf messages.acceptedOf messages.acceptReading messages.rejectedOf messages.rejectReading messages.typeReading messages.openedBy messages.readingOf entries.sizeOf entries.placeIn entries.peekAt entries.seenIn entries.liftMark entries.bumped entries.putAt entries.clearUnless entries.raised entries.banned entries.barredBy entries.accepted entries.swept entries.cycled entries.none entries.entriesAfter areas.sizeOf areas.placeIn areas.listedIn areas.placed areas.placedCount areas.kept areas.stayed areas.sweptList areas.listAfter areas.countAfter network.isNetwork new.newDevice new.newAccess new.emptyRecord new.newRecord valid.deviceRanges valid.modeRanges valid.identityRanges valid.heldRanges valid.accessRanges valid.rangesOf valid.countersOf valid.cardOf valid.suciOf valid.codesOf valid.clockOf valid.onceOf valid.validOf answers.numberOf answers.isTaken clocks.flagAfter clocks.toldOf clocks.clocksOf setters.moved setters.forgotten setters.emptied setters.counted setters.pending setters.keyed setters.taught setters.entered clocks.clocked rows.isCard rows.isNetworkNo rows.isAreaNo rows.isN1No rows.isProtocol rows.rowOf rows.startsT3247 rows.needsEntry rows.toRoaming rows.toRegional turns.started turns.keySet turns.accepted turns.failed turns.t3510Out turns.t3511Out turns.t3502Out turns.cycled turns.renewed turns.oneMore turns.cardBelow turns.cardLimit turns.cardProtected turns.away turns.home turns.area turns.n1 turns.rowTurn turns.otherTurn hot.accessOf hot.otherOf hot.hotOf checks.mayStart checks.isSame checks.isFree checks.startRange checks.startAnswer checks.rowNow checks.isIgnored checks.isFull checks.rejectAnswer checks.readAnswer checks.messageRange checks.messageAnswer checks.timerRange checks.runs checks.timerAnswer checks.keyAnswer checks.cardAnswer effects.ticked effects.carded effects.cardEffect effects.startEffect effects.keyEffect effects.acceptEffect effects.clockEffect effects.t3247Effect effects.timerEffect effects.powerEffect effects.rejectT3247 effects.rowDeed effects.rowWork effects.rejectEffect plan.heardOf plan.askOf plan.answerOf plan.messageEffect plan.effectOf plan.hotAfter plan.takenReply plan.isIgnoring plan.refusedReply plan.giftOf plan.takenPlan plan.refusedPlan plan.decidedBy plan.planOf parts.seenBy parts.seenOf parts.listedOf parts.plannedBy parts.plannedOf plan.mineOf plan.deedOf parts.tableAfter parts.listed parts.doneOf parts.carriedOut parts.partsAfter parts.networksOf parts.gutiAfter parts.equivalentsAfter parts.suciAfter parts.keptAfter step.together step.joinedOf step.advanceOf step.stepOf log.cardOf log.startOf log.messageOf log.timerOf log.powerOf log.keyOf log.eventOf log.octetsOf log.recordOf log.logOf lines.digitsOf lines.decimal lines.fieldOf lines.lineOf lines.badOf replay.lineAfter replay.textOf
+unfolding facts firstRecord lineOf linesOf rejected seen asciiOf pageOf cellIn entriesIn cellOf upto.upto upto.copied upto.seekTo upto.allTo upto.distinctTo octets.formatOf octets.leadOf octets.contentsOf octets.sizeOf octets.elementOf octets.joined octets.elementsOf octets.keptOf octets.gatheredOf octets.gatherOf timers.unitOf timers.spanOf messages.gutiOf messages.countOf messages.tripletsOf messages.waitOf messages.acceptOf messages.acceptedOf messages.acceptReading messages.rejectedOf messages.rejectReading messages.typeReading messages.openedBy messages.readingOf entries.sizeOf entries.placeIn entries.peekAt entries.seenIn entries.liftMark entries.bumped entries.putAt entries.clearUnless entries.raised entries.banned entries.barredBy entries.accepted entries.swept entries.cycled entries.none entries.entriesAfter areas.sizeOf areas.placeIn areas.listedIn areas.placed areas.placedCount areas.kept areas.stayed areas.sweptList areas.listAfter areas.countAfter network.isNetwork new.newDevice new.newAccess new.emptyRecord new.newRecord valid.deviceRanges valid.modeRanges valid.identityRanges valid.heldRanges valid.accessRanges valid.rangesOf valid.countersOf valid.cardOf valid.suciOf valid.codesOf valid.clockOf valid.onceOf valid.validOf answers.numberOf answers.isTaken clocks.flagAfter clocks.toldOf clocks.clocksOf setters.moved setters.forgotten setters.emptied setters.counted setters.pending setters.keyed setters.taught setters.entered clocks.clocked rows.isCard rows.isNetworkNo rows.isAreaNo rows.isN1No rows.isProtocol rows.rowOf rows.startsT3247 rows.needsEntry rows.toRoaming rows.toRegional turns.started turns.keySet turns.accepted turns.failed turns.t3510Out turns.t3511Out turns.t3502Out turns.cycled turns.renewed turns.cardBelow turns.cardLimit turns.cardProtected turns.away turns.home turns.area turns.n1 turns.rowTurn turns.otherTurn hot.accessOf hot.otherOf hot.hotOf checks.mayStart checks.isSame checks.isFree checks.startRange checks.startAnswer checks.rowNow checks.isIgnored checks.isFull checks.rejectAnswer checks.readAnswer checks.messageRange checks.messageAnswer checks.timerRange checks.runs checks.timerAnswer checks.keyAnswer checks.cardAnswer effects.ticked effects.carded effects.cardEffect effects.startEffect effects.keyEffect effects.acceptEffect effects.clockEffect effects.t3247Effect effects.timerEffect effects.powerEffect effects.rejectT3247 effects.rowDeed effects.rowWork effects.rejectEffect plan.heardOf plan.askOf plan.answerOf plan.messageEffect plan.effectOf plan.hotAfter plan.takenReply plan.isIgnoring plan.refusedReply plan.giftOf plan.takenPlan plan.refusedPlan plan.decidedBy plan.planOf parts.seenBy parts.seenOf parts.listedOf parts.plannedBy parts.plannedOf plan.mineOf plan.deedOf parts.tableAfter parts.listed parts.doneOf parts.carriedOut parts.partsAfter parts.networksOf parts.gutiAfter parts.equivalentsAfter parts.suciAfter parts.keptAfter step.together step.joinedOf step.advanceOf step.stepOf log.cardOf log.startOf log.messageOf log.timerOf log.powerOf log.keyOf log.eventOf log.octetsOf log.recordOf log.logOf lines.digitsOf lines.decimal lines.fieldOf lines.lineOf lines.badOf replay.lineAfter replay.textOf
 shown = (refl, (refl, (refl, (refl, (refl, (refl, (refl, (refl, (refl, (refl, (refl, (refl, (refl, (refl, tt))))))))))))))

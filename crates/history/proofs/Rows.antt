@@ -5,6 +5,7 @@ use mathlib.Core.Path.{_≡_, refl}
 use mathlib.Core.Bool.{Bool, true, false, cond, not}
 use lib.Dec.{ltb, eqb}
 use borrow.Author.Tests.{ltb-true, eqb-true}
+use Rattle.laws.specs.Bounds.{oneMore}
 use Rattle.record.specs.Tests.{both}
 use Rattle.record.specs.declared.Access.{Access}
 use Rattle.entries.specs.declared.Entries.{Entries}
@@ -13,7 +14,7 @@ use Rattle.turns.specs.declared.Row.{Row}
 use Rattle.turns.specs.declared.Row.the-variants.{CardBelow, CardLimit, CardProtected, Away, Home, Area, N1, Protocol, Other}
 use Rattle.record.specs.Setters.{moved, forgotten, emptied, counted, entered}
 use Rattle.turns.specs.Rows.{isCard, isNetworkNo, isAreaNo, isN1No, isProtocol, rowOf, needsEntry}
-use Rattle.turns.specs.Turns.{oneMore, failed, t3510Out, cardBelow, cardLimit, cardProtected, away, home, area, n1, rowTurn, otherTurn}
+use Rattle.turns.specs.Turns.{failed, t3510Out, cardBelow, cardLimit, cardProtected, away, home, area, n1, rowTurn, otherTurn}
 use Rattle.effects.specs.Effects.{rowDeed}
 use Rattle.validity.specs.Sized.{Columns}
 use Rattle.validity.proofs.Setters.{grown}

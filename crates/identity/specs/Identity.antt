@@ -5,6 +5,7 @@ use mathlib.Core.Bool.{Bool, cond, not}
 use mathlib.Core.List.{List}
 use lib.ListN.{length, getD, take, drop}
 use lib.Dec.{ltb, eqb}
+use Rattle.laws.specs.Bounds.{atMost}
 use Rattle.laws.specs.Upto.{seekTo}
 use Rattle.record.specs.Tests.{both}
 use Rattle.record.specs.Network.{networkOf}
@@ -23,7 +24,7 @@ isPending g slot held net = both (isHeld held) (eqb (gutiNet g slot) net)
 
 -- a count above fifteen counts as fifteen
 unfoldable pub sizeOf : ℕ → ℕ
-sizeOf count = cond (ltb count 15) count 15
+sizeOf count = atMost 15 count
 
 unfoldable pub isAmong : ℕ → ℕ → List ℕ → Bool
 isAmong net n nets = ltb (seekTo (eqb net) n nets) n

@@ -22,6 +22,9 @@ rest true b e = e
 rest false true e = refl
 rest false false e = e
 
+pub least : (a b n : ℕ) → within a b n ≡ true → a ≤ n
+least a b n e = leb-true a n (one (leb a n) (leb n b) e)
+
 pub most : (a b n : ℕ) → within a b n ≡ true → n ≤ b
 most a b n e = leb-true n b (rest (leb a n) (leb n b) e)
 

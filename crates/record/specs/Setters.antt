@@ -1,7 +1,7 @@
 -- What an event sets in an access's numbers: one setter for each group that document 01's rows name. Assumes nothing.
-use Prim.Native.Nat.{ℕ, _+_}
+use Prim.Native.Nat.{ℕ}
 use mathlib.Core.Bool.{Bool, cond}
-use lib.Dec.{ltb}
+use Rattle.laws.specs.Bounds.{oneMore}
 use Rattle.record.specs.declared.Access.{Access}
 
 -- state, update status and attempt counter
@@ -177,5 +177,5 @@ entered found a = record {
   lastcode = a .lastcode;
   ksi = a .ksi;
   equivalents = a .equivalents;
-  entries = cond found (a .entries) (cond (ltb (a .entries) 16) (a .entries + 1) (a .entries));
+  entries = cond found (a .entries) (oneMore 16 (a .entries));
 }

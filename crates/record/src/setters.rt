@@ -1,9 +1,9 @@
 // What an event sets in an access's numbers: one setter for each group that document 01's rows name.
 use crate::Access;
+use entries::one_more;
 ghost use mathlib.Core.Path.{_≡_};
 ghost use mathlib.Core.Bool.{cond};
-ghost use Prim.Native.Nat.{_+_};
-ghost use lib.Dec.{ltb};
+ghost use Rattle.laws.specs.Bounds.{oneMore};
 ghost use Rattle.record.specs.Setters as sets;
 
 pub fn moved(state: u8, status: u8, attempts: u8, a: Access) -> Access
@@ -82,12 +82,12 @@ pub fn taught(given: bool, count: u8, wait: u16, a: Access) -> Access
 
 // One entry more where the network had none.
 fn more(found: bool, entries: u8) -> u8
-    ensures { λ r. ⌜ r ≡ cond found entries (cond (ltb entries 16) (entries + 1) entries) ⌝ }
+    ensures { λ r. ⌜ r ≡ cond found entries (oneMore 16 entries) ⌝ }
 {
     if found {
         return entries;
     }
-    if entries < 16 { entries + 1 } else { entries }
+    one_more(16, entries)
 }
 
 pub fn entered(found: bool, a: Access) -> Access

@@ -5,7 +5,7 @@ use mathlib.Core.Bool.{Bool, true, false, cond, true≢false}
 use mathlib.Core.Logic.{_⊎_, inl, inr}
 use native.Mathlib.Omega.{arith}
 use lib.ListN.{getD}
-use lib.Dec.{leb, eqb}
+use lib.Dec.{eqb}
 use borrow.Author.Tests.{leb-true, eqb-true}
 use Rattle.record.specs.declared.Device.{Device}
 use Rattle.record.specs.declared.Access.{Access}
@@ -13,11 +13,8 @@ use Rattle.record.specs.declared.Hot.{Hot}
 use Rattle.record.specs.declared.Record.{Record}
 use Rattle.record.specs.Tests.{both, either, within, upTo, isFlag, isShort}
 use Rattle.ranges.specs.Valid.{deviceRanges, modeRanges, identityRanges, accessRanges, rangesOf, countersOf, cardOf, suciOf, validOf}
-use Rattle.record.proofs.Bounds.{one, rest, most}
+use Rattle.record.proofs.Bounds.{one, rest, least, most}
 use Rattle.record.specs.Sides.{accessOf}
-
-least : (a b n : ℕ) → within a b n ≡ true → a ≤ n
-least a b n e = leb-true a n (one (leb a n) (leb n b) e)
 
 choice : (x y z : Bool) → either x (both y z) ≡ true → (x ≡ true) ⊎ ((y ≡ true) × (z ≡ true))
 choice true y z e = inl refl

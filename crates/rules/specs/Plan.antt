@@ -151,8 +151,8 @@ refusedPlan h q s m n = record { reply = refusedReply n (q .access); hot = h; wo
 unfoldable pub decidedBy : Answer → Hot → Event → Ask → Seen → Reading → List ℕ → Plan
 decidedBy n h e q s m octets = cond (isTaken n) (takenPlan h q s m (effectOf h e s m octets)) (refusedPlan h q s m n)
 
-unfoldable pub planOf : Hot → Event → Ask → Seen → Bool → Reading → List ℕ → Plan
-planOf h e q s listed m octets = decidedBy (answerOf h e s listed m octets) h e q s m octets
+unfoldable pub planOf : Hot → Event → Seen → Bool → Reading → List ℕ → Plan
+planOf h e s listed m octets = decidedBy (answerOf h e s listed m octets) h e (askOf h e) s m octets
 
 -- T3247 out, a power cycle and a card change go over both accesses' entries, all else over the event's own
 unfoldable pub mineOf : ℕ → ℕ → ℕ → ℕ

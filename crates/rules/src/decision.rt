@@ -259,8 +259,9 @@ fn decided_by(n: Answer, h: Hot, e: Event, q: Ask, s: Seen, m: Reading, octets: 
     refused_plan(h, q, s, m, n)
 }
 
+// Asked anew, though the core has asked: a question handed on would be copied once more, and that takes longer.
 pub fn plan_of(h: Hot, e: Event, s: Seen, listed: bool, m: Reading, octets: &[u8]) -> Plan
-    ensures { λ r. ⌜ r ≡ rules.planOf h e (rules.askOf h e) s listed m (now (octets .entry)) ⌝ }
+    ensures { λ r. ⌜ r ≡ rules.planOf h e s listed m (now (octets .entry)) ⌝ }
 {
     let q = ask_of(h, e);
     let n = answer_of(h, e, s, listed, m, octets);

@@ -1,7 +1,8 @@
 -- What a taken event makes of an access: numbers and timers, in document 01's words and order. Assumes nothing.
-use Prim.Native.Nat.{ℕ, _+_}
+use Prim.Native.Nat.{ℕ}
 use mathlib.Core.Bool.{Bool, cond}
 use lib.Dec.{ltb, eqb}
+use Rattle.laws.specs.Bounds.{oneMore}
 use Rattle.record.specs.declared.Access.{Access}
 use Rattle.record.specs.New.{newAccess, u1, u2, u3}
 use Rattle.turns.specs.declared.Order.the-variants.{Leave, Stop, Run}
@@ -30,10 +31,6 @@ keySet set a = still (keyed set a)
 -- Accept: "state 5, 5U1, attempt counter 0, T3510 stops, .."
 unfoldable pub accepted : Bool → ℕ → ℕ → Access → Turn
 accepted given count wait a = turnOf (taught given count wait (moved 5 u1 0 a)) (ordersOf Stop Leave Leave)
-
--- "up by one unless" at its limit
-unfoldable pub oneMore : ℕ → ℕ → ℕ
-oneMore limit n = cond (ltb n limit) (n + 1) n
 
 -- T3510 out, with the attempt counter now n: "stops; .. state 3. Below 5, T3511 (10 s) starts. At 5, clear identity and equivalents, 5U2, T3502 starts."
 unfoldable pub failed : ℕ → Access → Turn

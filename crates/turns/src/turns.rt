@@ -3,6 +3,7 @@ use crate::Order;
 use crate::Orders;
 use crate::Row;
 use crate::Turn;
+use entries::one_more;
 use record::Access;
 use record::U1;
 use record::U2;
@@ -65,12 +66,6 @@ pub fn accepted(given: bool, count: u8, wait: u16, a: Access) -> Turn
 {
     let b = taught(given, count, wait, moved(5, U1, 0, a));
     timed(b, Order::Stop, Order::Leave, Order::Leave)
-}
-
-fn one_more(limit: u8, n: u8) -> u8
-    ensures { λ r. ⌜ r ≡ events.oneMore limit n ⌝ }
-{
-    if n < limit { n + 1 } else { n }
 }
 
 // Below 5, T3511 starts.

@@ -3,14 +3,13 @@ use Prim.Native.Nat.{ℕ, _+_, _≤_}
 use mathlib.Core.Path.{_≡_, refl, sym, _∙_}
 use mathlib.Core.Bool.{Bool, true, false, cond, true≢false, false≢true}
 use native.Mathlib.Omega.{arith}
-use lib.Dec.{leb, ltb}
+use lib.Dec.{ltb}
 use borrow.Author.Tests.{leb-true, le-leb, ltb-true, ltb-false}
-use Rattle.record.specs.Tests.{both, either, flip, within, upTo}
+use Rattle.laws.specs.Bounds.{atMost}
+use Rattle.record.specs.Tests.{both, either, flip, upTo}
 use Rattle.record.specs.declared.Answer.{Answer}
 use Rattle.record.specs.Answers.{isTaken}
-use Rattle.record.proofs.Bounds.{one}
 use Rattle.checks.specs.Answers.{check}
-use Rattle.events.specs.Parts.{atMost}
 
 pub both-true : (a b : Bool) → a ≡ true → b ≡ true → both a b ≡ true
 both-true true b p q = q
@@ -33,9 +32,6 @@ either-first false b q = absurd (false≢true q)
 pub flip-true : (a : Bool) → flip a ≡ true → a ≡ false
 flip-true true e = absurd (false≢true e)
 flip-true false e = refl
-
-pub within-low : (a b n : ℕ) → within a b n ≡ true → a ≤ n
-within-low a b n e = leb-true a n (one (leb a n) (leb n b) e)
 
 -- a number below the most
 pub most-is : (m n : ℕ) → upTo m n ≡ true → atMost m n ≡ n

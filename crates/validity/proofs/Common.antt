@@ -24,8 +24,8 @@ use Rattle.effects.specs.Effects.{ticked, carded, cardEffect, t3247Effect, powe
 use Rattle.rules.specs.Plan.{askAt, hotAfter, takenPlan, mineOf, deedOf}
 use Rattle.events.specs.Parts.{tableAfter, taskOf, equivalentsAfter, suciAfter}
 use Rattle.validity.specs.Sized.{Sized}
-use Rattle.record.proofs.Bounds.{most}
-use Rattle.validity.proofs.Bools.{within-low, most-is}
+use Rattle.record.proofs.Bounds.{most, least}
+use Rattle.validity.proofs.Bools.{most-is}
 use Rattle.validity.proofs.Arrays.{All}
 use Rattle.validity.proofs.Good.{Good}
 use Rattle.validity.proofs.Turns.{after, still-turned, cycled-turned, renewed-turned}
@@ -90,7 +90,7 @@ module _ (r : Record) (g : Good r) (z : Sized r) (octets : List ℕ) (net code :
   unfolding takenPlan cardEffect carded hotAfter hotOf ticked flagAfter tableAfter entriesAfter deedOf mineOf equivalentsAfter suciAfter suciOf
   card-good home p q o =
       let a = renewed-turned (r .hot .dev .cardlimit) in
-      let b : 0 < length octets = let l = within-low 9 64 (length octets) q in omega arith in
+      let b : 0 < length octets = let l = least 9 64 (length octets) q in omega arith in
       good-next r octets (takenPlan (r .hot) (askAt 0 net code area sure) s m (cardEffect (r .hot) home (length octets)))
       (record {
         card = refl;

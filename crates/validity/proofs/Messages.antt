@@ -8,6 +8,7 @@ use lib.Dec.{ltb, eqb}
 use lib.ListN.{length, getD, drop}
 use lib.Seq.{getD-drop}
 use borrow.Author.Tests.{le-leb, lt-ltb}
+use Rattle.laws.specs.Bounds.{atMost}
 use Rattle.laws.specs.Upto.{first, copied}
 use Rattle.octets.specs.declared.Fault.{Fault}
 use Rattle.octets.specs.declared.Fault.the-variants.{Cut, First, Second, Kind}
@@ -22,7 +23,7 @@ use Rattle.messages.specs.declared.Reading.the-variants as reading
 use Rattle.messages.specs.Message.{countOf, waitOf, secondsOf, acceptOf, acceptedOf, acceptReading, rejectedOf, rejectReading, typeReading, openedBy, readingOf}
 use Rattle.record.specs.Tests.{upTo, isShort}
 use Rattle.record.specs.Network.{networkOf}
-use Rattle.events.specs.Parts.{atMost, networksOf}
+use Rattle.events.specs.Parts.{networksOf}
 use Rattle.validity.specs.Run.{Octets}
 use Rattle.validity.proofs.Bools.{most-is, most-fits}
 use Rattle.validity.proofs.Arrays.{All, upto-reads}

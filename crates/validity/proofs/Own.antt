@@ -7,6 +7,7 @@ use native.Mathlib.Omega.{arith}
 use lib.Dec.{leb, ltb, eqb}
 use lib.ListN.{drop}
 use borrow.Author.Tests.{leb-true}
+use Rattle.laws.specs.Bounds.{atMost}
 use Rattle.laws.specs.Upto.{copied}
 use Rattle.entries.specs.declared.Entries.{Entries}
 use Rattle.entries.specs.declared.Seen.{Seen}
@@ -29,7 +30,7 @@ use Rattle.rules.specs.declared.Plan.{Plan}
 use Rattle.record.specs.Sides.{accessOf, otherOf}
 use Rattle.effects.specs.Effects.{plain, acceptEffect, rejectT3247, rowDeed, rowWork, rejectEffect}
 use Rattle.rules.specs.Plan.{askAt, giftOf, takenPlan, mineOf, deedOf}
-use Rattle.events.specs.Parts.{seenBy, seenOf, tableAfter, atMost, networksOf, equivalentsAfter}
+use Rattle.events.specs.Parts.{seenBy, seenOf, tableAfter, networksOf, equivalentsAfter}
 use Rattle.validity.specs.Sized.{Columns, Sized}
 use Rattle.validity.specs.Run.{Octets}
 use Rattle.validity.proofs.Good.{Fit, Timely, Carded, Held, Good}

@@ -1,8 +1,9 @@
 -- Each setter of an access's numbers keeps them in their ranges, given that the new numbers are: the other groups are untouched. Assumes nothing.
-use Prim.Native.Nat.{ℕ, _+_}
+use Prim.Native.Nat.{ℕ}
 use mathlib.Core.Path.{_≡_, refl}
 use mathlib.Core.Bool.{Bool, true, false, cond}
-use lib.Dec.{ltb, eqb}
+use lib.Dec.{eqb}
+use Rattle.laws.specs.Bounds.{oneMore}
 use Rattle.record.specs.declared.Access.{Access}
 use Rattle.record.specs.Tests.{both, either, within, upTo, isFlag, isShort}
 use Rattle.record.specs.Network.{isNetwork, half, isDigit}
@@ -17,7 +18,7 @@ use Rattle.validity.proofs.Good.{Fit}
 
 -- the entries' count after a ban or a bar
 abbrev pub grown : Bool → ℕ → ℕ
-grown found n = cond found n (cond (ltb n 16) (n + 1) n)
+grown found n = cond found n (oneMore 16 n)
 
 grown-fits : (found : Bool) (n : ℕ) → upTo 16 n ≡ true → upTo 16 (grown found n) ≡ true
 grown-fits true n e = e

@@ -6,6 +6,7 @@ use mathlib.Core.List.{List, [], _∷_, _++_}
 use native.Mathlib.Omega.{arith}
 use lib.Dec.{ltb, eqb}
 use lib.ListN.{length, getD, set, drop, replicate, length-set, length-replicate, length-append, length-drop}
+use Rattle.laws.specs.Bounds.{atMost}
 use Rattle.laws.specs.Upto.{first, copied}
 use Rattle.entries.specs.declared.Entries.{Entries}
 use Rattle.entries.specs.declared.Deed.{Deed}
@@ -22,7 +23,7 @@ use Rattle.rules.specs.declared.Event.{Event}
 use Rattle.rules.specs.declared.Plan.{Plan}
 use Rattle.rules.specs.Plan.{refusedReply, deedOf}
 use Rattle.events.specs.declared.Outcome.{Outcome}
-use Rattle.events.specs.Parts.{taskOf, tableAfter, doneOf, carriedOut, plannedOf, partsAfter, isAccepted, isCarded, atMost, networksOf, gutiAfter, equivalentsAfter, suciAfter, keptAfter}
+use Rattle.events.specs.Parts.{taskOf, tableAfter, doneOf, carriedOut, plannedOf, partsAfter, isAccepted, isCarded, networksOf, gutiAfter, equivalentsAfter, suciAfter, keptAfter}
 use Rattle.events.specs.Step.{together, joinedOf, advanceOf, stepOf}
 use Rattle.validity.specs.Sized.{Columns, Sized}
 use Rattle.validity.proofs.Arrays.{upto-length}

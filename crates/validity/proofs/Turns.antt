@@ -7,6 +7,7 @@ use native.Mathlib.Omega.{arith}
 use lib.Dec.{ltb, eqb}
 use mathlib.Core.Logic.{_≢_}
 use borrow.Author.Tests.{leb-true, le-leb, eqb-true, eqb-false}
+use Rattle.laws.specs.Bounds.{oneMore}
 use Rattle.record.specs.declared.Access.{Access}
 use Rattle.record.specs.Tests.{either, upTo, isFlag, isShort}
 use Rattle.record.specs.Network.{isNetwork}
@@ -18,7 +19,7 @@ use Rattle.turns.specs.declared.Row.the-variants.{CardBelow, CardLimit, CardPro
 use Rattle.turns.specs.Timers.{flagAfter, ordersOf, clocked}
 use Rattle.turns.specs.Rows.{needsEntry}
 use Rattle.record.specs.Setters.{moved, forgotten, emptied, counted, pending, keyed, taught, entered}
-use Rattle.turns.specs.Turns.{turnOf, rejected, still, started, keySet, accepted, failed, t3510Out, t3511Out, t3502Out, cycled, renewed, oneMore, cardBelow, cardLimit, cardProtected, away, home, area, n1, rowTurn, otherTurn}
+use Rattle.turns.specs.Turns.{turnOf, rejected, still, started, keySet, accepted, failed, t3510Out, t3511Out, t3502Out, cycled, renewed, cardBelow, cardLimit, cardProtected, away, home, area, n1, rowTurn, otherTurn}
 use Rattle.validity.proofs.Bools.{either-first, more-fits}
 use Rattle.validity.proofs.Good.{Fit, Timely, Carded}
 use Rattle.validity.proofs.Setters.{grown, fit-moved, fit-forgotten, fit-emptied, fit-counted, fit-pending, fit-keyed, fit-taught, fit-entered, fit-clocked}
@@ -157,7 +158,7 @@ module _ (card limit : ℕ) (a : Access) (g : Fit limit a) where
         at = turnOf (emptied (forgotten (moved 3 2 n a))) (ordersOf Stop Leave (Run (a .wait)))
 
     pub t3510-turned : Turned card limit (a .equivalents) (a .entries) (after (t3510Out a))
-    unfolding t3510Out oneMore
+    unfolding t3510Out
     t3510-turned = failed-turned (oneMore 5 (a .attempts)) (more-fits 5 (a .attempts) (g .mode .2))
 
     -- a taken reject stops T3510: what is left is that the access fits, has a state with this card, and its counts
@@ -167,7 +168,7 @@ module _ (card limit : ℕ) (a : Access) (g : Fit limit a) where
         record { fit = fit-clocked limit b f (ordersOf Stop Leave Leave); timely = refl; carded = either-first (eqb card 1) (eqb (b .state) 0) h; equivalents = p; entries = q }
 
     pub row-turned : (r : Row) (w cause : ℕ) (found : Bool) → Turned card limit (a .equivalents) (cond (needsEntry r) (grown found (a .entries)) (a .entries)) (after (rowTurn r w limit cause found a))
-    unfolding rowTurn needsEntry oneMore cardBelow cardLimit cardProtected away home area n1 emptied forgotten moved counted entered
+    unfolding rowTurn needsEntry cardBelow cardLimit cardProtected away home area n1 emptied forgotten moved counted entered
     row-turned CardBelow w cause found = elim (eqb w 0) as (λ b. Turned card limit (a .equivalents) (a .entries) (after (cond b
         (rejected (emptied (counted (oneMore limit (a .cards)) (forgotten (moved 2 3 0 a)))))
         (rejected (counted (oneMore limit (a .cards)) (forgotten (moved 2 3 (a .attempts) a))))))) [

@@ -2,12 +2,12 @@
 use Prim.Native.Nat.{ℕ}
 use mathlib.Core.List.{List}
 use lib.ListN.{length}
+use Rattle.laws.specs.Bounds.{atMost}
 use Rattle.laws.specs.Upto.{copied}
 use Rattle.record.specs.declared.Device.{Device}
 use Rattle.record.specs.declared.Record.{Record}
 use Rattle.record.specs.New.{newDevice, newAccess, emptyRecord, zeros}
 use Rattle.effects.specs.Effects.{carded}
-use Rattle.events.specs.Parts.{atMost}
 
 abbrev sameLimits : Device → Device
 sameLimits d = newDevice (d .cardlimit) (d .banlimit) (d .n1limit) (d .capability) (d .security)

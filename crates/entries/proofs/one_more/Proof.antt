@@ -1,19 +1,16 @@
 -- The test is the one of the definition. Assumes nothing.
-use Rattle.turns.specs.Turns.{oneMore}
 use borrow.Author.Tests.{lt-ltb, le-ltb}
 use borrow.Author.Needs.{needs}
-use Rattle.turns.proofs.turns.one_more.Statement.{statement}
-use Rattle.turns.proofs.turns.one_more.Tie as tie
+use Rattle.entries.proofs.one_more.Statement.{statement}
+use Rattle.entries.proofs.one_more.Tie as tie
 
 add-result : tie.Need-add-result
 add-result c = search needs
 
 returns : tie.Need-returns
-unfolding oneMore
 returns c = simp (lt-ltb _ _ (c .if1 .taken))
 
 returns-2 : tie.Need-returns-2
-unfolding oneMore
 returns-2 c = simp (le-ltb _ _ (c .if1 .left))
 
 pub one-more-spec : {M : Type 1} → statement M
