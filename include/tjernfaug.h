@@ -39,7 +39,7 @@ struct tjernfaug_device {
 /*
  * One access's numbers. A network and an area code are three octets, the first one highest.
  * state: 0 no card or card refused, 1 normal service, 2 limited service, 3 attempting registration, 4 registration initiated, 5 registered, 6 network search.
- * status: 1 to 3 for 5U1 to 5U3. wait: T3502's stored length in seconds. cards: the card counter. net and code: the pending area.
+ * status: 1 to 3 for 5U1 to 5U3. t3502length: T3502's stored length in seconds. cardcounter: the card counter. net and code: the pending area.
  * guti, visited: whether a GUTI and a last area (lastnet, lastcode) are held. ksi: ngKSI, 7 for none.
  */
 struct tjernfaug_access {
@@ -47,11 +47,11 @@ struct tjernfaug_access {
     uint32_t code;
     uint32_t lastnet;
     uint32_t lastcode;
-    uint16_t wait;
+    uint16_t t3502length;
     uint8_t state;
     uint8_t status;
     uint8_t attempts;
-    uint8_t cards;
+    uint8_t cardcounter;
     uint8_t t3510;
     uint8_t t3511;
     uint8_t t3502;

@@ -162,7 +162,7 @@ fn filled(d: &mut Draw, live: &CRecord) -> CRecord {
 
 fn fill(d: &mut Draw, [cards, bans, n1s]: [u8; 3], a: &mut CAccess, e: &mut CEntries) {
     a.state = [0, 4, 4, 5, 6, d.octet(7)][d.below(6) as usize];
-    (a.status, a.attempts, a.cards, a.wait) = (1 + d.upto(2), d.upto(5), d.upto(cards), [0, 720, 11160, d.below(11161) as u16][d.below(4) as usize]);
+    (a.status, a.attempts, a.cardcounter, a.t3502length) = (1 + d.upto(2), d.upto(5), d.upto(cards), [0, 720, 11160, d.below(11161) as u16][d.below(4) as usize]);
     (a.t3510, a.t3511, a.t3502) = ((a.state == 4) as u8 & d.upto(1), d.upto(1), d.upto(1));
     (a.net, a.code, a.ksi, a.entries) = (d.net(), d.below(16), d.upto(7), d.upto(16));
     (a.guti, a.visited, a.equivalents) = (d.upto(1), d.upto(1), d.upto(15));

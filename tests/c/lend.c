@@ -23,7 +23,7 @@ struct head {
 };
 
 #define AT(field) {offsetof(struct tjernfaug_record, field), sizeof ((struct tjernfaug_record *)0)->field}
-#define ACCESS(a) AT(a.net), AT(a.code), AT(a.lastnet), AT(a.lastcode), AT(a.wait), AT(a.state), AT(a.status), AT(a.attempts), AT(a.cards), \
+#define ACCESS(a) AT(a.net), AT(a.code), AT(a.lastnet), AT(a.lastcode), AT(a.t3502length), AT(a.state), AT(a.status), AT(a.attempts), AT(a.cardcounter), \
     AT(a.t3510), AT(a.t3511), AT(a.t3502), AT(a.guti), AT(a.visited), AT(a.ksi), AT(a.equivalents), AT(a.entries)
 #define ENTRIES(e) AT(e.nets), AT(e.bans), AT(e.n1s), AT(e.forbidden), AT(e.barred)
 

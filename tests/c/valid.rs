@@ -24,9 +24,9 @@ fn access(d: &CDevice, a: &CAccess, equivalents: [u32; 15]) -> bool {
         && (a.state == 0 || d.card == 1)
         && (1..=3).contains(&a.status)
         && a.attempts <= 5
-        && a.cards <= d.limits[0]
+        && a.cardcounter <= d.limits[0]
         && flags.iter().all(|&flag| flag <= 1)
-        && a.wait <= 11160
+        && a.t3502length <= 11160
         && (a.t3510 == 0 || a.state == 4)
         && network(a.net)
         && a.code >> 24 == 0

@@ -6,25 +6,19 @@ ghost use Prim.Native.Nat.{_≤_, _<_, _^_};
 ghost use lib.Dec.{eqb};
 ghost use lib.ListN.{length, drop};
 ghost use Rattle.laws.specs.Upto.{seekTo};
-ghost use Rattle.areas.specs.Areas.{areaOf, sameArea, isProtected, sizeOf, listedIn, marked, placed, placedCount, stayed, sweptList, listAfter, countAfter};
+ghost use Rattle.areas.specs.Areas.{areaOf, sameArea, isProtected, areasHeld, listedIn, marked, placed, placedCount, stayed, sweptList, listAfter, countAfter};
 
-// What becomes of a list: the kind is one of those below. An area is a network and a code, which only PUT looks at.
-pub struct Task {
-    pub kind: u8,
-    pub net: u32,
-    pub code: u32,
-    pub sure: u8,
+// What an event does to a list: a reject puts an area there, T3247 out, all areas clear. An area is a network and a code.
+pub enum Task {
+    Nothing,
+    Put { net: u32, code: u32, protected: u8 },
+    Sweep,
+    Clear,
 }
-
-pub const PUT: u8 = 1;
-
-pub const SWEEP: u8 = 2;
-
-pub const CLEAR: u8 = 3;
 
 // Areas in use: a count above forty counts as forty.
 pub fn size(count: u8) -> usize
-    ensures { λ r. ⌜ r ≡ sizeOf count ⌝ }
+    ensures { λ r. ⌜ r ≡ areasHeld count ⌝ }
     ensures { λ r. ⌜ r ≤ 40 ⌝ }
 {
     if count < 40 { count as usize } else { 40 }
@@ -67,18 +61,22 @@ pub fn listed(net: u32, code: u32, count: u8, list: &[u64; 40]) -> bool
     at < n
 }
 
-fn mark(area: u64, sure: u8) -> u64
+fn mark(area: u64, protected: u8) -> u64
     requires { ⌜ area < 2 ^ 57 ⌝ }
-    ensures { λ r. ⌜ r ≡ marked area sure ⌝ }
+    ensures { λ r. ⌜ r ≡ marked area protected ⌝ }
 {
-    if sure == 0 { area * 2 } else { area * 2 + 1 }
+    if protected == 0 {
+        area * 2
+    } else {
+        area * 2 + 1
+    }
 }
 
 // An unprotected reject leaves the old element, a protected one puts the new.
-fn remark(sure: u8, old: u64, new: u64) -> u64
-    ensures { λ r. ⌜ r ≡ cond (eqb sure 0) old new ⌝ }
+fn remark(protected: u8, old: u64, new: u64) -> u64
+    ensures { λ r. ⌜ r ≡ cond (eqb protected 0) old new ⌝ }
 {
-    if sure == 0 { old } else { new }
+    if protected == 0 { old } else { new }
 }
 
 // A lent array brings no length: a copy of it does, and the copy is gone when compiled.
@@ -99,16 +97,16 @@ fn push(list: &mut [u64; 40], x: u64)
     list[39] = x;
 }
 
-fn put(area: u64, sure: u8, count: u8, list: &mut [u64; 40]) -> u8
+fn put(area: u64, protected: u8, count: u8, list: &mut [u64; 40]) -> u8
     requires { ⌜ area < 2 ^ 57 ⌝ }
-    ensures { λ r. ⌜ now (list .exit) ≡ placed area sure count (now (list .entry)) ⌝ }
+    ensures { λ r. ⌜ now (list .exit) ≡ placed area protected count (now (list .entry)) ⌝ }
     ensures { λ r. ⌜ r ≡ placedCount area count (now (list .entry)) ⌝ }
 {
     let n = size(count);
     let at = seek(list, n, area);
-    let x = mark(area, sure);
+    let x = mark(area, protected);
     if at < n {
-        list[at] = remark(sure, list[at], x);
+        list[at] = remark(protected, list[at], x);
         return count;
     }
     if count < 40 {
@@ -119,7 +117,7 @@ fn put(area: u64, sure: u8, count: u8, list: &mut [u64; 40]) -> u8
     count
 }
 
-fn protected(x: u64) -> bool
+fn is_protected(x: u64) -> bool
     ensures { λ r. ⌜ r ≡ isProtected x ⌝ }
 {
     x % 2 == 1
@@ -135,7 +133,7 @@ fn sweep(count: u8, list: &mut [u64; 40]) -> u8
     let mut j: usize = 0;
     while i < n {
         let x = list[i];
-        if protected(x) {
+        if is_protected(x) {
             list[j] = x;
             j += 1;
         }
@@ -148,15 +146,17 @@ pub fn tend(t: Task, count: u8, list: &mut [u64; 40]) -> u8
     ensures { λ r. ⌜ now (list .exit) ≡ listAfter t count (now (list .entry)) ⌝ }
     ensures { λ r. ⌜ r ≡ countAfter t count (now (list .entry)) ⌝ }
 {
-    if t.kind == PUT {
-        return put(area(t.net, t.code), t.sure, count, list);
+    match t {
+        Task::Nothing => count,
+        Task::Put {
+            net,
+            code,
+            protected,
+        } => put(area(net, code), protected, count, list),
+        Task::Sweep => sweep(count, list),
+        Task::Clear => {
+            *list = [0u64; 40];
+            0
+        }
     }
-    if t.kind == SWEEP {
-        return sweep(count, list);
-    }
-    if t.kind == CLEAR {
-        *list = [0u64; 40];
-        return 0;
-    }
-    count
 }

@@ -1,5 +1,5 @@
 -- Answers: "Checks go 1, 5, 6, 7, 8, 9 for a start; 1, 6, 3, 10, 2, 4 for a message; 1, 11 for a timer; 1, 6 for a key set; 1 for a card or a power cycle".
--- Each check passes on to the next; the last one is taken. The record itself is tested before. An event's `sure` is 1 if protected. Assumes nothing.
+-- Each check passes on to the next; the last one is taken. The record itself is tested before. An event's `protected` is 1 or 0. Assumes nothing.
 use Prim.Native.Nat.{ℕ}
 use mathlib.Core.Bool.{Bool, cond}
 use mathlib.Core.List.{List}
@@ -15,7 +15,8 @@ use Rattle.entries.specs.declared.Seen.{Seen}
 use Rattle.messages.specs.declared.Reading.{Reading}
 use Rattle.messages.specs.declared.Reading.the-variants as reading
 use Rattle.turns.specs.declared.Row.{Row}
-use Rattle.turns.specs.Rows.{isCard, rowOf, needsEntry}
+use Rattle.turns.specs.Timers.{isDeviceTimer, runsOn}
+use Rattle.turns.specs.Rejects.{isIgnored, rowOf, needsEntry}
 use Rattle.record.specs.Sides.{accessOf, otherOf}
 
 -- the answer where a check fails, else the rest
@@ -37,64 +38,61 @@ isFree manual s = both (eqb (s .barred) 0) (either (eqb (s .forbidden) 0) (eqb m
 unfoldable pub startRange : ℕ → ℕ → ℕ → ℕ → Bool
 startRange w manual net code = both (isFlag w) (both (isFlag manual) (both (isNetwork net) (isShort code)))
 
--- Start: 1, 5, 6, 7, 8, 9; listed says whether the area stands in one of the two lists
+-- 7, 8, 9: a place to register at; listed says whether its area stands, over access 0, in one of the two lists
+unfoldable pub placeAnswer : Access → ℕ → ℕ → Seen → Bool → Answer
+placeAnswer other manual net s listed =
+    check (flip (isSame other net)) answer.Same
+    (check (isFree manual s) answer.Listed
+    (check (flip listed) answer.Area
+    answer.Taken))
+
+-- Start: 1, 5, 6, 7, 8, 9
 unfoldable pub startAnswer : Hot → ℕ → ℕ → ℕ → ℕ → Seen → Bool → Answer
 startAnswer h w manual net code s listed =
     check (startRange w manual net code) answer.Range
-    (check (flip (eqb (accessOf h w .state) 0)) answer.NoCard
+    (check (flip (eqb (accessOf h w .state) 0)) answer.StateZero
     (check (mayStart (accessOf h w .state)) answer.State
-    (check (flip (isSame (otherOf h w) net)) answer.Same
-    (check (isFree manual s) answer.Listed
-    (check (flip (both (eqb w 0) listed)) answer.Area
-    answer.Taken)))))
+    (placeAnswer (otherOf h w) manual net s listed)))
 
 -- the row of a reject that comes over access w now
 unfoldable pub rowNow : Hot → ℕ → ℕ → ℕ → Row
-rowNow h w sure cause =
-    rowOf w (eqb sure 0) (eqb (accessOf h w .net) (h .dev .home)) (ltb (accessOf h w .cards) (h .dev .cardlimit)) cause
-
--- "Two-access rule: cause 3, 6 or 7, unprotected, other access in state 5"
-unfoldable pub isIgnored : ℕ → ℕ → Access → Bool
-isIgnored sure cause other = both (isCard cause) (both (eqb sure 0) (eqb (other .state) 5))
+rowNow h w protected cause =
+    rowOf w (eqb protected 0) (eqb (accessOf h w .net) (h .dev .home)) (ltb (accessOf h w .cardcounter) (h .dev .cardlimit)) cause
 
 -- "entry needed, network not in the access's table, all 16 entries held"
-unfoldable pub isFull : Row → Seen → Bool
-isFull row s = both (needsEntry row) (flip (ltb (s .at) 16))
+unfoldable pub isFull : Row → Seen → Access → Bool
+isFull row s a = both (needsEntry row) (both (flip (s .found)) (leb 16 (a .entries)))
 
 -- a reject: 2, 4
 unfoldable pub rejectAnswer : Hot → ℕ → ℕ → ℕ → Seen → Answer
-rejectAnswer h w sure cause s =
-    check (flip (isIgnored sure cause (otherOf h w))) answer.Ignored
-    (check (flip (isFull (rowNow h w sure cause) s)) answer.Full
+rejectAnswer h w protected cause s =
+    check (flip (isIgnored protected cause (otherOf h w))) answer.Ignored
+    (check (flip (isFull (rowNow h w protected cause) s (accessOf h w))) answer.Full
     answer.Taken)
 
 -- what was read: 3; 10 of an accept; 2, 4 of a reject
 unfoldable pub readAnswer : Hot → ℕ → ℕ → Reading → Seen → Answer
-readAnswer h w sure (reading.Bad f at) s = answer.Malformed f at
-readAnswer h w sure (reading.Accept g) s = check (flip (eqb sure 0)) answer.Bare answer.Taken
-readAnswer h w sure (reading.Reject cause) s = rejectAnswer h w sure cause s
+readAnswer h w protected (reading.Bad f at) s = answer.Malformed f at
+readAnswer h w protected (reading.Accept g) s = check (flip (eqb protected 0)) answer.Unprotected answer.Taken
+readAnswer h w protected (reading.Reject cause) s = rejectAnswer h w protected cause s
 
 -- "a draw for T3247, 1800 to 3600 s, checked even if unused"
 unfoldable pub messageRange : ℕ → ℕ → ℕ → Bool
-messageRange w sure draw = both (isFlag w) (both (isFlag sure) (within 1800 3600 draw))
+messageRange w protected draw = both (isFlag w) (both (isFlag protected) (within 1800 3600 draw))
 
 -- Message: 1, 6, 3, 10, 2, 4
 unfoldable pub messageAnswer : Hot → ℕ → ℕ → ℕ → Reading → Seen → Answer
-messageAnswer h w sure draw m s =
-    check (messageRange w sure draw) answer.Range
+messageAnswer h w protected draw m s =
+    check (messageRange w protected draw) answer.Range
     (check (eqb (accessOf h w .state) 4) answer.State
-    (readAnswer h w sure m s))
+    (readAnswer h w protected m s))
 
--- timers 1 T3510, 2 T3511, 3 T3502, 4 T3247; access 0 for T3247
+-- timers 1 to 4; access 0 for T3247
 unfoldable pub timerRange : ℕ → ℕ → Bool
-timerRange number w = both (within 1 4 number) (both (isFlag w) (either (ltb number 4) (eqb w 0)))
+timerRange number w = both (within 1 4 number) (both (isFlag w) (either (flip (isDeviceTimer number)) (eqb w 0)))
 
 unfoldable pub runs : Hot → ℕ → ℕ → ℕ
-runs h number w =
-    cond (eqb number 1) (accessOf h w .t3510)
-    (cond (eqb number 2) (accessOf h w .t3511)
-    (cond (eqb number 3) (accessOf h w .t3502)
-    (h .dev .t3247)))
+runs h number w = cond (isDeviceTimer number) (h .dev .t3247) (runsOn number (accessOf h w))
 
 -- Timer: 1, 11
 unfoldable pub timerAnswer : Hot → ℕ → ℕ → Answer

@@ -13,12 +13,12 @@ use record::or;
 use record::other_of;
 use record::pick;
 use turns::Row;
+use turns::is_device_timer;
 use turns::needs_entry;
 use turns::row_of;
+use turns::runs_on;
 ghost use mathlib.Core.Path.{_≡_};
-ghost use lib.Dec.{eqb};
-ghost use Rattle.record.specs.Tests.{both, flip};
-ghost use Rattle.record.specs.declared.Answer.the-variants as answer;
+ghost use Rattle.turns.specs.Rejects.{isIgnored};
 ghost use Rattle.checks.specs.Answers as rules;
 
 fn check(passed: bool, refusal: Answer, rest: Answer) -> Answer
@@ -63,10 +63,10 @@ fn start_range(w: u8, manual: u8, net: u32, code: u32) -> bool
 }
 
 // 7, 8, 9
-fn place_answer(other: Access, w: u8, manual: u8, net: u32, s: Seen, listed: bool) -> Answer
-    ensures { λ r. ⌜ r ≡ rules.check (flip (rules.isSame other net)) answer.Same (rules.check (rules.isFree manual s) answer.Listed (rules.check (flip (both (eqb w 0) listed)) answer.Area answer.Taken)) ⌝ }
+fn place_answer(other: Access, manual: u8, net: u32, s: Seen, listed: bool) -> Answer
+    ensures { λ r. ⌜ r ≡ rules.placeAnswer other manual net s listed ⌝ }
 {
-    let area = check(not(and(w == 0, listed)), Answer::Area, Answer::Taken);
+    let area = check(not(listed), Answer::Area, Answer::Taken);
     let apart = not(is_same(other, net));
     let free = is_free(manual, s);
     checks(apart, Answer::Same, free, Answer::Listed, area)
@@ -76,68 +76,69 @@ pub fn start_answer(h: Hot, w: u8, manual: u8, net: u32, code: u32, s: Seen, lis
     ensures { λ r. ⌜ r ≡ rules.startAnswer h w manual net code s listed ⌝ }
 {
     let a = access_of(h, w);
-    let place = place_answer(other_of(h, w), w, manual, net, s, listed);
+    let place = place_answer(other_of(h, w), manual, net, s, listed);
     let some = not(a.state == 0);
     let may = may_start(a.state);
-    let state = checks(some, Answer::NoCard, may, Answer::State, place);
+    let state = checks(some, Answer::StateZero, may, Answer::State, place);
     check(start_range(w, manual, net, code), Answer::Range, state)
 }
 
-pub fn row_now(h: Hot, w: u8, sure: u8, cause: u8) -> Row
-    ensures { λ r. ⌜ r ≡ rules.rowNow h w sure cause ⌝ }
+pub fn row_now(h: Hot, w: u8, protected: u8, cause: u8) -> Row
+    ensures { λ r. ⌜ r ≡ rules.rowNow h w protected cause ⌝ }
 {
     let a = access_of(h, w);
     row_of(
         w,
-        sure == 0,
+        protected == 0,
         a.net == h.dev.home,
-        a.cards < h.dev.cardlimit,
+        a.cardcounter < h.dev.cardlimit,
         cause,
     )
 }
 
-fn is_ignored(sure: u8, cause: u8, other: Access) -> bool
-    ensures { λ r. ⌜ r ≡ rules.isIgnored sure cause other ⌝ }
+fn is_ignored(protected: u8, cause: u8, other: Access) -> bool
+    ensures { λ r. ⌜ r ≡ isIgnored protected cause other ⌝ }
 {
-    and(turns::is_card(cause), and(sure == 0, other.state == 5))
+    and(turns::is_card(cause), and(protected == 0, other.state == 5))
 }
 
-fn is_full(row: Row, s: Seen) -> bool
-    ensures { λ r. ⌜ r ≡ rules.isFull row s ⌝ }
+fn is_full(row: Row, s: Seen, a: Access) -> bool
+    ensures { λ r. ⌜ r ≡ rules.isFull row s a ⌝ }
 {
-    and(needs_entry(row), not(s.at < 16))
+    and(needs_entry(row), and(not(s.found), 16 <= a.entries))
 }
 
-fn reject_answer(h: Hot, w: u8, sure: u8, cause: u8, s: Seen) -> Answer
-    ensures { λ r. ⌜ r ≡ rules.rejectAnswer h w sure cause s ⌝ }
+fn reject_answer(h: Hot, w: u8, protected: u8, cause: u8, s: Seen) -> Answer
+    ensures { λ r. ⌜ r ≡ rules.rejectAnswer h w protected cause s ⌝ }
 {
-    let heeded = not(is_ignored(sure, cause, other_of(h, w)));
-    let room = not(is_full(row_now(h, w, sure, cause), s));
+    let heeded = not(is_ignored(protected, cause, other_of(h, w)));
+    let row = row_now(h, w, protected, cause);
+    let room = not(is_full(row, s, access_of(h, w)));
     checks(heeded, Answer::Ignored, room, Answer::Full, Answer::Taken)
 }
 
-fn read_answer(h: Hot, w: u8, sure: u8, m: Reading, s: Seen) -> Answer
-    ensures { λ r. ⌜ r ≡ rules.readAnswer h w sure m s ⌝ }
+fn read_answer(h: Hot, w: u8, protected: u8, m: Reading, s: Seen) -> Answer
+    ensures { λ r. ⌜ r ≡ rules.readAnswer h w protected m s ⌝ }
 {
     match m {
-        Reading::Accept(_) => check(not(sure == 0), Answer::Bare, Answer::Taken),
-        Reading::Reject(cause) => reject_answer(h, w, sure, cause, s),
+        Reading::Accept(_) => check(not(protected == 0), Answer::Unprotected, Answer::Taken),
+        Reading::Reject(cause) => reject_answer(h, w, protected, cause, s),
         Reading::Bad(f, at) => Answer::Malformed(f, at),
     }
 }
 
-fn message_range(w: u8, sure: u8, draw: u16) -> bool
-    ensures { λ r. ⌜ r ≡ rules.messageRange w sure draw ⌝ }
+fn message_range(w: u8, protected: u8, draw: u16) -> bool
+    ensures { λ r. ⌜ r ≡ rules.messageRange w protected draw ⌝ }
 {
-    and(w <= 1, and(sure <= 1, and(1800 <= draw, draw <= 3600)))
+    and(w <= 1, and(protected <= 1, and(1800 <= draw, draw <= 3600)))
 }
 
-pub fn message_answer(h: Hot, w: u8, sure: u8, draw: u16, m: Reading, s: Seen) -> Answer
-    ensures { λ r. ⌜ r ≡ rules.messageAnswer h w sure draw m s ⌝ }
+pub fn message_answer(h: Hot, w: u8, protected: u8, draw: u16, m: Reading, s: Seen) -> Answer
+    ensures { λ r. ⌜ r ≡ rules.messageAnswer h w protected draw m s ⌝ }
 {
     let a = access_of(h, w);
-    let read = read_answer(h, w, sure, m, s);
-    let range = message_range(w, sure, draw);
+    let read = read_answer(h, w, protected, m, s);
+    let range = message_range(w, protected, draw);
     let four = a.state == 4;
     checks(range, Answer::Range, four, Answer::State, read)
 }
@@ -145,7 +146,7 @@ pub fn message_answer(h: Hot, w: u8, sure: u8, draw: u16, m: Reading, s: Seen) -
 fn timer_range(number: u8, w: u8) -> bool
     ensures { λ r. ⌜ r ≡ rules.timerRange number w ⌝ }
 {
-    let access = and(w <= 1, or(number < 4, w == 0));
+    let access = and(w <= 1, or(not(is_device_timer(number)), w == 0));
     and(and(1 <= number, number <= 4), access)
 }
 
@@ -153,8 +154,7 @@ fn runs(h: Hot, number: u8, w: u8) -> u8
     ensures { λ r. ⌜ r ≡ rules.runs h number w ⌝ }
 {
     let a = access_of(h, w);
-    let last = pick(number == 3, a.t3502, h.dev.t3247);
-    pick(number == 1, a.t3510, pick(number == 2, a.t3511, last))
+    pick(is_device_timer(number), h.dev.t3247, runs_on(number, a))
 }
 
 pub fn timer_answer(h: Hot, number: u8, w: u8) -> Answer

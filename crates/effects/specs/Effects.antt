@@ -2,20 +2,29 @@
 use Prim.Native.Nat.{ℕ}
 use mathlib.Core.Bool.{Bool, true, false, cond}
 use lib.Dec.{eqb}
-use Rattle.record.specs.Tests.{both}
+use Rattle.record.specs.declared.Access.{Access}
 use Rattle.record.specs.declared.Device.{Device}
 use Rattle.record.specs.declared.Hot.{Hot}
 use Rattle.messages.specs.declared.Accept.{Accept}
+use Rattle.entries.specs.declared.Seen.{Seen}
+use Rattle.entries.specs.declared.Seat.{Seat}
+use Rattle.entries.specs.Entries.{seatOf}
+use Rattle.entries.specs.declared.Deed.{Deed}
+use Rattle.entries.specs.declared.Deed.the-variants as deed
+use Rattle.areas.specs.declared.Task.{Task}
+use Rattle.areas.specs.declared.Task.the-variants as task
 use Rattle.turns.specs.declared.Order.{Order}
-use Rattle.turns.specs.declared.Order.the-variants.{Leave, Stop, Run}
+use Rattle.turns.specs.declared.Order.the-variants.{Leave, Stop}
 use Rattle.turns.specs.declared.Turn.{Turn}
 use Rattle.turns.specs.declared.Row.{Row}
-use Rattle.turns.specs.declared.Row.the-variants as row
-use Rattle.turns.specs.Rows.{startsT3247, toRoaming, toRegional}
+use Rattle.turns.specs.Timers.{isDeviceTimer}
+use Rattle.turns.specs.Words.{Mark, noMark, forbiddenAndCounted, n1NotAllowedAndCounted, markIn}
+use Rattle.turns.specs.Rejects.{rejectT3247, rowText, toRoaming, toRegional}
 use Rattle.turns.specs.Turns.{still, started, keySet, accepted, t3510Out, t3511Out, t3502Out, cycled, renewed, rowTurn, otherTurn}
 use Rattle.effects.specs.declared.Work.{Work}
 use Rattle.effects.specs.declared.Sides.{Sides}
-use Rattle.effects.specs.Kinds.{noDeed, banDeed, barDeed, acceptDeed, sweepDeed, powerDeed, freshDeed, noTask, putTask, sweepTask, clearTask, keepNothing, keepAccept, keepCard}
+use Rattle.effects.specs.declared.Keep.{Keep}
+use Rattle.effects.specs.declared.Keep.the-variants as keep
 use Rattle.record.specs.Sides.{accessOf, otherOf}
 
 -- a taken event: the device's numbers, the turn of its access and of the other one, T3247, the work, and whether a restart is asked
@@ -59,12 +68,13 @@ carded home suci d = record {
   regional = d .regional;
 }
 
-abbrev pub workOf : ℕ → ℕ → ℕ → ℕ → Work
-workOf deed roaming regional keep = record { deed = deed; roaming = roaming; regional = regional; keep = keep }
-
 -- nothing on the arrays
 abbrev pub idle : Work
-idle = workOf noDeed noTask noTask keepNothing
+idle = record { mine = deed.Nothing; theirs = deed.Nothing; roaming = task.Nothing; regional = task.Nothing; keep = keep.Nothing }
+
+-- the same on both accesses' entries, and on both lists
+abbrev pub onBoth : Deed → Task → Keep → Work
+onBoth d t k = record { mine = d; theirs = d; roaming = t; regional = t; keep = k }
 
 -- an event of one access that touches no array and not T3247
 abbrev pub plain : Hot → ℕ → Turn → Bool → Effect
@@ -72,7 +82,7 @@ plain h w t restart = record { dev = h .dev; mine = t; theirs = still (otherOf h
 
 -- Card change: a new record with the same limits and capabilities, this card, both states 1
 unfoldable pub cardEffect : Hot → ℕ → ℕ → Effect
-cardEffect h home suci = record { dev = carded home suci (h .dev); mine = renewed; theirs = renewed; t3247 = Stop; work = workOf freshDeed clearTask clearTask keepCard; restart = false }
+cardEffect h home suci = record { dev = carded home suci (h .dev); mine = renewed; theirs = renewed; t3247 = Stop; work = onBoth deed.Fresh task.Clear keep.Card; restart = false }
 
 unfoldable pub startEffect : Hot → ℕ → ℕ → ℕ → Effect
 startEffect h w net code = plain h w (started net code (accessOf h w)) false
@@ -81,13 +91,13 @@ unfoldable pub keyEffect : Hot → ℕ → ℕ → Effect
 keyEffect h w set = plain h w (keySet set (accessOf h w)) false
 
 -- Accept: T3502 length from the message, else 720 s; the network's forbidden mark on this access clears
-unfoldable pub acceptEffect : Hot → ℕ → Accept → Effect
-acceptEffect h w g = record {
+unfoldable pub acceptEffect : Hot → ℕ → Accept → Seen → Effect
+acceptEffect h w g s = record {
   dev = h .dev;
-  mine = accepted (g .given) (g .count) (cond (g .timed) (g .wait) 720) (accessOf h w);
+  mine = accepted (g .given) (g .count) (cond (g .timed) (g .t3502length) 720) (accessOf h w);
   theirs = still (otherOf h w);
   t3247 = Leave;
-  work = workOf acceptDeed noTask noTask keepAccept;
+  work = record { mine = deed.Accept (seatOf s (accessOf h w .net) 1); theirs = deed.Nothing; roaming = task.Nothing; regional = task.Nothing; keep = keep.Gift g };
   restart = false;
 }
 
@@ -100,10 +110,10 @@ clockEffect h number w =
 
 -- T3247 out: stops; both accesses' entries and both lists are gone through
 unfoldable pub t3247Effect : Hot → ℕ → Effect
-t3247Effect h w = record { dev = h .dev; mine = still (accessOf h w); theirs = still (otherOf h w); t3247 = Stop; work = workOf sweepDeed sweepTask sweepTask keepNothing; restart = false }
+t3247Effect h w = record { dev = h .dev; mine = still (accessOf h w); theirs = still (otherOf h w); t3247 = Stop; work = onBoth deed.Sweep task.Sweep keep.Nothing; restart = false }
 
 unfoldable pub timerEffect : Hot → ℕ → ℕ → Effect
-timerEffect h number w = cond (eqb number 4) (t3247Effect h w) (clockEffect h number w)
+timerEffect h number w = cond (isDeviceTimer number) (t3247Effect h w) (clockEffect h number w)
 
 -- Power cycle
 unfoldable pub powerEffect : Hot → Effect
@@ -112,37 +122,37 @@ powerEffect h = record {
   mine = cycled (h .dev .card) (h .a0);
   theirs = cycled (h .dev .card) (h .a1);
   t3247 = Stop;
-  work = workOf powerDeed clearTask clearTask keepNothing;
+  work = onBoth deed.Power task.Clear keep.Nothing;
   restart = false;
 }
 
--- "Every taken unprotected one with cause 3, 6, 7, 11, 12, 13, 15, 27, 72 or 73 starts T3247 with the draw if not running; a running one keeps its time."
-unfoldable pub rejectT3247 : ℕ → ℕ → ℕ → ℕ → Order
-rejectT3247 t3247 sure cause draw = cond (both (eqb sure 0) (both (startsT3247 cause) (eqb t3247 0))) (Run draw) Leave
+-- the deed for a row's mark and its counter
+unfoldable pub markDeed : Mark → Seat → Deed
+markDeed noMark s = deed.Nothing
+markDeed forbiddenAndCounted s = deed.Ban s
+markDeed n1NotAllowedAndCounted s = deed.Bar s
 
--- the mark and the counter of the row: a ban, or N1 not allowed
-unfoldable pub rowDeed : Row → ℕ
-rowDeed row.CardBelow = noDeed
-rowDeed row.CardLimit = noDeed
-rowDeed row.CardProtected = noDeed
-rowDeed row.Away = banDeed
-rowDeed row.Home = noDeed
-rowDeed row.Area = noDeed
-rowDeed row.N1 = barDeed
-rowDeed row.Protocol = noDeed
-rowDeed row.Other = noDeed
+unfoldable pub rowDeed : Row → Seat → Deed
+rowDeed r s = markDeed (markIn (rowText r)) s
 
-unfoldable pub rowWork : Row → ℕ → ℕ → Work
-rowWork r w cause = workOf (rowDeed r) (cond (toRoaming w cause r) putTask noTask) (cond (toRegional cause r) putTask noTask) keepNothing
+-- the pending network's entry, and the lists that the pending area goes to
+unfoldable pub rowWork : Row → ℕ → ℕ → ℕ → Access → Seen → Work
+rowWork r w protected cause a s = record {
+  mine = rowDeed r (seatOf s (a .net) protected);
+  theirs = deed.Nothing;
+  roaming = cond (toRoaming w cause r) (task.Put (a .net) (a .code) protected) task.Nothing;
+  regional = cond (toRegional w cause r) (task.Put (a .net) (a .code) protected) task.Nothing;
+  keep = keep.Nothing;
+}
 
 -- Reject, by its row
-unfoldable pub rejectEffect : Hot → ℕ → ℕ → ℕ → Bool → ℕ → Row → Effect
-rejectEffect h w sure draw found cause r = record {
+unfoldable pub rejectEffect : Hot → ℕ → ℕ → ℕ → Seen → ℕ → Row → Effect
+rejectEffect h w protected draw s cause r = record {
   dev = h .dev;
-  mine = rowTurn r w (h .dev .cardlimit) cause found (accessOf h w);
+  mine = rowTurn r w (h .dev .cardlimit) cause (s .found) (accessOf h w);
   theirs = otherTurn r (h .dev .cardlimit) (otherOf h w);
-  t3247 = rejectT3247 (h .dev .t3247) sure cause draw;
-  work = rowWork r w cause;
+  t3247 = rejectT3247 (h .dev .t3247) protected cause draw;
+  work = rowWork r w protected cause (accessOf h w) s;
   restart = false;
 }
 

@@ -1,3 +1,2 @@
--- The effect of each event, and the kinds of work that it asks for.
-pub mod Kinds
+-- The effect of each event.
 pub mod Effects

@@ -1,16 +1,21 @@
 // Effects of a taken event: numbers, timers, work on the arrays, requests.
+use areas::Task;
+use entries::Deed;
+use entries::Seat;
+use entries::Seen;
 use messages::Accept;
+use record::Access;
 use record::Device;
 use record::Hot;
 use record::access_of;
 use record::and;
 use record::other_of;
-use record::pick;
 use turns::Order;
 use turns::Row;
 use turns::Turn;
 use turns::accepted;
 use turns::cycled;
+use turns::is_device_timer;
 use turns::key_set;
 use turns::other_turn;
 use turns::renewed;
@@ -26,21 +31,27 @@ use turns::to_roaming;
 ghost use mathlib.Core.Path.{_≡_};
 ghost use mathlib.Core.Bool.{cond};
 ghost use lib.Dec.{eqb};
+ghost use Rattle.entries.specs.Entries.{seatOf};
+ghost use Rattle.areas.specs.declared.Task.the-variants.{Nothing, Put};
 ghost use Rattle.turns.specs.declared.Order.the-variants.{Leave, Run};
+ghost use Rattle.turns.specs.Rejects.{rejectT3247};
 ghost use Rattle.effects.specs.Effects as rules;
 ghost use Rattle.effects.specs.Effects.{sidesOf};
 
 // What is kept of the octets: an accept's GUTI and equivalents, a card's SUCI.
-pub const ACCEPTED: u8 = 1;
+pub enum Keep {
+    Nothing,
+    Gift(Accept),
+    Card,
+}
 
-pub const CARDED: u8 = 2;
-
-// What is to be done on the arrays, by the kinds of crates entries and areas, 0 for nothing; and what is kept.
+// What is to be done on the entries of the event's access and of the other one, on the two area lists, and what is kept.
 pub struct Work {
-    pub deed: u8,
-    pub roaming: u8,
-    pub regional: u8,
-    pub keep: u8,
+    pub mine: Deed,
+    pub theirs: Deed,
+    pub roaming: Task,
+    pub regional: Task,
+    pub keep: Keep,
 }
 
 // A taken event: the device's numbers, the turns of access 0 and 1, T3247, the work, and whether a restart is asked. The turns are sorted out at each event, so that an access that it leaves alone is handed on as it is.
@@ -52,6 +63,8 @@ pub struct Sides {
     pub work: Work,
     pub restart: bool,
 }
+
+// Where an access's numbers are handed on whole they are asked for afresh: a local that is used twice would be copied.
 
 // The turn of access 0, of an event's own access and the other one; turned round, that of access 1.
 // Each effect sorts for itself: one function that put all of them together would copy the turns once more.
@@ -79,21 +92,39 @@ fn carded(home: u32, suci: u8, d: Device) -> Device
     q
 }
 
-fn work_of(deed: u8, roaming: u8, regional: u8, keep: u8) -> Work
-    ensures { λ r. ⌜ r ≡ rules.workOf deed roaming regional keep ⌝ }
+pub fn idle() -> Work
+    ensures { λ r. ⌜ r ≡ rules.idle ⌝ }
 {
     Work {
-        deed,
-        roaming,
-        regional,
+        mine: Deed::Nothing,
+        theirs: Deed::Nothing,
+        roaming: Task::Nothing,
+        regional: Task::Nothing,
+        keep: Keep::Nothing,
+    }
+}
+
+fn on_both(deed: Deed, task: Task, keep: Keep) -> Work
+    ensures { λ r. ⌜ r ≡ rules.onBoth deed task keep ⌝ }
+{
+    Work {
+        mine: deed,
+        theirs: deed,
+        roaming: task,
+        regional: task,
         keep,
     }
 }
 
-pub fn idle() -> Work
-    ensures { λ r. ⌜ r ≡ rules.idle ⌝ }
+fn seat_of(s: Seen, net: u32, protected: u8) -> Seat
+    ensures { λ r. ⌜ r ≡ seatOf s net protected ⌝ }
 {
-    work_of(0, 0, 0, 0)
+    Seat {
+        at: s.at,
+        found: s.found,
+        net,
+        protected,
+    }
 }
 
 // An event of one access that touches no array and not T3247.
@@ -120,7 +151,7 @@ pub fn card_effect(h: Hot, home: u32, suci: u8) -> Sides
 {
     let dev = carded(home, suci, h.dev);
     let turn = renewed();
-    let work = work_of(entries::FRESH, areas::CLEAR, areas::CLEAR, CARDED);
+    let work = on_both(Deed::Fresh, Task::Clear, Keep::Card);
     Sides {
         dev,
         t0: turn,
@@ -144,20 +175,28 @@ pub fn key_effect(h: Hot, w: u8, set: u8) -> Sides
 }
 
 // T3502's length: the one given, or another.
-fn wait_of(timed: bool, wait: u16, other: u16) -> u16
-    ensures { λ r. ⌜ r ≡ cond timed wait other ⌝ }
+fn length_of(timed: bool, t3502length: u16, other: u16) -> u16
+    ensures { λ r. ⌜ r ≡ cond timed t3502length other ⌝ }
 {
-    if timed { wait } else { other }
+    if timed { t3502length } else { other }
 }
 
-pub fn accept_effect(h: Hot, w: u8, g: Accept) -> Sides
-    ensures { λ r. ⌜ r ≡ sidesOf w (rules.acceptEffect h w g) ⌝ }
+pub fn accept_effect(h: Hot, w: u8, g: Accept, s: Seen) -> Sides
+    ensures { λ r. ⌜ r ≡ sidesOf w (rules.acceptEffect h w g s) ⌝ }
 {
     let dev = h.dev;
-    let wait = wait_of(g.timed, g.wait, 720);
-    let mine = accepted(g.given, g.count, wait, access_of(h, w));
+    let a = access_of(h, w);
+    let t3502length = length_of(g.timed, g.t3502length, 720);
+    let mine = accepted(g.given, g.count, t3502length, access_of(h, w));
     let theirs = still(other_of(h, w));
-    let work = work_of(entries::ACCEPT, 0, 0, ACCEPTED);
+    let seat = seat_of(s, a.net, 1);
+    let work = Work {
+        mine: Deed::Accept(seat),
+        theirs: Deed::Nothing,
+        roaming: Task::Nothing,
+        regional: Task::Nothing,
+        keep: Keep::Gift(g),
+    };
     let t0 = side(w, mine, theirs);
     let t1 = side(w, theirs, mine);
     Sides {
@@ -189,7 +228,7 @@ fn t3247_effect(h: Hot, w: u8) -> Sides
     let dev = h.dev;
     let mine = still(access_of(h, w));
     let theirs = still(other_of(h, w));
-    let work = work_of(entries::SWEEP, areas::SWEEP, areas::SWEEP, 0);
+    let work = on_both(Deed::Sweep, Task::Sweep, Keep::Nothing);
     let t0 = side(w, mine, theirs);
     let t1 = side(w, theirs, mine);
     Sides {
@@ -205,7 +244,7 @@ fn t3247_effect(h: Hot, w: u8) -> Sides
 pub fn timer_effect(h: Hot, number: u8, w: u8) -> Sides
     ensures { λ r. ⌜ r ≡ sidesOf w (rules.timerEffect h number w) ⌝ }
 {
-    if number == 4 {
+    if is_device_timer(number) {
         return t3247_effect(h, w);
     }
     clock_effect(h, number, w)
@@ -217,7 +256,7 @@ pub fn power_effect(h: Hot) -> Sides
     let dev = h.dev;
     let t0 = cycled(dev.card, h.a0);
     let t1 = cycled(dev.card, h.a1);
-    let work = work_of(entries::POWER, areas::CLEAR, areas::CLEAR, 0);
+    let work = on_both(Deed::Power, Task::Clear, Keep::Nothing);
     Sides {
         dev,
         t0,
@@ -238,44 +277,67 @@ fn run_if(starts: bool, draw: u16) -> Order
     }
 }
 
-fn reject_t3247(t3247: u8, sure: u8, cause: u8, draw: u16) -> Order
-    ensures { λ r. ⌜ r ≡ rules.rejectT3247 t3247 sure cause draw ⌝ }
+fn reject_t3247(t3247: u8, protected: u8, cause: u8, draw: u16) -> Order
+    ensures { λ r. ⌜ r ≡ rejectT3247 t3247 protected cause draw ⌝ }
 {
-    run_if(and(sure == 0, and(starts_t3247(cause), t3247 == 0)), draw)
+    run_if(
+        and(protected == 0, and(starts_t3247(cause), t3247 == 0)),
+        draw,
+    )
 }
 
-fn row_deed(row: Row) -> u8
-    ensures { λ r. ⌜ r ≡ rules.rowDeed row ⌝ }
+fn row_deed(row: Row, s: Seat) -> Deed
+    ensures { λ r. ⌜ r ≡ rules.rowDeed row s ⌝ }
 {
     match row {
-        Row::CardBelow => 0,
-        Row::CardLimit => 0,
-        Row::CardProtected => 0,
-        Row::Away => entries::BAN,
-        Row::Home => 0,
-        Row::Area => 0,
-        Row::N1 => entries::BAR,
-        Row::Protocol => 0,
-        Row::Other => 0,
+        Row::CardBelow => Deed::Nothing,
+        Row::CardLimit => Deed::Nothing,
+        Row::CardProtected => Deed::Nothing,
+        Row::Away => Deed::Ban(s),
+        Row::Home => Deed::Nothing,
+        Row::Area => Deed::Nothing,
+        Row::N1 => Deed::Bar(s),
+        Row::Protocol => Deed::Nothing,
+        Row::Other => Deed::Nothing,
     }
 }
 
-fn row_work(row: Row, w: u8, cause: u8) -> Work
-    ensures { λ r. ⌜ r ≡ rules.rowWork row w cause ⌝ }
+fn put_if(listed: bool, a: Access, protected: u8) -> Task
+    ensures { λ r. ⌜ r ≡ cond listed (Put (a .net) (a .code) protected) Nothing ⌝ }
 {
-    let roaming = pick(to_roaming(w, cause, row), areas::PUT, 0);
-    let regional = pick(to_regional(cause, row), areas::PUT, 0);
-    work_of(row_deed(row), roaming, regional, 0)
+    if listed {
+        return Task::Put {
+            net: a.net,
+            code: a.code,
+            protected,
+        };
+    }
+    Task::Nothing
 }
 
-pub fn reject_effect(h: Hot, w: u8, sure: u8, draw: u16, found: bool, cause: u8, row: Row) -> Sides
-    ensures { λ r. ⌜ r ≡ sidesOf w (rules.rejectEffect h w sure draw found cause row) ⌝ }
+fn row_work(row: Row, w: u8, protected: u8, cause: u8, a: Access, s: Seen) -> Work
+    ensures { λ r. ⌜ r ≡ rules.rowWork row w protected cause a s ⌝ }
+{
+    let mine = row_deed(row, seat_of(s, a.net, protected));
+    let roaming = put_if(to_roaming(w, cause, row), a, protected);
+    let regional = put_if(to_regional(w, cause, row), a, protected);
+    Work {
+        mine,
+        theirs: Deed::Nothing,
+        roaming,
+        regional,
+        keep: Keep::Nothing,
+    }
+}
+
+pub fn reject_effect(h: Hot, w: u8, protected: u8, draw: u16, s: Seen, cause: u8, row: Row) -> Sides
+    ensures { λ r. ⌜ r ≡ sidesOf w (rules.rejectEffect h w protected draw s cause row) ⌝ }
 {
     let dev = h.dev;
-    let mine = row_turn(row, w, dev.cardlimit, cause, found, access_of(h, w));
+    let mine = row_turn(row, w, dev.cardlimit, cause, s.found, access_of(h, w));
     let theirs = other_turn(row, dev.cardlimit, other_of(h, w));
-    let t3247 = reject_t3247(dev.t3247, sure, cause, draw);
-    let work = row_work(row, w, cause);
+    let t3247 = reject_t3247(dev.t3247, protected, cause, draw);
+    let work = row_work(row, w, protected, cause, access_of(h, w), s);
     let t0 = side(w, mine, theirs);
     let t1 = side(w, theirs, mine);
     Sides {

@@ -4,7 +4,7 @@ use mathlib.Core.Path.{_≡_, refl, ap}
 use mathlib.Core.Bool.{Bool, true, false, cond, not}
 use mathlib.Core.List.{List}
 use Rattle.entries.specs.declared.Entries.{Entries}
-use Rattle.entries.specs.declared.Deed.{Deed}
+use Rattle.entries.specs.declared.Seat.{Seat}
 use Rattle.entries.specs.Entries.{putAt, clearUnless, entriesOf, banned, barredBy}
 
 pub fresh : (found : Bool) (xs : List ℕ) (at : ℕ) → cond (not found) (putAt xs at 0) xs ≡ clearUnless found xs at
@@ -16,6 +16,6 @@ fresh false xs at = refl
 abbrev turned : Entries → Entries
 turned t = entriesOf (t .nets) (t .n1s) (t .bans) (t .barred) (t .forbidden)
 
-pub turn : (k : Deed) (limit : ℕ) (s t : Entries) → s ≡ banned k limit (turned t) → turned s ≡ barredBy k limit t
+pub turn : (seat : Seat) (limit : ℕ) (s t : Entries) → s ≡ banned seat limit (turned t) → turned s ≡ barredBy seat limit t
 unfolding banned barredBy
-turn k limit s t e = ap turned e
+turn seat limit s t e = ap turned e

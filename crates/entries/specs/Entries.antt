@@ -8,49 +8,40 @@ use Rattle.laws.specs.Bounds.{atMost, oneMore}
 use Rattle.laws.specs.Upto.{upto, seekTo}
 use Rattle.entries.specs.declared.Entries.{Entries}
 use Rattle.entries.specs.declared.Seen.{Seen}
+use Rattle.entries.specs.declared.Seat.{Seat}
 use Rattle.entries.specs.declared.Deed.{Deed}
-
--- the kinds of deed: a reject that bans, one that bars N1, an accept, T3247 out, a power cycle, a card change
-abbrev pub isBan : ℕ → Bool
-isBan k = eqb k 1
-
-abbrev pub isBar : ℕ → Bool
-isBar k = eqb k 2
-
-abbrev pub isAccept : ℕ → Bool
-isAccept k = eqb k 3
-
-abbrev pub isSweep : ℕ → Bool
-isSweep k = eqb k 4
-
-abbrev pub isPower : ℕ → Bool
-isPower k = eqb k 5
-
-abbrev pub isFresh : ℕ → Bool
-isFresh k = eqb k 6
+use Rattle.entries.specs.declared.Deed.the-variants as deed
 
 abbrev pub sameNet : ℕ → ℕ → Bool
 sameNet a b = eqb b a
 
 -- entries in use: a count above sixteen counts as sixteen
-unfoldable pub sizeOf : ℕ → ℕ
-sizeOf n = atMost 16 n
+unfoldable pub entriesHeld : ℕ → ℕ
+entriesHeld n = atMost 16 n
 
 -- the entry of a network, or the first free place
 unfoldable pub placeIn : ℕ → ℕ → List ℕ → ℕ
-placeIn count net nets = seekTo (sameNet net) (sizeOf count) nets
+placeIn count net nets = seekTo (sameNet net) (entriesHeld count) nets
+
+unfoldable pub hasEntry : ℕ → ℕ → List ℕ → Bool
+hasEntry count net nets = ltb (placeIn count net nets) (entriesHeld count)
 
 -- what stands at a place in use, else nothing
 unfoldable pub peekAt : List ℕ → ℕ → ℕ → ℕ
 peekAt xs at n = cond (ltb at n) (getD xs at 0) 0
 
+-- what stands about a network: its place, whether that is its entry, and its marks
 unfoldable pub seenIn : ℕ → ℕ → List ℕ → List ℕ → List ℕ → Seen
 seenIn count net nets forbidden barred = record {
   at = placeIn count net nets;
-  found = ltb (placeIn count net nets) (sizeOf count);
-  forbidden = peekAt forbidden (placeIn count net nets) (sizeOf count);
-  barred = peekAt barred (placeIn count net nets) (sizeOf count);
+  found = hasEntry count net nets;
+  forbidden = peekAt forbidden (placeIn count net nets) (entriesHeld count);
+  barred = peekAt barred (placeIn count net nets) (entriesHeld count);
 }
+
+-- a network written down at the place that was seen
+abbrev pub seatOf : Seen → ℕ → ℕ → Seat
+seatOf s net protected = record { at = s .at; found = s .found; net = net; protected = protected }
 
 -- "each ban counter above 0 and below its limit clears the forbidden mark, each such N1 counter the N1 mark"
 unfoldable pub liftMark : ℕ → ℕ → ℕ → ℕ
@@ -58,7 +49,7 @@ liftMark limit n mark = cond (eqb n 0) mark (cond (ltb n limit) 0 mark)
 
 -- "+1 if below limit, or to the limit if protected"
 unfoldable pub bumped : ℕ → ℕ → ℕ → ℕ
-bumped limit sure n = cond (eqb sure 0) (oneMore limit n) limit
+bumped limit protected n = cond (eqb protected 0) (oneMore limit n) limit
 
 unfoldable pub putAt : List ℕ → ℕ → ℕ → List ℕ
 putAt xs at v = cond (ltb at 16) (set xs at v) xs
@@ -68,38 +59,38 @@ unfoldable pub clearUnless : Bool → List ℕ → ℕ → List ℕ
 clearUnless found xs at = cond found xs (putAt xs at 0)
 
 unfoldable pub raised : List ℕ → ℕ → Bool → ℕ → ℕ → List ℕ
-raised xs at found limit sure = putAt xs at (bumped limit sure (cond found (getD xs at 0) 0))
+raised xs at found limit protected = putAt xs at (bumped limit protected (cond found (getD xs at 0) 0))
 
 abbrev pub entriesOf : List ℕ → List ℕ → List ℕ → List ℕ → List ℕ → Entries
 entriesOf nets bans n1s forbidden barred = record { nets = nets; bans = bans; n1s = n1s; forbidden = forbidden; barred = barred }
 
--- forbidden mark; ban counter +1 if below limit, or to the limit if protected
-unfoldable pub banned : Deed → ℕ → Entries → Entries
-banned k limit t = record {
-  nets = putAt (t .nets) (k .at) (k .net);
-  bans = raised (t .bans) (k .at) (k .found) limit (k .sure);
-  n1s = clearUnless (k .found) (t .n1s) (k .at);
-  forbidden = putAt (t .forbidden) (k .at) 1;
-  barred = clearUnless (k .found) (t .barred) (k .at);
+-- "forbidden mark; ban counter +1 if below limit, or to the limit if protected"
+unfoldable pub banned : Seat → ℕ → Entries → Entries
+banned s limit t = record {
+  nets = putAt (t .nets) (s .at) (s .net);
+  bans = raised (t .bans) (s .at) (s .found) limit (s .protected);
+  n1s = clearUnless (s .found) (t .n1s) (s .at);
+  forbidden = putAt (t .forbidden) (s .at) 1;
+  barred = clearUnless (s .found) (t .barred) (s .at);
 }
 
--- N1 mark, N1 counter as the ban counter
-unfoldable pub barredBy : Deed → ℕ → Entries → Entries
-barredBy k limit t = record {
-  nets = putAt (t .nets) (k .at) (k .net);
-  bans = clearUnless (k .found) (t .bans) (k .at);
-  n1s = raised (t .n1s) (k .at) (k .found) limit (k .sure);
-  forbidden = clearUnless (k .found) (t .forbidden) (k .at);
-  barred = putAt (t .barred) (k .at) 1;
+-- "N1 mark, N1 counter as the ban counter"
+unfoldable pub barredBy : Seat → ℕ → Entries → Entries
+barredBy s limit t = record {
+  nets = putAt (t .nets) (s .at) (s .net);
+  bans = clearUnless (s .found) (t .bans) (s .at);
+  n1s = raised (t .n1s) (s .at) (s .found) limit (s .protected);
+  forbidden = clearUnless (s .found) (t .forbidden) (s .at);
+  barred = putAt (t .barred) (s .at) 1;
 }
 
--- accept: the network's forbidden mark on this access clears; counters stay
-unfoldable pub accepted : Deed → Entries → Entries
-accepted k t = record {
+-- accept: "The network's forbidden mark on this access clears. Counters stay."
+unfoldable pub unforbidden : Seat → Entries → Entries
+unforbidden s t = record {
   nets = t .nets;
   bans = t .bans;
   n1s = t .n1s;
-  forbidden = cond (k .found) (putAt (t .forbidden) (k .at) 0) (t .forbidden);
+  forbidden = cond (s .found) (putAt (t .forbidden) (s .at) 0) (t .forbidden);
   barred = t .barred;
 }
 
@@ -109,17 +100,17 @@ swept count banlimit n1limit t = record {
   nets = t .nets;
   bans = t .bans;
   n1s = t .n1s;
-  forbidden = upto (liftMark banlimit) (sizeOf count) (t .bans) (t .forbidden);
-  barred = upto (liftMark n1limit) (sizeOf count) (t .n1s) (t .barred);
+  forbidden = upto (liftMark banlimit) (entriesHeld count) (t .bans) (t .forbidden);
+  barred = upto (liftMark n1limit) (entriesHeld count) (t .n1s) (t .barred);
 }
 
 -- power cycle: forbidden marks clear by the same test; all N1 marks clear
-unfoldable pub cycled : ℕ → ℕ → Entries → Entries
-cycled count banlimit t = record {
+unfoldable pub powered : ℕ → ℕ → Entries → Entries
+powered count banlimit t = record {
   nets = t .nets;
   bans = t .bans;
   n1s = t .n1s;
-  forbidden = upto (liftMark banlimit) (sizeOf count) (t .bans) (t .forbidden);
+  forbidden = upto (liftMark banlimit) (entriesHeld count) (t .bans) (t .forbidden);
   barred = replicate 16 0;
 }
 
@@ -127,11 +118,12 @@ cycled count banlimit t = record {
 unfoldable pub none : Entries
 none = record { nets = replicate 16 0; bans = replicate 16 0; n1s = replicate 16 0; forbidden = replicate 16 0; barred = replicate 16 0 }
 
+-- what a deed makes of the entries
 unfoldable pub entriesAfter : Deed → ℕ → ℕ → ℕ → Entries → Entries
-entriesAfter k count banlimit n1limit t =
-    cond (isBan (k .kind)) (banned k banlimit t)
-    (cond (isBar (k .kind)) (barredBy k n1limit t)
-    (cond (isAccept (k .kind)) (accepted k t)
-    (cond (isSweep (k .kind)) (swept count banlimit n1limit t)
-    (cond (isPower (k .kind)) (cycled count banlimit t)
-    (cond (isFresh (k .kind)) none t)))))
+entriesAfter deed.Nothing count banlimit n1limit t = t
+entriesAfter (deed.Ban s) count banlimit n1limit t = banned s banlimit t
+entriesAfter (deed.Bar s) count banlimit n1limit t = barredBy s n1limit t
+entriesAfter (deed.Accept s) count banlimit n1limit t = unforbidden s t
+entriesAfter deed.Sweep count banlimit n1limit t = swept count banlimit n1limit t
+entriesAfter deed.Power count banlimit n1limit t = powered count banlimit t
+entriesAfter deed.Fresh count banlimit n1limit t = none

@@ -5,7 +5,7 @@ ghost use Prim.Native.Nat.{_≤_};
 ghost use lib.ListN.{replicate};
 ghost use Rattle.laws.specs.Bounds.{oneMore};
 ghost use Rattle.laws.specs.Upto.{upto, seekTo};
-ghost use Rattle.entries.specs.Entries.{sameNet, sizeOf, liftMark, bumped, putAt, raised, peekAt, seenIn, entriesOf, banned, none, entriesAfter};
+ghost use Rattle.entries.specs.Entries.{sameNet, entriesHeld, liftMark, bumped, putAt, raised, peekAt, seenIn, entriesOf, banned, none, entriesAfter};
 
 // Dense from 0 to a count that the access keeps; behind it nothing is looked at.
 #[repr(C)]
@@ -17,7 +17,7 @@ pub struct Entries {
     pub barred: [u8; 16],
 }
 
-// What stands in the entries about one network: its place, or the first free one.
+// What stands in the entries about one network: its place, or the first free one, and its marks.
 pub struct Seen {
     pub at: usize,
     pub found: bool,
@@ -25,30 +25,29 @@ pub struct Seen {
     pub barred: u8,
 }
 
-// What becomes of the entries: the kind is one of those below.
-pub struct Deed {
-    pub kind: u8,
+// Where a network is written down.
+pub struct Seat {
     pub at: usize,
     pub found: bool,
     pub net: u32,
-    pub sure: u8,
+    pub protected: u8,
 }
 
-pub const BAN: u8 = 1;
-
-pub const BAR: u8 = 2;
-
-pub const ACCEPT: u8 = 3;
-
-pub const SWEEP: u8 = 4;
-
-pub const POWER: u8 = 5;
-
-pub const FRESH: u8 = 6;
+// What an event does to an access's entries: a reject that bans the network, one that bars it from N1, an accept, T3247 out,
+// a power cycle, a card change.
+pub enum Deed {
+    Nothing,
+    Ban(Seat),
+    Bar(Seat),
+    Accept(Seat),
+    Sweep,
+    Power,
+    Fresh,
+}
 
 // Any count is taken, so that no caller owes one: above sixteen it is sixteen.
 pub fn size(count: u8) -> usize
-    ensures { λ r. ⌜ r ≡ sizeOf count ⌝ }
+    ensures { λ r. ⌜ r ≡ entriesHeld count ⌝ }
     ensures { λ r. ⌜ r ≤ 16 ⌝ }
 {
     if count < 16 { count as usize } else { 16 }
@@ -82,7 +81,7 @@ pub fn look(count: u8, net: u32, nets: &[u32; 16], forbidden: &[u8; 16], barred:
     let n = size(count);
     let at = find(nets, n, net);
     Seen {
-        at: at,
+        at,
         found: at < n,
         forbidden: peek(forbidden, at, n),
         barred: peek(barred, at, n),
@@ -127,10 +126,10 @@ pub fn one_more(limit: u8, n: u8) -> u8
     if n < limit { n + 1 } else { n }
 }
 
-fn bump(n: u8, limit: u8, sure: u8) -> u8
-    ensures { λ r. ⌜ r ≡ bumped limit sure n ⌝ }
+fn bump(n: u8, limit: u8, protected: u8) -> u8
+    ensures { λ r. ⌜ r ≡ bumped limit protected n ⌝ }
 {
-    if sure == 0 {
+    if protected == 0 {
         return one_more(limit, n);
     }
     limit
@@ -167,18 +166,18 @@ fn old(found: bool, x: u8) -> u8
     if found { x } else { 0 }
 }
 
-fn raise(xs: &mut [u8; 16], at: usize, found: bool, limit: u8, sure: u8)
-    ensures { λ r. ⌜ now (xs .exit) ≡ raised (now (xs .entry)) at found limit sure ⌝ }
+fn raise(xs: &mut [u8; 16], at: usize, found: bool, limit: u8, protected: u8)
+    ensures { λ r. ⌜ now (xs .exit) ≡ raised (now (xs .entry)) at found limit protected ⌝ }
 {
     if at < 16 {
         let x = old(found, xs[at]);
-        xs[at] = bump(x, limit, sure);
+        xs[at] = bump(x, limit, protected);
     }
 }
 
 // A reject's mark and counter; the other two columns are zeroed in a new entry.
 fn strike(
-    k: Deed,
+    s: Seat,
     limit: u8,
     nets: &mut [u32; 16],
     counts: &mut [u8; 16],
@@ -186,14 +185,14 @@ fn strike(
     marks: &mut [u8; 16],
     spare: &mut [u8; 16],
 )
-    ensures { λ r. ⌜ entriesOf (now (nets .exit)) (now (counts .exit)) (now (others .exit)) (now (marks .exit)) (now (spare .exit)) ≡ banned k limit (entriesOf (now (nets .entry)) (now (counts .entry)) (now (others .entry)) (now (marks .entry)) (now (spare .entry))) ⌝ }
+    ensures { λ r. ⌜ entriesOf (now (nets .exit)) (now (counts .exit)) (now (others .exit)) (now (marks .exit)) (now (spare .exit)) ≡ banned s limit (entriesOf (now (nets .entry)) (now (counts .entry)) (now (others .entry)) (now (marks .entry)) (now (spare .entry))) ⌝ }
 {
-    let new = !k.found;
-    put_net(nets, k.at, k.net);
-    raise(counts, k.at, k.found, limit, k.sure);
-    clear(new, others, k.at);
-    put(marks, k.at, 1);
-    clear(new, spare, k.at);
+    let new = !s.found;
+    put_net(nets, s.at, s.net);
+    raise(counts, s.at, s.found, limit, s.protected);
+    clear(new, others, s.at);
+    put(marks, s.at, 1);
+    clear(new, spare, s.at);
 }
 
 // Each mark goes by its own counter and limit.
@@ -206,8 +205,8 @@ fn sweep_both(
     forbidden: &mut [u8; 16],
     barred: &mut [u8; 16],
 )
-    ensures { λ r. ⌜ now (forbidden .exit) ≡ upto (liftMark banlimit) (sizeOf count) (now (bans .entry)) (now (forbidden .entry)) ⌝ }
-    ensures { λ r. ⌜ now (barred .exit) ≡ upto (liftMark n1limit) (sizeOf count) (now (n1s .entry)) (now (barred .entry)) ⌝ }
+    ensures { λ r. ⌜ now (forbidden .exit) ≡ upto (liftMark banlimit) (entriesHeld count) (now (bans .entry)) (now (forbidden .entry)) ⌝ }
+    ensures { λ r. ⌜ now (barred .exit) ≡ upto (liftMark n1limit) (entriesHeld count) (now (n1s .entry)) (now (barred .entry)) ⌝ }
 {
     let n = size(count);
     sweep(forbidden, bans, n, banlimit);
@@ -215,7 +214,7 @@ fn sweep_both(
 }
 
 fn cycle(count: u8, banlimit: u8, bans: &[u8; 16], forbidden: &mut [u8; 16], barred: &mut [u8; 16])
-    ensures { λ r. ⌜ now (forbidden .exit) ≡ upto (liftMark banlimit) (sizeOf count) (now (bans .entry)) (now (forbidden .entry)) ⌝ }
+    ensures { λ r. ⌜ now (forbidden .exit) ≡ upto (liftMark banlimit) (entriesHeld count) (now (bans .entry)) (now (forbidden .entry)) ⌝ }
     ensures { λ r. ⌜ now (barred .exit) ≡ replicate 16 0 ⌝ }
 {
     let n = size(count);
@@ -239,7 +238,7 @@ fn wipe(
     *barred = [0u8; 16];
 }
 
-// Barring is striking with the columns changed about; a kind not named leaves all as it is.
+// Barring is striking with the columns changed about.
 pub fn tend(
     k: Deed,
     count: u8,
@@ -253,27 +252,13 @@ pub fn tend(
 )
     ensures { λ r. ⌜ entriesOf (now (nets .exit)) (now (bans .exit)) (now (n1s .exit)) (now (forbidden .exit)) (now (barred .exit)) ≡ entriesAfter k count banlimit n1limit (entriesOf (now (nets .entry)) (now (bans .entry)) (now (n1s .entry)) (now (forbidden .entry)) (now (barred .entry))) ⌝ }
 {
-    if k.kind == BAN {
-        strike(k, banlimit, nets, bans, n1s, forbidden, barred);
-        return;
-    }
-    if k.kind == BAR {
-        strike(k, n1limit, nets, n1s, bans, barred, forbidden);
-        return;
-    }
-    if k.kind == ACCEPT {
-        clear(k.found, forbidden, k.at);
-        return;
-    }
-    if k.kind == SWEEP {
-        sweep_both(count, banlimit, n1limit, bans, n1s, forbidden, barred);
-        return;
-    }
-    if k.kind == POWER {
-        cycle(count, banlimit, bans, forbidden, barred);
-        return;
-    }
-    if k.kind == FRESH {
-        wipe(nets, bans, n1s, forbidden, barred);
+    match k {
+        Deed::Nothing => {}
+        Deed::Ban(s) => strike(s, banlimit, nets, bans, n1s, forbidden, barred),
+        Deed::Bar(s) => strike(s, n1limit, nets, n1s, bans, barred, forbidden),
+        Deed::Accept(s) => clear(s.found, forbidden, s.at),
+        Deed::Sweep => sweep_both(count, banlimit, n1limit, bans, n1s, forbidden, barred),
+        Deed::Power => cycle(count, banlimit, bans, forbidden, barred),
+        Deed::Fresh => wipe(nets, bans, n1s, forbidden, barred),
     }
 }

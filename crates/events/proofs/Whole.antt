@@ -5,33 +5,39 @@ use mathlib.Core.Bool.{Bool}
 use mathlib.Core.List.{List}
 use Rattle.entries.specs.declared.Entries.{Entries}
 use Rattle.entries.specs.declared.Seen.{Seen}
+use Rattle.entries.specs.declared.Deed.{Deed}
+use Rattle.entries.specs.Entries.{entriesAfter}
 use Rattle.areas.specs.Areas.{listAfter, countAfter}
 use Rattle.record.specs.declared.Hot.{Hot}
 use Rattle.record.specs.declared.Record.{Record}
 use Rattle.rules.specs.declared.Event.{Event}
 use Rattle.rules.specs.declared.Ask.{Ask}
+use Rattle.rules.specs.declared.Site.{Site}
 use Rattle.rules.specs.declared.Plan.{Plan}
-use Rattle.rules.specs.Plan.{askOf}
+use Rattle.rules.specs.Plan.{askOf, siteOf, planOf, deedOn, deedOf}
 use Rattle.events.specs.declared.Done.{Done}
-use Rattle.events.specs.Parts.{seenBy, seenOf, listedOf, plannedBy, plannedOf, tableAfter, taskOf, listed, doneOf, partsOf, carriedOut, partsAfter, Kept, keptAfter}
+use Rattle.events.specs.Parts.{seenBy, seenOf, listedOf, plannedOf, tableAfter, withCounts, doneOf, partsOf, carriedOut, partsAfter, Kept, keptAfter}
 use Rattle.events.specs.Step.{together, keptIn, joinedOf, advanceOf}
 
-pub core-law : (h : Hot) (e : Event) (octets : List ℕ) (q : Ask) (s : Seen) (l : Bool) (p : Plan) (x y x' y' : Entries) (a b a' b' : List ℕ) (m n : ℕ) (g : Hot)
+pub core-law : (h : Hot) (e : Event) (octets : List ℕ) (q : Ask) (i : Site) (s : Seen) (l : Bool) (p : Plan) (d d′ : Deed) (x y x' y' : Entries) (a b a' b' : List ℕ) (m n : ℕ) (g : Hot)
     → q ≡ askOf h e
     → s ≡ seenBy q h (x .nets) (x .forbidden) (x .barred) (y .nets) (y .forbidden) (y .barred)
-    → l ≡ listedOf q h a b
-    → p ≡ plannedBy h e octets s l
-    → x' ≡ tableAfter p 0 (h .a0 .entries) h x
-    → y' ≡ tableAfter p 1 (h .a1 .entries) h y
-    → a' ≡ listAfter (taskOf (p .work .roaming) (p .ask)) (h .dev .roaming) a
-    → m ≡ countAfter (taskOf (p .work .roaming) (p .ask)) (h .dev .roaming) a
-    → b' ≡ listAfter (taskOf (p .work .regional) (p .ask)) (h .dev .regional) b
-    → n ≡ countAfter (taskOf (p .work .regional) (p .ask)) (h .dev .regional) b
-    → g ≡ listed m n (p .hot)
+    → i ≡ siteOf e
+    → l ≡ listedOf i h a b
+    → p ≡ planOf h e s l octets
+    → d ≡ deedOn (p .access) (p .work .mine) (p .work .theirs) 0
+    → d′ ≡ deedOn (p .access) (p .work .mine) (p .work .theirs) 1
+    → x' ≡ entriesAfter d (h .a0 .entries) (h .dev .banlimit) (h .dev .n1limit) x
+    → y' ≡ entriesAfter d′ (h .a1 .entries) (h .dev .banlimit) (h .dev .n1limit) y
+    → a' ≡ listAfter (p .work .roaming) (h .dev .roaming) a
+    → m ≡ countAfter (p .work .roaming) (h .dev .roaming) a
+    → b' ≡ listAfter (p .work .regional) (h .dev .regional) b
+    → n ≡ countAfter (p .work .regional) (h .dev .regional) b
+    → g ≡ withCounts m n (p .hot)
     → partsOf (record { plan = p; hot = g }) x' y' a' b' ≡ partsAfter h e octets x y a b
-unfolding partsAfter carriedOut doneOf plannedOf seenOf
-core-law h e octets q s l p x y x' y' a b a' b' m n g iq is il ip ix iy ia im ib in' ig =
-    rw (← iq, ← is, ← il, ← ip, ix, iy, ia, ib, ig, im, in')
+unfolding partsAfter carriedOut doneOf plannedOf seenOf tableAfter deedOf
+core-law h e octets q i s l p d d′ x y x' y' a b a' b' m n g iq is ii il ip id id′ ix iy ia im ib in' ig =
+    rw (← iq, ← is, ← ii, ← il, ← ip, ix, iy, id, id′, ia, ib, ig, im, in')
 
 pub step-law : (r : Record) (e : Event) (octets : List ℕ) (d : Done) (x y : Entries) (a b : List ℕ) (k : Kept)
     → partsOf d x y a b ≡ partsAfter (r .hot) e octets (r .e0) (r .e1) (r .roaming) (r .regional)

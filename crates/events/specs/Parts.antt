@@ -1,6 +1,6 @@
 -- What an event makes of each part of the record. Assumes nothing.
 use Prim.Native.Nat.{ℕ, zero, suc}
-use mathlib.Core.Bool.{Bool, cond}
+use mathlib.Core.Bool.{Bool, false, cond}
 use mathlib.Core.List.{List, [], _∷_}
 use lib.ListN.{length, getD, drop}
 use lib.Dec.{eqb}
@@ -13,47 +13,49 @@ use Rattle.record.specs.declared.Hot.{Hot}
 use Rattle.entries.specs.declared.Entries.{Entries}
 use Rattle.entries.specs.declared.Seen.{Seen}
 use Rattle.entries.specs.Entries.{seenIn, entriesAfter}
-use Rattle.areas.specs.declared.Task.{Task}
 use Rattle.areas.specs.Areas.{areaOf, listedIn, listAfter, countAfter}
 use Rattle.rules.specs.declared.Event.{Event}
 use Rattle.rules.specs.declared.Ask.{Ask}
+use Rattle.rules.specs.declared.Ask.the-variants as ask
+use Rattle.rules.specs.declared.Site.{Site}
+use Rattle.rules.specs.declared.Site.the-variants as site
 use Rattle.rules.specs.declared.Plan.{Plan}
-use Rattle.effects.specs.Kinds.{keepAccept, keepCard}
-use Rattle.rules.specs.Plan.{heardOf, askOf, planOf, deedOf}
+use Rattle.effects.specs.declared.Keep.{Keep}
+use Rattle.effects.specs.declared.Keep.the-variants as keep
+use Rattle.rules.specs.Plan.{askOf, siteOf, planOf, deedOf}
 use Rattle.events.specs.declared.Done.{Done}
 
--- what the entries of the asking access say about the network
+-- nothing stands about no network
+abbrev pub unseen : Seen
+unseen = record { at = 0; found = false; forbidden = 0; barred = 0 }
+
+-- what access w's entries say about a network
+unfoldable pub sightOf : ℕ → ℕ → Hot → List ℕ → List ℕ → List ℕ → List ℕ → List ℕ → List ℕ → Seen
+sightOf w net h nets0 forbidden0 barred0 nets1 forbidden1 barred1 =
+    cond (eqb w 0) (seenIn (h .a0 .entries) net nets0 forbidden0 barred0) (seenIn (h .a1 .entries) net nets1 forbidden1 barred1)
+
 unfoldable pub seenBy : Ask → Hot → List ℕ → List ℕ → List ℕ → List ℕ → List ℕ → List ℕ → Seen
-seenBy q h nets0 forbidden0 barred0 nets1 forbidden1 barred1 =
-    cond (eqb (q .access) 0)
-    (seenIn (h .a0 .entries) (q .net) nets0 forbidden0 barred0)
-    (seenIn (h .a1 .entries) (q .net) nets1 forbidden1 barred1)
+seenBy ask.Nothing h nets0 forbidden0 barred0 nets1 forbidden1 barred1 = unseen
+seenBy (ask.Network w net) h nets0 forbidden0 barred0 nets1 forbidden1 barred1 = sightOf w net h nets0 forbidden0 barred0 nets1 forbidden1 barred1
 
 unfoldable pub seenOf : Ask → Hot → Entries → Entries → Seen
 seenOf q h e0 e1 = seenBy q h (e0 .nets) (e0 .forbidden) (e0 .barred) (e1 .nets) (e1 .forbidden) (e1 .barred)
 
--- whether the area stands in one of the two lists, where that is asked
-unfoldable pub listedOf : Ask → Hot → List ℕ → List ℕ → Bool
-listedOf q h roaming regional =
-    both (q .area)
-    (either (listedIn (areaOf (q .net) (q .code)) (h .dev .roaming) roaming) (listedIn (areaOf (q .net) (q .code)) (h .dev .regional) regional))
+-- whether an area stands in one of the two lists
+unfoldable pub listedOf : Site → Hot → List ℕ → List ℕ → Bool
+listedOf site.Nothing h roaming regional = false
+listedOf (site.Area net code) h roaming regional = either (listedIn (areaOf net code) (h .dev .roaming) roaming) (listedIn (areaOf net code) (h .dev .regional) regional)
 
--- what is planned, once that is known and the octets are read
-unfoldable pub plannedBy : Hot → Event → List ℕ → Seen → Bool → Plan
-plannedBy h e octets s l = planOf h e s l (heardOf e octets) octets
-
+-- what is planned, once that is known
 unfoldable pub plannedOf : Hot → Event → List ℕ → Entries → Entries → List ℕ → List ℕ → Plan
-plannedOf h e octets e0 e1 roaming regional = plannedBy h e octets (seenOf (askOf h e) h e0 e1) (listedOf (askOf h e) h roaming regional)
+plannedOf h e octets e0 e1 roaming regional = planOf h e (seenOf (askOf h e) h e0 e1) (listedOf (siteOf e) h roaming regional) octets
 
 unfoldable pub tableAfter : Plan → ℕ → ℕ → Hot → Entries → Entries
 tableAfter p me count h t = entriesAfter (deedOf p me) count (h .dev .banlimit) (h .dev .n1limit) t
 
-abbrev pub taskOf : ℕ → Ask → Task
-taskOf kind q = record { kind = kind; net = q .net; code = q .code; sure = q .sure }
-
 -- the numbers with the area lists' counts
-unfoldable pub listed : ℕ → ℕ → Hot → Hot
-listed roaming regional h = record {
+unfoldable pub withCounts : ℕ → ℕ → Hot → Hot
+withCounts roaming regional h = record {
   dev = record {
     card = h .dev .card;
     home = h .dev .home;
@@ -74,7 +76,7 @@ listed roaming regional h = record {
 unfoldable pub doneOf : Plan → Hot → List ℕ → List ℕ → Done
 doneOf p h roaming regional = record {
   plan = p;
-  hot = listed (countAfter (taskOf (p .work .roaming) (p .ask)) (h .dev .roaming) roaming) (countAfter (taskOf (p .work .regional) (p .ask)) (h .dev .regional) regional) (p .hot);
+  hot = withCounts (countAfter (p .work .roaming) (h .dev .roaming) roaming) (countAfter (p .work .regional) (h .dev .regional) regional) (p .hot);
 }
 
 -- what the core changes
@@ -94,8 +96,8 @@ carriedOut p h e0 e1 roaming regional =
     (doneOf p h roaming regional)
     (tableAfter p 0 (h .a0 .entries) h e0)
     (tableAfter p 1 (h .a1 .entries) h e1)
-    (listAfter (taskOf (p .work .roaming) (p .ask)) (h .dev .roaming) roaming)
-    (listAfter (taskOf (p .work .regional) (p .ask)) (h .dev .regional) regional)
+    (listAfter (p .work .roaming) (h .dev .roaming) roaming)
+    (listAfter (p .work .regional) (h .dev .regional) regional)
 
 unfoldable pub partsAfter : Hot → Event → List ℕ → Entries → Entries → List ℕ → List ℕ → Parts
 partsAfter h e octets e0 e1 roaming regional = carriedOut (plannedOf h e octets e0 e1 roaming regional) h e0 e1 roaming regional
@@ -105,27 +107,24 @@ unfoldable pub networksOf : ℕ → List ℕ → List ℕ
 networksOf zero s = []
 networksOf (suc n) s = networkOf (getD s 0 0) (getD s 1 0) (getD s 2 0) ∷ networksOf n (drop 3 s)
 
--- keep: 1 an accept's GUTI and equivalents, on its access; 2 a card's SUCI, all else of a new record
-abbrev pub isAccepted : Plan → ℕ → Bool
-isAccepted p me = both (eqb (p .work .keep) keepAccept) (eqb (p .ask .access) me)
-
-abbrev pub isCarded : Plan → Bool
-isCarded p = eqb (p .work .keep) keepCard
-
--- "GUTI replaced if given"
-unfoldable pub gutiAfter : Plan → ℕ → List ℕ → List ℕ → List ℕ
-gutiAfter p me octets guti =
-    cond (isCarded p) (zeros 10)
-    (cond (both (isAccepted p me) (p .gift .given)) (copied 10 (drop (p .gift .guti) octets) guti) guti)
+-- "GUTI replaced if given", on the event's own access; a card change leaves that of a new record
+unfoldable pub gutiAfter : Keep → Bool → List ℕ → List ℕ → List ℕ
+gutiAfter keep.Nothing own octets guti = guti
+gutiAfter (keep.Gift g) own octets guti = cond (both own (g .given)) (copied 10 (drop (g .guti) octets) guti) guti
+gutiAfter keep.Card own octets guti = zeros 10
 
 -- "equivalent networks replaced"
-unfoldable pub equivalentsAfter : Plan → ℕ → List ℕ → List ℕ → List ℕ
-equivalentsAfter p me octets equivalents =
-    cond (isCarded p) (zeros 15)
-    (cond (isAccepted p me) (copied (atMost 15 (p .gift .count)) (networksOf (atMost 15 (p .gift .count)) (drop (p .gift .triplets) octets)) equivalents) equivalents)
+unfoldable pub equivalentsAfter : Keep → Bool → List ℕ → List ℕ → List ℕ
+equivalentsAfter keep.Nothing own octets equivalents = equivalents
+equivalentsAfter (keep.Gift g) own octets equivalents =
+    cond own (copied (atMost 15 (g .count)) (networksOf (atMost 15 (g .count)) (drop (g .triplets) octets)) equivalents) equivalents
+equivalentsAfter keep.Card own octets equivalents = zeros 15
 
-unfoldable pub suciAfter : Plan → List ℕ → List ℕ → List ℕ
-suciAfter p octets suci = cond (isCarded p) (copied (atMost 64 (length octets)) octets (zeros 64)) suci
+-- a card's SUCI
+unfoldable pub suciAfter : Keep → List ℕ → List ℕ → List ℕ
+suciAfter keep.Nothing octets suci = suci
+suciAfter (keep.Gift g) octets suci = suci
+suciAfter keep.Card octets suci = copied (atMost 64 (length octets)) octets (zeros 64)
 
 -- what the core leaves to keep
 pub record Kept : Type 0 where
@@ -141,8 +140,8 @@ keptOf guti0 guti1 equivalents0 equivalents1 suci = record { guti0 = guti0; guti
 unfoldable pub keptAfter : Plan → List ℕ → Kept → Kept
 keptAfter p octets k =
     keptOf
-    (gutiAfter p 0 octets (k .guti0))
-    (gutiAfter p 1 octets (k .guti1))
-    (equivalentsAfter p 0 octets (k .equivalents0))
-    (equivalentsAfter p 1 octets (k .equivalents1))
-    (suciAfter p octets (k .suci))
+    (gutiAfter (p .work .keep) (eqb (p .access) 0) octets (k .guti0))
+    (gutiAfter (p .work .keep) (eqb (p .access) 1) octets (k .guti1))
+    (equivalentsAfter (p .work .keep) (eqb (p .access) 0) octets (k .equivalents0))
+    (equivalentsAfter (p .work .keep) (eqb (p .access) 1) octets (k .equivalents1))
+    (suciAfter (p .work .keep) octets (k .suci))

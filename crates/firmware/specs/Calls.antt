@@ -8,7 +8,7 @@ use Rattle.record.specs.declared.Record.{Record}
 use Rattle.record.specs.declared.Made.{Made}
 use Rattle.events.specs.declared.Outcome.{Outcome}
 use Rattle.events.specs.Step.{stepOf}
-use Rattle.log.specs.Log.{eventOf, octetsOf}
+use Rattle.log.specs.Log.{eventOf, besideOf}
 use Rattle.request.specs.declared.Written.{Written}
 use Rattle.request.specs.Writing.{writtenOf}
 use Rattle.firmware.specs.declared.Opened.{Opened}
@@ -16,18 +16,18 @@ use Rattle.firmware.specs.declared.Taken.{Taken}
 use Rattle.firmware.specs.Notice.{noticeOf}
 
 -- "All but 0 change nothing": the record that was there stays
-unfoldable pub openedBy : Record → Made → Opened
-openedBy r m = record { answer = numberOf (m .answer); next = cond (isTaken (m .answer)) (m .made) r }
+unfoldable pub newBy : Record → Made → Opened
+newBy r m = record { answer = numberOf (m .answer); next = cond (isTaken (m .answer)) (m .made) r }
 
-unfoldable pub openedOf : Record → ℕ → ℕ → ℕ → List ℕ → List ℕ → Opened
-openedOf r cardlimit banlimit n1limit capability security = openedBy r (madeOf cardlimit banlimit n1limit capability security)
+unfoldable pub newOf : Record → ℕ → ℕ → ℕ → List ℕ → List ℕ → Opened
+newOf r cardlimit banlimit n1limit capability security = newBy r (madeOf cardlimit banlimit n1limit capability security)
 
-unfoldable pub takenBy : Outcome → Taken
-takenBy o = record { answer = numberOf (o .reply .answer); notice = noticeOf (o .reply); next = o .next }
+unfoldable pub heardBy : Outcome → Taken
+heardBy o = record { answer = numberOf (o .reply .answer); notice = noticeOf (o .reply); next = o .next }
 
 -- a kind and a body are an event and the octets beside it
-unfoldable pub takenOf : Record → ℕ → List ℕ → Taken
-takenOf r kind body = takenBy (stepOf r (eventOf kind body) (octetsOf kind body))
+unfoldable pub heardAs : Record → ℕ → List ℕ → Taken
+heardAs r kind body = heardBy (stepOf r (eventOf kind body) (besideOf kind body))
 
 -- how many octets were written, or 256 plus the refusal's number
 unfoldable pub wroteBy : Written → ℕ

@@ -10,29 +10,29 @@ use Rattle.firmware.specs.declared.Timer.{Timer}
 use Rattle.firmware.specs.declared.Timers.{Timers}
 use Rattle.firmware.specs.declared.Notice.{Notice}
 
-unfoldable pub timerOf : Told → Timer
-timerOf Left = record { told = 0; seconds = 0 }
-timerOf Stopped = record { told = 1; seconds = 0 }
-timerOf (Started seconds) = record { told = 2; seconds = seconds }
+unfoldable pub timerNotice : Told → Timer
+timerNotice Left = record { told = 0; seconds = 0 }
+timerNotice Stopped = record { told = 1; seconds = 0 }
+timerNotice (Started seconds) = record { told = 2; seconds = seconds }
 
 unfoldable pub timersOf : Clocks → Timers
 timersOf c = record {
-  t3510 = timerOf (c .t3510);
-  t3511 = timerOf (c .t3511);
-  t3502 = timerOf (c .t3502);
+  t3510 = timerNotice (c .t3510);
+  t3511 = timerNotice (c .t3511);
+  t3502 = timerNotice (c .t3502);
 }
 
 -- none, or 1 plus the access
-unfoldable pub requestOf : Asked → ℕ
-requestOf No = 0
-requestOf (On access) = 1 + access
+unfoldable pub askedNumber : Asked → ℕ
+askedNumber No = 0
+askedNumber (On access) = 1 + access
 
 unfoldable pub noticeOf : Reply → Notice
 noticeOf p = record {
   c0 = timersOf (p .c0);
   c1 = timersOf (p .c1);
-  t3247 = timerOf (p .t3247);
-  restart = requestOf (p .restart);
-  leave = requestOf (p .leave);
-  update = requestOf (p .update);
+  t3247 = timerNotice (p .t3247);
+  restart = askedNumber (p .restart);
+  leave = askedNumber (p .leave);
+  update = askedNumber (p .update);
 }

@@ -8,7 +8,7 @@ ghost use mathlib.Core.Path.{_≡_};
 ghost use mathlib.Core.Bool.{cond};
 ghost use lib.ListN.{length};
 ghost use Rattle.request.specs.Writing.{bufferOf};
-ghost use Rattle.firmware.specs.Calls.{openedOf, takenOf, wroteOf};
+ghost use Rattle.firmware.specs.Calls.{newOf, heardAs, wroteOf};
 
 // A refusal keeps the record that was there.
 fn chosen(good: bool, made: Record, r: Record) -> Record
@@ -25,7 +25,7 @@ fn opened(
     capability: &[u8],
     security: &[u8],
 ) -> Opened
-    ensures { λ o. ⌜ o ≡ openedOf r cardlimit banlimit n1limit (now (capability .entry)) (now (security .entry)) ⌝ }
+    ensures { λ o. ⌜ o ≡ newOf r cardlimit banlimit n1limit (now (capability .entry)) (now (security .entry)) ⌝ }
 {
     let m = record::fresh(cardlimit, banlimit, n1limit, capability, security);
     let n = m.answer;
@@ -40,7 +40,7 @@ fn opened(
 }
 
 fn taken(r: Record, kind: u32, body: &[u8]) -> Taken
-    ensures { λ o. ⌜ o ≡ takenOf r kind (now (body .entry)) ⌝ }
+    ensures { λ o. ⌜ o ≡ heardAs r kind (now (body .entry)) ⌝ }
 {
     let e = log::event(kind, body);
     let octets = log::octets(kind, body);
@@ -82,7 +82,7 @@ pub extern "C" fn tjernfaug_new(
     capability: &[u8],
     security: &[u8],
 ) -> u32
-    ensures { λ a. ⌜ (a ≡ openedOf (now (r .entry)) cardlimit banlimit n1limit (now (capability .entry)) (now (security .entry)) .answer) × (now (r .exit) ≡ openedOf (now (r .entry)) cardlimit banlimit n1limit (now (capability .entry)) (now (security .entry)) .next) ⌝ }
+    ensures { λ a. ⌜ (a ≡ newOf (now (r .entry)) cardlimit banlimit n1limit (now (capability .entry)) (now (security .entry)) .answer) × (now (r .exit) ≡ newOf (now (r .entry)) cardlimit banlimit n1limit (now (capability .entry)) (now (security .entry)) .next) ⌝ }
 {
     let o = opened(*r, cardlimit, banlimit, n1limit, capability, security);
     *r = o.next;
@@ -97,7 +97,7 @@ pub extern "C" fn tjernfaug_event(
     body: &[u8],
     notice: &mut Notice,
 ) -> u32
-    ensures { λ a. ⌜ (a ≡ takenOf (now (r .entry)) kind (now (body .entry)) .answer) × ((now (r .exit) ≡ takenOf (now (r .entry)) kind (now (body .entry)) .next) × (now (notice .exit) ≡ takenOf (now (r .entry)) kind (now (body .entry)) .notice)) ⌝ }
+    ensures { λ a. ⌜ (a ≡ heardAs (now (r .entry)) kind (now (body .entry)) .answer) × ((now (r .exit) ≡ heardAs (now (r .entry)) kind (now (body .entry)) .next) × (now (notice .exit) ≡ heardAs (now (r .entry)) kind (now (body .entry)) .notice)) ⌝ }
 {
     let o = taken(*r, kind, body);
     *r = o.next;

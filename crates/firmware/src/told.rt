@@ -7,10 +7,10 @@ use rules::Reply;
 use turns::Clocks;
 use turns::Told;
 ghost use mathlib.Core.Path.{_≡_};
-ghost use Rattle.firmware.specs.Notice.{timerOf, timersOf, requestOf, noticeOf};
+ghost use Rattle.firmware.specs.Notice.{timerNotice, timersOf, askedNumber, noticeOf};
 
 fn timer_of(t: Told) -> Timer
-    ensures { λ r. ⌜ r ≡ timerOf t ⌝ }
+    ensures { λ r. ⌜ r ≡ timerNotice t ⌝ }
 {
     match t {
         Told::Left => Timer {
@@ -42,7 +42,7 @@ fn timers_of(c: Clocks) -> Timers
 }
 
 fn request_of(a: Asked) -> u32
-    ensures { λ r. ⌜ r ≡ requestOf a ⌝ }
+    ensures { λ r. ⌜ r ≡ askedNumber a ⌝ }
 {
     match a {
         Asked::No => 0,

@@ -6,12 +6,12 @@ use mathlib.Core.Bool.{Bool, true, false, cond}
 use mathlib.Core.List.{List}
 use mathlib.Core.Logic.{_≢_}
 use native.Mathlib.Omega.{arith}
-use lib.Dec.{ltb, eqb}
+use lib.Dec.{leb, ltb, eqb}
 use lib.ListN.{length, getD, set}
 use lib.Seq.{getD-set-same, getD-set-other, set-getD}
-use borrow.Author.Tests.{ltb-true, ltb-false, lt-ltb, le-ltb, eqb-true, eqb-false}
+use borrow.Author.Tests.{leb-false, ltb-true, ltb-false, lt-ltb, le-ltb, eqb-true, eqb-false}
 use Rattle.laws.specs.Upto.{upto, seekTo}
-use Rattle.entries.specs.Entries.{sameNet, sizeOf, placeIn, peekAt, putAt, clearUnless}
+use Rattle.entries.specs.Entries.{sameNet, entriesHeld, placeIn, hasEntry, peekAt, putAt, clearUnless}
 use Rattle.record.specs.New.{zeros}
 use Rattle.validity.proofs.Bools.{most-fits}
 use Rattle.validity.proofs.Arrays.{seek-le, seek-found, seek-before, seek-is, upto-reads}
@@ -23,16 +23,16 @@ zero-at zero k = refl
 zero-at (suc n) zero = refl
 zero-at (suc n) (suc k) = zero-at n k
 
-pub size-fits : (count : ℕ) → sizeOf count ≤ 16
-unfolding sizeOf
+pub size-fits : (count : ℕ) → entriesHeld count ≤ 16
+unfolding entriesHeld
 size-fits count = most-fits 16 count
 
-size-is : (count : ℕ) → count < 16 → sizeOf count ≡ count
-unfolding sizeOf
+size-is : (count : ℕ) → count < 16 → entriesHeld count ≡ count
+unfolding entriesHeld
 size-is count h = rw (lt-ltb count 16 h)
 
-below : (count : ℕ) → sizeOf count < 16 → count < 16
-unfolding sizeOf
+below : (count : ℕ) → entriesHeld count < 16 → count < 16
+unfolding entriesHeld
 below count h = go (ltb count 16) refl h
   where
     go : (b : Bool) → ltb count 16 ≡ b → cond (ltb count 16) count 16 < 16 → count < 16
@@ -47,6 +47,15 @@ peek-out : (xs : List ℕ) (at n : ℕ) → n ≤ at → peekAt xs at n ≡ 0
 unfolding peekAt
 peek-out xs at n h = rw (le-ltb at n h)
 
+-- a network that has an entry, or finds a free one, has a place
+pub room : (count net : ℕ) (nets : List ℕ) → (hasEntry count net nets ≡ false → leb 16 count ≡ false) → placeIn count net nets < 16
+unfolding hasEntry placeIn
+room count net nets f = go (ltb (seekTo (sameNet net) (entriesHeld count) nets) (entriesHeld count)) refl
+  where
+    go : (b : Bool) → ltb (seekTo (sameNet net) (entriesHeld count) nets) (entriesHeld count) ≡ b → seekTo (sameNet net) (entriesHeld count) nets < 16
+    go true q = omega (arith, ltb-true (seekTo (sameNet net) (entriesHeld count) nets) (entriesHeld count) q, size-fits count)
+    go false q = let h : count < 16 = leb-false 16 count (f q) in omega (arith, seek-le (sameNet net) (entriesHeld count) nets, size-is count h)
+
 pub put-in : (xs : List ℕ) (at v : ℕ) → at < 16 → putAt xs at v ≡ set xs at v
 unfolding putAt
 put-in xs at v h = rw (lt-ltb at 16 h)
@@ -55,20 +64,20 @@ module _ (count : ℕ) (nets : List ℕ) where
   -- a column of zeros, a column changed by the one beside it
   pub column-zero : (m : ℕ) → columnIn count nets (zeros 16) m ≡ 0
   unfolding peekAt
-  column-zero m = elim (ltb (placeIn count m nets) (sizeOf count)) as (λ b. cond b (getD (zeros 16) (placeIn count m nets) 0) 0 ≡ 0) [
+  column-zero m = elim (ltb (placeIn count m nets) (entriesHeld count)) as (λ b. cond b (getD (zeros 16) (placeIn count m nets) 0) 0 ≡ 0) [
     | true ↦ zero-at 16 (placeIn count m nets)
     | false ↦ refl
   ]
 
   pub column-upto : (f : ℕ → ℕ → ℕ) → f 0 0 ≡ 0 → (xs ys : List ℕ) → length ys ≡ 16 → (m : ℕ)
-      → columnIn count nets (upto f (sizeOf count) xs ys) m ≡ f (columnIn count nets xs m) (columnIn count nets ys m)
+      → columnIn count nets (upto f (entriesHeld count) xs ys) m ≡ f (columnIn count nets xs m) (columnIn count nets ys m)
   column-upto f z xs ys l m = go (ltb at size) refl
     where
       at : ℕ
       at = placeIn count m nets
 
       size : ℕ
-      size = sizeOf count
+      size = entriesHeld count
 
       go : (b : Bool) → ltb at size ≡ b → peekAt (upto f size xs ys) at size ≡ f (peekAt xs at size) (peekAt ys at size)
       go true q =
@@ -78,12 +87,12 @@ module _ (count : ℕ) (nets : List ℕ) where
           let h : size ≤ at = ltb-false at size q in
           rw (peek-out (upto f size xs ys) at size h, peek-out xs at size h, peek-out ys at size h) (sym z)
 
-  found-net : (m : ℕ) → placeIn count m nets < sizeOf count → getD nets (placeIn count m nets) 0 ≡ m
+  found-net : (m : ℕ) → placeIn count m nets < entriesHeld count → getD nets (placeIn count m nets) 0 ≡ m
   unfolding placeIn
-  found-net m h = eqb-true (getD nets (seekTo (sameNet m) (sizeOf count) nets) 0) m (seek-found (sameNet m) (sizeOf count) nets h)
+  found-net m h = eqb-true (getD nets (seekTo (sameNet m) (entriesHeld count) nets) 0) m (seek-found (sameNet m) (entriesHeld count) nets h)
 
   -- a store at the place of a network that has an entry
-  pub column-set : (net : ℕ) → placeIn count net nets < sizeOf count → (xs : List ℕ) → length xs ≡ 16 → (v m : ℕ)
+  pub column-set : (net : ℕ) → placeIn count net nets < entriesHeld count → (xs : List ℕ) → length xs ≡ 16 → (v m : ℕ)
       → columnIn count nets (set xs (placeIn count net nets) v) m ≡ cond (eqb net m) v (columnIn count nets xs m)
   column-set net h xs l v m = go (eqb net m) refl (ltb here size) refl
     where
@@ -94,7 +103,7 @@ module _ (count : ℕ) (nets : List ℕ) where
       here = placeIn count m nets
 
       size : ℕ
-      size = sizeOf count
+      size = entriesHeld count
 
       go : (b : Bool) → eqb net m ≡ b → (b′ : Bool) → ltb here size ≡ b′ → columnIn count nets (set xs at v) m ≡ cond (eqb net m) v (columnIn count nets xs m)
       go true q b′ q′ =
@@ -108,8 +117,8 @@ module _ (count : ℕ) (nets : List ℕ) where
           rw (q, peek-out (set xs at v) here size g, peek-out xs here size g)
 
   -- a network that has none
-  pub missed : (m : ℕ) → sizeOf count ≤ placeIn count m nets → (xs : List ℕ) → columnIn count nets xs m ≡ 0
-  missed m h xs = peek-out xs (placeIn count m nets) (sizeOf count) h
+  pub missed : (m : ℕ) → entriesHeld count ≤ placeIn count m nets → (xs : List ℕ) → columnIn count nets xs m ≡ 0
+  missed m h xs = peek-out xs (placeIn count m nets) (entriesHeld count) h
 
 -- A store at the first free place, which a network without an entry takes.
 module _ (count : ℕ) (nets : List ℕ) (l : length nets ≡ 16) (room : count < 16) (net : ℕ) where
@@ -124,8 +133,8 @@ module _ (count : ℕ) (nets : List ℕ) (l : length nets ≡ 16) (room : count 
   added : getD more count 0 ≡ net
   added = getD-set-same nets count net 0 (omega arith)
 
-  sized : sizeOf (count + 1) ≡ suc count
-  unfolding sizeOf
+  sized : entriesHeld (count + 1) ≡ suc count
+  unfolding entriesHeld
   sized = go (ltb (count + 1) 16) refl
     where
       go : (b : Bool) → ltb (count + 1) 16 ≡ b → cond (ltb (count + 1) 16) (count + 1) 16 ≡ suc count
@@ -188,31 +197,31 @@ module _ (count net : ℕ) (nets : List ℕ) (l : length nets ≡ 16) (room : pl
   at = placeIn count net nets
 
   abbrev found : Bool
-  found = ltb at (sizeOf count)
+  found = ltb at (entriesHeld count)
 
   -- the network's own column
-  same-nets : at < sizeOf count → set nets at net ≡ nets
+  same-nets : at < entriesHeld count → set nets at net ≡ nets
   same-nets h = ap (λ (n : ℕ). set nets at n) (sym (found-net count nets net h)) ∙ set-getD nets at 0
 
-  free : sizeOf count ≤ at → (count < 16) × (at ≡ count)
+  free : entriesHeld count ≤ at → (count < 16) × (at ≡ count)
   unfolding placeIn
   free h =
-      let g : sizeOf count < 16 = omega arith in
-      let s : sizeOf count ≡ count = size-is count (below count g) in
-      (below count g, omega (arith, seek-le (sameNet net) (sizeOf count) nets))
+      let g : entriesHeld count < 16 = omega arith in
+      let s : entriesHeld count ≡ count = size-is count (below count g) in
+      (below count g, omega (arith, seek-le (sameNet net) (entriesHeld count) nets))
 
   -- the column that is written
   pub touched : (xs : List ℕ) → length xs ≡ 16 → (v m : ℕ)
       → columnIn (grown found count) (putAt nets at net) (putAt xs at v) m ≡ cond (eqb net m) v (columnIn count nets xs m)
-  touched xs k v m = rw (put-in nets at net room, put-in xs at v room) (go (ltb at (sizeOf count)) refl)
+  touched xs k v m = rw (put-in nets at net room, put-in xs at v room) (go (ltb at (entriesHeld count)) refl)
     where
-      go : (b : Bool) → ltb at (sizeOf count) ≡ b
+      go : (b : Bool) → ltb at (entriesHeld count) ≡ b
           → columnIn (grown found count) (set nets at net) (set xs at v) m ≡ cond (eqb net m) v (columnIn count nets xs m)
       go true q =
-          let h : at < sizeOf count = ltb-true at (sizeOf count) q in
+          let h : at < entriesHeld count = ltb-true at (entriesHeld count) q in
           rw (q, same-nets h) (column-set count nets net h xs k v m)
       go false q =
-          let h : sizeOf count ≤ at = ltb-false at (sizeOf count) q in
+          let h : entriesHeld count ≤ at = ltb-false at (entriesHeld count) q in
           let f : (count < 16) × (at ≡ count) = free h in
           rw (q, lt-ltb count 16 (f .0), f .1) (column-add count nets l (f .0) net (omega arith) xs k v m)
 
@@ -220,12 +229,12 @@ module _ (count net : ℕ) (nets : List ℕ) (l : length nets ≡ 16) (room : pl
   pub spared : (xs : List ℕ) → length xs ≡ 16 → (m : ℕ)
       → columnIn (grown found count) (putAt nets at net) (clearUnless found xs at) m ≡ columnIn count nets xs m
   unfolding clearUnless
-  spared xs k m = go (ltb at (sizeOf count)) refl
+  spared xs k m = go (ltb at (entriesHeld count)) refl
     where
-      go : (b : Bool) → ltb at (sizeOf count) ≡ b → columnIn (grown found count) (putAt nets at net) (cond found xs (putAt xs at 0)) m ≡ columnIn count nets xs m
-      go true q = rw (q, put-in nets at net room, same-nets (ltb-true at (sizeOf count) q))
+      go : (b : Bool) → ltb at (entriesHeld count) ≡ b → columnIn (grown found count) (putAt nets at net) (cond found xs (putAt xs at 0)) m ≡ columnIn count nets xs m
+      go true q = rw (q, put-in nets at net room, same-nets (ltb-true at (entriesHeld count) q))
       go false q = rw q (rw q at (touched xs k 0 m)) ∙ zero′ (eqb net m) refl
         where
           zero′ : (b : Bool) → eqb net m ≡ b → cond (eqb net m) 0 (columnIn count nets xs m) ≡ columnIn count nets xs m
-          zero′ true e = rw e (rw (eqb-true net m e) at (sym (missed count nets net (ltb-false at (sizeOf count) q) xs)))
+          zero′ true e = rw e (rw (eqb-true net m e) at (sym (missed count nets net (ltb-false at (entriesHeld count) q) xs)))
           zero′ false e = rw e

@@ -24,13 +24,13 @@ use Rattle.record.proofs.Numbers.{taken-zero}
 use Rattle.validity.proofs.Refusal.{refused, answer-told}
 use Rattle.validity.proofs.Sizes.{advance-sized, new-sized}
 use Rattle.history.specs.Run.{answersOf}
-use Rattle.history.specs.Cell.{Cell, cellIn, entriesIn, cellOf}
-use Rattle.history.specs.History.{Limits, takenOf, homeAfter, homeOf, pendingAfter, pendingOf, isCardChange, eventNews, newsOf, saidBy, saidOf}
+use Rattle.history.specs.Cell.{cellIn, entriesIn, cellOf}
+use Rattle.history.specs.History.{Cell, Limits, takenOf, homeAfter, homeOf, pendingAfter, pendingOf, isCardChange, eventNews, newsOf, saidBy, saidOf}
 use Rattle.history.proofs.Said.{cellAfter, said-none, said-step}
 use Rattle.history.proofs.Cells.{cell-none}
 use Rattle.history.proofs.Next.{next, limitsOf}
 use Rattle.history.proofs.Steps.{home-step, ban-step, n1-step, net-step}
-use Rattle.history.proofs.Events.{card-cell, event-cell}
+use Rattle.history.proofs.News.{card-cell, event-cell}
 
 -- the record agrees with the taken events, the latest first
 record Agrees (l : Limits) (r : Record) (t : List Heard) : Type 0 where
@@ -41,9 +41,17 @@ record Agrees (l : Limits) (r : Record) (t : List Heard) : Type 0 where
   pending : (w : ℕ) → w < 2 → accessOf (r .hot) w .net ≡ pendingOf t w
   cells : (w n : ℕ) → w < 2 → cellOf r w n ≡ saidBy l (newsOf t w n)
 
-alike : {l l′ : Limits} {home home′ net net′ : ℕ} {c c′ : Cell} → l ≡ l′ → home ≡ home′ → net ≡ net′ → c ≡ c′ → (w n : ℕ) (e : Event) (octets : List ℕ)
-    → cellAfter l (eventNews home net w n e octets) c ≡ cellAfter l′ (eventNews home′ net′ w n e octets) c′
-alike p q s t w n e octets = cc
+-- what an event is called goes by the limits, home, the pending network of the access and the cell
+alike : {l l′ : Limits} {home home′ : ℕ} {c c′ : Cell} → l ≡ l′ → home ≡ home′ → c ≡ c′ → (f f′ : ℕ → ℕ) (w n : ℕ) → f w ≡ f′ w → (e : Event) (octets : List ℕ)
+    → cellAfter l (eventNews home f w n e octets) c ≡ cellAfter l′ (eventNews home′ f′ w n e octets) c′
+unfolding eventNews
+alike p q t f f′ w n s (Card home) octets = cc
+alike p q t f f′ w n s (Start b manual net code) octets = cc
+alike p q t f f′ w n s (Message b protected draw) octets = rw (p, q, t, s)
+alike p q t f f′ w n s (Timer number b) octets = cc
+alike p q t f f′ w n s Power octets = cc
+alike p q t f f′ w n s (Key b set) octets = cc
+alike p q t f f′ w n s Unknown octets = cc
 
 module _ (l : Limits) (r : Record) (t : List Heard) (g : Agrees l r t) (x : Heard) where
   abbrev e : Event
@@ -58,21 +66,21 @@ module _ (l : Limits) (r : Record) (t : List Heard) (g : Agrees l r t) (x : Hear
   taken-cells k w n hw = go (isCardChange e) refl
     where
       go : (b : Bool) → isCardChange e ≡ b → cellOf (next r e (x .octets)) w n
-          ≡ saidBy l (cond (isCardChange e) [] (eventNews (homeOf t) (pendingOf t w) w n e (x .octets) ∷ newsOf t w n))
+          ≡ saidBy l (cond (isCardChange e) [] (eventNews (homeOf t) (pendingOf t) w n e (x .octets) ∷ newsOf t w n))
       go true q = rw q (card e q k)
         where
           card : (d : Event) → isCardChange d ≡ true → isTaken (answeredBy r d (x .octets)) ≡ true → cellOf (next r d (x .octets)) w n ≡ saidBy l []
           card (Card home) c k = card-cell r home (x .octets) k w n hw ∙ sym (said-none l)
           card (Start b manual net code) c k = absurd (false≢true c)
-          card (Message b sure draw) c k = absurd (false≢true c)
+          card (Message b protected draw) c k = absurd (false≢true c)
           card (Timer number b) c k = absurd (false≢true c)
           card Power c k = absurd (false≢true c)
           card (Key b set) c k = absurd (false≢true c)
           card Unknown c k = absurd (false≢true c)
       go false q =
           rw q (event-cell r (g .sized .e0) (g .sized .e1) e (x .octets) k q w n hw
-          ∙ alike limits-are (g .home) (g .pending w hw) (g .cells w n hw) w n e (x .octets)
-          ∙ sym (said-step l (eventNews (homeOf t) (pendingOf t w) w n e (x .octets)) (newsOf t w n)))
+          ∙ alike limits-are (g .home) (g .cells w n hw) (λ (v : ℕ). accessOf (r .hot) v .net) (pendingOf t) w n (g .pending w hw) e (x .octets)
+          ∙ sym (said-step l (eventNews (homeOf t) (pendingOf t) w n e (x .octets)) (newsOf t w n)))
 
   agrees-taken : isTaken (answeredBy r e (x .octets)) ≡ true → Sized (next r e (x .octets)) → Agrees l (next r e (x .octets)) (x ∷ t)
   unfolding homeOf pendingOf

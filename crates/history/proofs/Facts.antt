@@ -12,7 +12,8 @@ use Rattle.ranges.specs.Valid as valid
 use Rattle.record.specs.Answers as answers
 use Rattle.turns.specs.Timers as clocks
 use Rattle.record.specs.Setters as setters
-use Rattle.turns.specs.Rows as rows
+use Rattle.turns.specs.Words as words
+use Rattle.turns.specs.Rejects as rows
 use Rattle.turns.specs.Turns as turns
 use Rattle.record.specs.Sides as hot
 use Rattle.checks.specs.Answers as checks
@@ -25,8 +26,8 @@ use Rattle.log.specs.Log as log
 use Rattle.log.specs.Lines as lines
 use Rattle.log.specs.Replay as replay
 use Rattle.history.specs.Cell.{cellIn, entriesIn, cellOf}
-use Rattle.history.specs.Facts.{lineOf, linesOf, rejected, seen, asciiOf, pageOf, facts, AllHold}
+use Rattle.history.specs.Facts.{seenLine, linesOf, rejected, seen, asciiOf, pageOf, facts, AllHold}
 
 pub shown : AllHold facts
-unfolding facts firstRecord lineOf linesOf rejected seen asciiOf pageOf cellIn entriesIn cellOf upto.upto upto.copied upto.seekTo upto.allTo upto.distinctTo octets.formatOf octets.leadOf octets.contentsOf octets.sizeOf octets.elementOf octets.joined octets.elementsOf octets.keptOf octets.gatheredOf octets.gatherOf timers.unitOf timers.spanOf messages.gutiOf messages.countOf messages.tripletsOf messages.waitOf messages.acceptOf messages.acceptedOf messages.acceptReading messages.rejectedOf messages.rejectReading messages.typeReading messages.openedBy messages.readingOf entries.sizeOf entries.placeIn entries.peekAt entries.seenIn entries.liftMark entries.bumped entries.putAt entries.clearUnless entries.raised entries.banned entries.barredBy entries.accepted entries.swept entries.cycled entries.none entries.entriesAfter areas.sizeOf areas.placeIn areas.listedIn areas.placed areas.placedCount areas.kept areas.stayed areas.sweptList areas.listAfter areas.countAfter network.isNetwork new.newDevice new.newAccess new.emptyRecord new.newRecord valid.deviceRanges valid.modeRanges valid.identityRanges valid.heldRanges valid.accessRanges valid.rangesOf valid.countersOf valid.cardOf valid.suciOf valid.codesOf valid.clockOf valid.onceOf valid.validOf answers.numberOf answers.isTaken clocks.flagAfter clocks.toldOf clocks.clocksOf setters.moved setters.forgotten setters.emptied setters.counted setters.pending setters.keyed setters.taught setters.entered clocks.clocked rows.isCard rows.isNetworkNo rows.isAreaNo rows.isN1No rows.isProtocol rows.rowOf rows.startsT3247 rows.needsEntry rows.toRoaming rows.toRegional turns.started turns.keySet turns.accepted turns.failed turns.t3510Out turns.t3511Out turns.t3502Out turns.cycled turns.renewed turns.cardBelow turns.cardLimit turns.cardProtected turns.away turns.home turns.area turns.n1 turns.rowTurn turns.otherTurn hot.accessOf hot.otherOf hot.hotOf checks.mayStart checks.isSame checks.isFree checks.startRange checks.startAnswer checks.rowNow checks.isIgnored checks.isFull checks.rejectAnswer checks.readAnswer checks.messageRange checks.messageAnswer checks.timerRange checks.runs checks.timerAnswer checks.keyAnswer checks.cardAnswer effects.ticked effects.carded effects.cardEffect effects.startEffect effects.keyEffect effects.acceptEffect effects.clockEffect effects.t3247Effect effects.timerEffect effects.powerEffect effects.rejectT3247 effects.rowDeed effects.rowWork effects.rejectEffect plan.heardOf plan.askOf plan.answerOf plan.messageEffect plan.effectOf plan.hotAfter plan.takenReply plan.isIgnoring plan.refusedReply plan.giftOf plan.takenPlan plan.refusedPlan plan.decidedBy plan.planOf parts.seenBy parts.seenOf parts.listedOf parts.plannedBy parts.plannedOf plan.mineOf plan.deedOf parts.tableAfter parts.listed parts.doneOf parts.carriedOut parts.partsAfter parts.networksOf parts.gutiAfter parts.equivalentsAfter parts.suciAfter parts.keptAfter step.together step.joinedOf step.advanceOf step.stepOf log.cardOf log.startOf log.messageOf log.timerOf log.powerOf log.keyOf log.eventOf log.octetsOf log.recordOf log.logOf lines.digitsOf lines.decimal lines.fieldOf lines.lineOf lines.badOf replay.lineAfter replay.textOf
+unfolding facts firstRecord seenLine linesOf rejected seen asciiOf pageOf cellIn entriesIn cellOf upto.upto upto.copied upto.seekTo upto.allTo upto.distinctTo octets.formatOf octets.leadBy octets.contentsBy octets.readAs octets.leadOf octets.contentsOf octets.sizeOf octets.elementOf octets.joined octets.elementsOf octets.elementsFrom octets.firstOf octets.endOf timers.unitOf timers.spanOf messages.gutiOf messages.countOf messages.tripletsOf messages.t3502Of messages.acceptOf messages.endedBy messages.acceptedOf messages.acceptReading messages.rejectReading messages.typeReading messages.openedBy messages.readingOf entries.entriesHeld entries.placeIn entries.hasEntry entries.peekAt entries.seenIn entries.liftMark entries.bumped entries.putAt entries.clearUnless entries.raised entries.banned entries.barredBy entries.unforbidden entries.swept entries.powered entries.none entries.entriesAfter areas.areasHeld areas.areaPlace areas.listedIn areas.placed areas.placedCount areas.kept areas.stayed areas.sweptList areas.listAfter areas.countAfter network.isNetwork new.newDevice new.newAccess new.emptyRecord new.newRecord valid.deviceRanges valid.modeRanges valid.identityRanges valid.heldRanges valid.accessRanges valid.rangesOf valid.countersOf valid.cardOf valid.suciOf valid.codesOf valid.clockOf valid.onceOf valid.validOf answers.numberOf answers.isTaken clocks.flagAfter clocks.isDeviceTimer clocks.runsOn clocks.toldOf clocks.clocksOf setters.forgotten setters.inState setters.withStatus setters.withAttempts setters.emptied setters.counted setters.pending setters.keyed setters.taught setters.entered clocks.clocked rows.isCard rows.isNetworkNo rows.isAreaNo rows.isN1No rows.isProtocol rows.rowOf rows.startsT3247 rows.rejectT3247 rows.isIgnored rows.rowText rows.needsEntry rows.toRoaming rows.toRegional words.holds words.counterAfter words.stateAfter words.ordersAfter words.isRoaming words.isRegional words.isMark words.listOf words.markIn words.acrossOf words.applied turns.started turns.keySet turns.accepted turns.failed turns.t3510Out turns.t3511Out turns.t3502Out turns.cycled turns.renewed turns.turned turns.rowTurn turns.otherTurned turns.otherTurn hot.accessOf hot.otherOf hot.hotOf checks.mayStart checks.isSame checks.isFree checks.placeAnswer checks.startRange checks.startAnswer checks.rowNow checks.isFull checks.rejectAnswer checks.readAnswer checks.messageRange checks.messageAnswer checks.timerRange checks.runs checks.timerAnswer checks.keyAnswer checks.cardAnswer effects.ticked effects.carded effects.cardEffect effects.startEffect effects.keyEffect effects.acceptEffect effects.clockEffect effects.t3247Effect effects.timerEffect effects.powerEffect effects.markDeed effects.rowDeed effects.rowWork effects.rejectEffect plan.askOf plan.siteAt plan.siteOf plan.accessIn plan.answerOf plan.messageEffect plan.effectOf plan.hotAfter plan.takenReply plan.isIgnoring plan.refusedReply plan.takenPlan plan.refusedPlan plan.decidedBy plan.planOf parts.seenBy parts.sightOf parts.seenOf parts.listedOf parts.plannedOf plan.deedOn plan.deedOf parts.tableAfter parts.withCounts parts.doneOf parts.carriedOut parts.partsAfter parts.networksOf parts.gutiAfter parts.equivalentsAfter parts.suciAfter parts.keptAfter step.together step.joinedOf step.advanceOf step.stepOf log.cardEvent log.startEvent log.messageEvent log.timerEvent log.powerEvent log.keyEvent log.eventOf log.besideOf log.recordOf log.logOf lines.digitsOf lines.decimal lines.fieldOf lines.lineOf lines.badOf replay.lineAfter replay.textOf
 shown = (refl, (refl, (refl, (refl, (refl, (refl, (refl, (refl, (refl, (refl, (refl, (refl, (refl, (refl, tt))))))))))))))

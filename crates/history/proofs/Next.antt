@@ -10,7 +10,6 @@ use Rattle.record.specs.declared.Access.{Access}
 use Rattle.record.specs.declared.Device.{Device}
 use Rattle.record.specs.declared.Hot.{Hot}
 use Rattle.record.specs.declared.Record.{Record}
-use Rattle.entries.specs.declared.Entries.{Entries}
 use Rattle.entries.specs.declared.Deed.{Deed}
 use Rattle.entries.specs.Entries.{entriesAfter}
 use Rattle.turns.specs.declared.Orders.{Orders}
@@ -19,14 +18,14 @@ use Rattle.rules.specs.declared.Event.{Event}
 use Rattle.rules.specs.declared.Plan.{Plan}
 use Rattle.record.specs.Sides.{accessOf, otherOf, hotOf}
 use Rattle.effects.specs.Effects.{ticked}
-use Rattle.rules.specs.Plan.{heardOf, hotAfter, takenPlan, mineOf, deedOf}
+use Rattle.rules.specs.Plan.{accessIn, hotAfter, takenPlan, deedOn, deedOf}
 use Rattle.events.specs.declared.Outcome.{Outcome}
-use Rattle.events.specs.Parts.{tableAfter, listed, doneOf, carriedOut, gutiAfter, equivalentsAfter, keptAfter}
+use Rattle.events.specs.Parts.{tableAfter, withCounts, doneOf, carriedOut, gutiAfter, equivalentsAfter, keptAfter}
 use Rattle.events.specs.Step.{together, joinedOf, advanceOf}
-use Rattle.validity.specs.Answered.{askIn, seenAt, answeredBy}
+use Rattle.validity.specs.Answered.{answeredBy}
 use Rattle.validity.proofs.Refusal.{carry, effectIn, taken-plan}
 use Rattle.validity.specs.Sized.{Columns}
-use Rattle.history.specs.Cell.{cellIn, entriesIn, cellOf}
+use Rattle.history.specs.Cell.{entriesIn}
 use Rattle.history.specs.History.{Limits}
 
 -- access w of two
@@ -71,7 +70,7 @@ module _ (r : Record) (octets : List ℕ) (p : Plan) where
   after = carry r octets p .next
 
   carry-access : (w : ℕ) → accessOf (after .hot) w ≡ accessOf (p .hot) w
-  unfolding accessOf joinedOf together carriedOut doneOf listed
+  unfolding accessOf joinedOf together carriedOut doneOf withCounts
   carry-access w = refl
 
   carry-entries : (w : ℕ) → w < 2 → entriesIn after w ≡ tableAfter p w (accessOf (r .hot) w .entries) (r .hot) (entriesIn r w)
@@ -80,14 +79,14 @@ module _ (r : Record) (octets : List ℕ) (p : Plan) where
   carry-entries (suc zero) h = refl
   carry-entries (suc (suc w)) h = absurd (omega arith)
 
-  pub carry-guti : (w : ℕ) → w < 2 → cond (eqb w 0) (after .guti0) (after .guti1) ≡ gutiAfter p w octets (cond (eqb w 0) (r .guti0) (r .guti1))
+  pub carry-guti : (w : ℕ) → w < 2 → cond (eqb w 0) (after .guti0) (after .guti1) ≡ gutiAfter (p .work .keep) (eqb (p .access) w) octets (cond (eqb w 0) (r .guti0) (r .guti1))
   unfolding joinedOf together carriedOut doneOf keptAfter
   carry-guti zero h = refl
   carry-guti (suc zero) h = refl
   carry-guti (suc (suc w)) h = absurd (omega arith)
 
   pub carry-equivalents : (w : ℕ) → w < 2
-      → cond (eqb w 0) (after .equivalents0) (after .equivalents1) ≡ equivalentsAfter p w octets (cond (eqb w 0) (r .equivalents0) (r .equivalents1))
+      → cond (eqb w 0) (after .equivalents0) (after .equivalents1) ≡ equivalentsAfter (p .work .keep) (eqb (p .access) w) octets (cond (eqb w 0) (r .equivalents0) (r .equivalents1))
   unfolding joinedOf together carriedOut doneOf keptAfter
   carry-equivalents zero h = refl
   carry-equivalents (suc zero) h = refl
@@ -99,54 +98,44 @@ module _ (r : Record) (e : Event) (octets : List ℕ) where
 
   -- the plan of the event if it is taken
   abbrev pub plan : Plan
-  plan = takenPlan (r .hot) (askIn r e) (seenAt r e) (heardOf e octets) (effectIn r e octets)
+  plan = takenPlan (r .hot) (accessIn e) (effectIn r e octets)
 
-  -- what is done on access w: the deed, at the place that was seen
-  abbrev pub deedOn : ℕ → ℕ → Deed
-  deedOn deed w = record { kind = mineOf deed (askIn r e .access) w; at = seenAt r e .at; found = seenAt r e .found; net = askIn r e .net; sure = askIn r e .sure }
-
-  abbrev doneOn : ℕ → ℕ → Entries
-  doneOn deed w = entriesAfter (deedOn deed w) (accessOf (r .hot) w .entries) (r .hot .dev .banlimit) (r .hot .dev .n1limit) (entriesIn r w)
-
-  pub idle-on : (deed w : ℕ) → mineOf deed (askIn r e .access) w ≡ 0 → doneOn deed w ≡ entriesIn r w
-  unfolding entriesAfter
-  idle-on deed w z = rw z
+  -- what is done on the entries of access w
+  abbrev pub deedIn : ℕ → Deed
+  deedIn w = cond (eqb (accessIn e) w) (effectIn r e octets .work .mine) (effectIn r e octets .work .theirs)
 
   module _ (t : isTaken (answeredBy r e octets) ≡ true) where
     -- a number of the device that is neither T3247's nor a count of an area list
-    pub taken-device : (f : Device → ℕ) → ((t3247 : ℕ) (d : Device) → f (ticked t3247 d) ≡ f d) → ((m n : ℕ) (h : Hot) → f (listed m n h .dev) ≡ f (h .dev))
+    pub taken-device : (f : Device → ℕ) → ((t3247 : ℕ) (d : Device) → f (ticked t3247 d) ≡ f d) → ((m n : ℕ) (h : Hot) → f (withCounts m n h .dev) ≡ f (h .dev))
         → f (next .hot .dev) ≡ f (effectIn r e octets .dev)
     unfolding joinedOf together carriedOut doneOf takenPlan hotAfter
     taken-device f k m =
-        ap (λ (o : Outcome). f (o .next .hot .dev)) (taken-plan r e octets t) ∙ m _ _ (plan .hot) ∙ ap f (dev-of _ (askIn r e .access) _ _) ∙ k _ (effectIn r e octets .dev)
+        ap (λ (o : Outcome). f (o .next .hot .dev)) (taken-plan r e octets t) ∙ m _ _ (plan .hot) ∙ ap f (dev-of _ (accessIn e) _ _) ∙ k _ (effectIn r e octets .dev)
 
-    pub taken-entries : (w : ℕ) → w < 2 → entriesIn next w ≡ doneOn (effectIn r e octets .work .deed) w
-    unfolding tableAfter takenPlan deedOf
+    pub taken-entries : (w : ℕ) → w < 2
+        → entriesIn next w ≡ entriesAfter (deedIn w) (accessOf (r .hot) w .entries) (r .hot .dev .banlimit) (r .hot .dev .n1limit) (entriesIn r w)
+    unfolding tableAfter takenPlan deedOf deedOn
     taken-entries w hw = ap (λ (o : Outcome). entriesIn (o .next) w) (taken-plan r e octets t) ∙ carry-entries r octets plan w hw
 
-    module _ (hb : askIn r e .access < 2) (w : ℕ) (hw : w < 2) where
+    module _ (hb : accessIn e < 2) (w : ℕ) (hw : w < 2) where
       pub taken-access : accessOf (next .hot) w
-          ≡ cond (eqb (askIn r e .access) w) (clocked (effectIn r e octets .mine .orders) (effectIn r e octets .mine .access))
+          ≡ cond (eqb (accessIn e) w) (clocked (effectIn r e octets .mine .orders) (effectIn r e octets .mine .access))
           (clocked (effectIn r e octets .theirs .orders) (effectIn r e octets .theirs .access))
       unfolding takenPlan hotAfter
       taken-access =
-          ap (λ (o : Outcome). accessOf (o .next .hot) w) (taken-plan r e octets t) ∙ carry-access r octets plan w ∙ access-of _ (askIn r e .access) _ _ w hb hw
+          ap (λ (o : Outcome). accessOf (o .next .hot) w) (taken-plan r e octets t) ∙ carry-access r octets plan w ∙ access-of _ (accessIn e) _ _ w hb hw
 
       taken-number : (f : Access → ℕ) → ((o : Orders) (a : Access) → f (clocked o a) ≡ f a)
-          → f (accessOf (next .hot) w) ≡ cond (eqb (askIn r e .access) w) (f (effectIn r e octets .mine .access)) (f (effectIn r e octets .theirs .access))
-      taken-number f k = ap f taken-access ∙ number-of f k (eqb (askIn r e .access) w) _ _ _ _
+          → f (accessOf (next .hot) w) ≡ cond (eqb (accessIn e) w) (f (effectIn r e octets .mine .access)) (f (effectIn r e octets .theirs .access))
+      taken-number f k = ap f taken-access ∙ number-of f k (eqb (accessIn e) w) _ _ _ _
 
-      pub taken-net : accessOf (next .hot) w .net ≡ cond (eqb (askIn r e .access) w) (effectIn r e octets .mine .access .net) (effectIn r e octets .theirs .access .net)
+      pub taken-net : accessOf (next .hot) w .net ≡ cond (eqb (accessIn e) w) (effectIn r e octets .mine .access .net) (effectIn r e octets .theirs .access .net)
       unfolding clocked
       taken-net = taken-number (λ (a : Access). a .net) (λ o a. refl)
 
-      -- the cell of network n after a taken event
-      pub taken-cell : (n : ℕ) → cellOf next w n
-          ≡ cellIn (cond (eqb (askIn r e .access) w) (effectIn r e octets .mine .access .entries) (effectIn r e octets .theirs .access .entries))
-          (doneOn (effectIn r e octets .work .deed) w) n
-      unfolding cellOf clocked
-      taken-cell n =
-          rw (taken-entries w hw) (ap (λ (k : ℕ). cellIn k (doneOn (effectIn r e octets .work .deed) w) n) (taken-number (λ (a : Access). a .entries) (λ o a. refl)))
+      pub taken-count : accessOf (next .hot) w .entries ≡ cond (eqb (accessIn e) w) (effectIn r e octets .mine .access .entries) (effectIn r e octets .theirs .access .entries)
+      unfolding clocked
+      taken-count = taken-number (λ (a : Access). a .entries) (λ o a. refl)
 
 module _ (r : Record) where
   -- the limits of the network counters

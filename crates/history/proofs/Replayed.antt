@@ -10,10 +10,10 @@ use mathlib.Core.List.{List, [], _∷_}
 use Rattle.record.specs.declared.Record.{Record}
 use Rattle.ranges.specs.Valid.{validOf}
 use Rattle.record.specs.New.{madeOf, mayMake}
-use Rattle.log.specs.Log.{Log, over, bad, entry, pairAt, octetsOf, octetsIn, eventIn, recordOf, logOf}
-use Rattle.log.specs.Held.{endOf}
-use Rattle.log.specs.Replay.{bare, stripped}
-use Rattle.log.proofs.Bare.{strips}
+use Rattle.log.specs.Log.{Log, over, bad, entry, pairAt, besideOf, octetsIn, eventIn, recordOf, logOf}
+use Rattle.log.specs.Held.{leadsTo}
+use Rattle.log.specs.Replay.{withoutCapabilities, stripped}
+use Rattle.log.proofs.Without.{strips}
 use Rattle.validity.specs.Sized.{Sized}
 use Rattle.validity.specs.Run.{Octets, AllOctets, runOf}
 use Rattle.validity.proofs.Messages.{drop-octets}
@@ -26,8 +26,8 @@ use Rattle.history.specs.Run.{answersOf}
 use Rattle.history.specs.Replayed.{heardIn}
 use Rattle.history.proofs.Demand3.{demand3-made}
 
-pub replayed : (l : Log) (r : Record) → AllOctets (heardIn l) → Sized r → validOf r ≡ true → endOf (stripped r) l ≡ stripped (runOf r (heardIn l))
-unfolding endOf heardIn runOf
+pub replayed : (l : Log) (r : Record) → AllOctets (heardIn l) → Sized r → validOf r ≡ true → leadsTo (stripped r) l ≡ stripped (runOf r (heardIn l))
+unfolding leadsTo heardIn runOf
 replayed over r o s v = refl
 replayed (bad at) r o s v = refl
 replayed (entry e octets l) r o s v =
@@ -47,7 +47,7 @@ either-small true x y a b = a
 either-small false x y a b = b
 
 beside-small : (s : List ℕ) → Octets s → Octets (octetsIn s)
-unfolding octetsOf
+unfolding besideOf
 beside-small s o =
     either-small (eqb (pairAt s 0) 1) _ _ (drop-octets 3 (drop 2 s) (drop-octets 2 s o))
     (either-small (eqb (pairAt s 0) 3) _ _ (drop-octets 4 (drop 2 s) (drop-octets 2 s o)) (λ k. omega arith))
@@ -74,13 +74,13 @@ log-small zero at (low ∷ high ∷ s) o =
     (log-small (low + high * 256) (suc (suc at)) s (λ j. o (suc (suc j))))
 
 cell-stripped : (r : Record) (w n : ℕ) → cellOf (stripped r) w n ≡ cellOf r w n
-unfolding cellOf entriesIn stripped bare
+unfolding cellOf entriesIn stripped withoutCapabilities
 cell-stripped r w n = refl
 
 -- Demand 3 for what runs: over any log of octets from a new record, the replay ends with the counters and marks that the history says.
 pub demand3-replayed : (cardlimit banlimit n1limit : ℕ) (capability security : List ℕ)
     → mayMake cardlimit banlimit n1limit (length capability) (length security) ≡ true → (s : List ℕ) → Octets s → (w n : ℕ) → w < 2
-    → cellOf (endOf (stripped (madeOf cardlimit banlimit n1limit capability security .made)) (logOf 0 0 s)) w n
+    → cellOf (leadsTo (stripped (madeOf cardlimit banlimit n1limit capability security .made)) (logOf 0 0 s)) w n
     ≡ saidOf (record { ban = banlimit; n1 = n1limit }) (heardIn (logOf 0 0 s)) (answersOf (madeOf cardlimit banlimit n1limit capability security .made) (heardIn (logOf 0 0 s))) w n
 demand3-replayed x y z c d ok s o w n hw =
     ap (λ r. cellOf r w n) (replayed (logOf 0 0 s) (madeOf x y z c d .made) (log-small 0 0 s o) (made-sized x y z c d) (made-valid x y z c d))

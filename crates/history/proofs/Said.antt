@@ -1,4 +1,4 @@
--- One piece of news more is one change of the cell: by cases of the news. Assumes nothing.
+-- One piece of news more is one change of the cell: for each list by cases of its word. Assumes nothing.
 use Prim.Native.Nat.{ℕ, zero, suc, _+_, min}
 use mathlib.Core.Path.{_≡_, refl}
 use mathlib.Core.Bool.{Bool, true, false, cond, not, _&&_}
@@ -7,8 +7,26 @@ use native.Mathlib.Omega.{arith}
 use lib.Dec.{ltb}
 use borrow.Author.Tests.{ltb-true, ltb-false, lt-ltb, le-ltb, ne-eqb}
 use Rattle.entries.specs.Entries.{liftMark}
-use Rattle.history.specs.Cell.{Cell}
-use Rattle.history.specs.History.{Limits, News, banned, barred, accepted, ended, cycled, nothing, isBan, isBar, some, many, counterOf, isBegun, stands, liftsBan, liftsBar, markOf, saidBy}
+use Rattle.history.specs.History.{Cell, Limits, Word, struck, cleared, tested, nothing, News, news, isStruck, some, many, counterOf, isBegun, stands, markOf, bansIn, barsIn, saidBy}
+
+-- the news of each event
+abbrev pub banned : Bool → News
+banned p = news (struck p) nothing
+
+abbrev pub barred : Bool → News
+barred p = news nothing (struck p)
+
+abbrev pub accepted : News
+accepted = news cleared nothing
+
+abbrev pub ended : News
+ended = news tested tested
+
+abbrev pub cycled : News
+cycled = news tested cleared
+
+abbrev pub quiet : News
+quiet = news nothing nothing
 
 -- a counter after a reject, protected or not
 abbrev pub raise : ℕ → Bool → ℕ → ℕ
@@ -21,14 +39,24 @@ cell a b f g = record { ban = a; n1 = b; forbidden = f; barred = g }
 abbrev pub blank : Cell
 blank = cell 0 0 0 0
 
+-- what a word makes of a list's counter, and of its mark
+unfoldable pub countAfter : ℕ → Word → ℕ → ℕ
+countAfter limit (struck p) n = raise limit p n
+countAfter limit cleared n = n
+countAfter limit tested n = n
+countAfter limit nothing n = n
+
+unfoldable pub markAfter : ℕ → Word → ℕ → ℕ → ℕ
+markAfter limit (struck p) n mark = 1
+markAfter limit cleared n mark = 0
+markAfter limit tested n mark = liftMark limit n mark
+markAfter limit nothing n mark = mark
+
 -- what a piece of news makes of the cell of its network
 unfoldable pub cellAfter : Limits → News → Cell → Cell
-cellAfter l (banned p) c = cell (raise (l .ban) p (c .ban)) (c .n1) 1 (c .barred)
-cellAfter l (barred p) c = cell (c .ban) (raise (l .n1) p (c .n1)) (c .forbidden) 1
-cellAfter l accepted c = cell (c .ban) (c .n1) 0 (c .barred)
-cellAfter l ended c = cell (c .ban) (c .n1) (liftMark (l .ban) (c .ban) (c .forbidden)) (liftMark (l .n1) (c .n1) (c .barred))
-cellAfter l cycled c = cell (c .ban) (c .n1) (liftMark (l .ban) (c .ban) (c .forbidden)) 0
-cellAfter l nothing c = c
+cellAfter l d c =
+    cell (countAfter (l .ban) (d .ban) (c .ban)) (countAfter (l .n1) (d .bar) (c .n1))
+    (markAfter (l .ban) (d .ban) (c .ban) (c .forbidden)) (markAfter (l .n1) (d .bar) (c .n1) (c .barred))
 
 -- one unprotected reject more
 one-more : (b : Bool) (limit k : ℕ) → cond b limit (min (suc k) limit) ≡ raise limit false (cond b limit (min k limit))
@@ -49,6 +77,21 @@ lift limit (suc n) s = rw (lt-ltb 0 (suc n) (omega arith), ne-eqb (suc n) 0 (λ 
     go true s = refl
     go false s = refl
 
+counted : (limit : ℕ) (d : Word) (ds : List Word) → counterOf limit (d ∷ ds) ≡ countAfter limit d (counterOf limit ds)
+unfolding counterOf countAfter some many isStruck
+counted limit (struck true) ds = refl
+counted limit (struck false) ds = one-more (some (isStruck true) ds) limit (many (isStruck false) ds)
+counted limit cleared ds = refl
+counted limit tested ds = refl
+counted limit nothing ds = refl
+
+marked : (limit : ℕ) (d : Word) (ds : List Word) → markOf (stands limit (d ∷ ds)) ≡ markAfter limit d (counterOf limit ds) (markOf (stands limit ds))
+unfolding stands markAfter
+marked limit (struck p) ds = refl
+marked limit cleared ds = refl
+marked limit tested ds = lift limit (counterOf limit ds) (stands limit ds)
+marked limit nothing ds = refl
+
 none : (limit : ℕ) → min 0 limit ≡ 0
 none limit = omega arith
 
@@ -57,13 +100,6 @@ unfolding saidBy counterOf some many stands
 said-none l = cc (none (l .ban), none (l .n1))
 
 pub said-step : (l : Limits) (d : News) (ds : List News) → saidBy l (d ∷ ds) ≡ cellAfter l d (saidBy l ds)
-unfolding saidBy cellAfter counterOf some many stands isBan isBar liftsBan liftsBar
-said-step l (banned true) ds = refl
-said-step l (banned false) ds = cc (one-more (some (isBan true) ds) (l .ban) (many (isBan false) ds))
-said-step l (barred true) ds = refl
-said-step l (barred false) ds = cc (one-more (some (isBar true) ds) (l .n1) (many (isBar false) ds))
-said-step l accepted ds = refl
-said-step l ended ds =
-    cc (lift (l .ban) (counterOf isBan (l .ban) ds) (stands isBan (liftsBan (l .ban)) ds), lift (l .n1) (counterOf isBar (l .n1) ds) (stands isBar (liftsBar (l .n1)) ds))
-said-step l cycled ds = cc (lift (l .ban) (counterOf isBan (l .ban) ds) (stands isBan (liftsBan (l .ban)) ds))
-said-step l nothing ds = refl
+unfolding saidBy cellAfter
+said-step l d ds =
+    cc (counted (l .ban) (d .ban) (bansIn ds), counted (l .n1) (d .bar) (barsIn ds), marked (l .ban) (d .ban) (bansIn ds), marked (l .n1) (d .bar) (barsIn ds))

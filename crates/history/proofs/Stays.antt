@@ -1,105 +1,169 @@
--- What a taken event leaves alone: numbers of the device, and of an access that its effect does not touch. Assumes nothing.
-use Prim.Native.Nat.{ℕ, _<_}
-use mathlib.Core.Path.{_≡_, refl, ap}
+-- What a taken event leaves alone: the device's numbers and the pending networks; and how many entries it leaves, by its deeds. Assumes nothing.
+use Prim.Native.Nat.{ℕ, zero, suc, _<_}
+use mathlib.Core.Path.{_≡_, refl, _∙_, ap}
 use mathlib.Core.Bool.{Bool, true, false, cond}
 use mathlib.Core.List.{List}
 use native.Mathlib.Omega.{arith}
-use lib.Dec.{eqb}
+use lib.Dec.{ltb, eqb}
 use borrow.Author.Tests.{leb-true, eqb-true}
+use Rattle.laws.specs.Bounds.{oneMore}
 use Rattle.record.specs.Tests.{isFlag}
 use Rattle.record.specs.Answers.{isTaken}
+use Rattle.record.specs.New.{newAccess}
 use Rattle.record.specs.declared.Access.{Access}
 use Rattle.record.specs.declared.Hot.{Hot}
 use Rattle.record.specs.declared.Record.{Record}
+use Rattle.record.specs.Setters.{inState, withStatus, withAttempts, forgotten, emptied, counted, pending, keyed, taught}
+use Rattle.record.specs.Sides.{accessOf, otherOf}
 use Rattle.entries.specs.declared.Seen.{Seen}
+use Rattle.entries.specs.declared.Seat.{Seat}
+use Rattle.entries.specs.Entries.{seenIn, seatOf}
 use Rattle.messages.specs.declared.Reading.{Reading}
 use Rattle.messages.specs.declared.Reading.the-variants as reading
-use Rattle.record.specs.Setters.{moved, taught}
-use Rattle.turns.specs.Turns.{t3511Out, t3502Out}
+use Rattle.messages.specs.Message.{readingOf}
+use Rattle.turns.specs.Timers.{isDeviceTimer}
+use Rattle.turns.specs.Words.{Text, says, asT3510Out, Mark, noMark, forbiddenAndCounted, n1NotAllowedAndCounted, Across, untouched, cardCounterToLimit, counterAfter, isMark, markIn, acrossOf, applied}
+use Rattle.turns.specs.Rejects.{rowText}
+use Rattle.turns.specs.Turns.{started, keySet, renewed, failed, t3510Out, t3511Out, t3502Out, turned, rowTurn, otherTurned, otherTurn}
 use Rattle.turns.specs.Turns as turns
-use Rattle.effects.specs.Effects.{Effect, acceptEffect, clockEffect, t3247Effect, timerEffect, rejectEffect}
+use Rattle.checks.specs.Answers.{rowNow}
+use Rattle.effects.specs.Effects.{Effect, cardEffect, startEffect, keyEffect, acceptEffect, clockEffect, t3247Effect, timerEffect, powerEffect, markDeed, rowDeed, rowWork, rejectEffect}
 use Rattle.rules.specs.declared.Event.{Event}
 use Rattle.rules.specs.declared.Event.the-variants.{Card, Start, Message, Timer, Power, Key, Unknown}
-use Rattle.record.specs.Sides.{accessOf, otherOf}
-use Rattle.checks.specs.Answers.{rowNow}
-use Rattle.rules.specs.Plan.{askOf, answerOf, messageEffect}
-use Rattle.validity.specs.Answered.{askIn, answeredBy}
+use Rattle.rules.specs.Plan.{askOf, accessIn, answerOf, messageEffect, effectOf}
+use Rattle.events.specs.Parts.{sightOf, seenBy, seenOf}
+use Rattle.validity.specs.Answered.{seenAt, answeredBy}
+use Rattle.validity.proofs.Refusal.{effectIn}
+use Rattle.validity.proofs.Setters.{grown}
+use Rattle.validity.proofs.Own.{seatIn}
 use Rattle.validity.proofs.Taken.{start-passed, message-passed, timer-passed, key-passed}
+use Rattle.history.specs.Cell.{entriesIn}
+use Rattle.history.proofs.Cells.{countBy}
 use Rattle.history.proofs.Next.{other-of}
-use Rattle.history.proofs.Rows.{out-left, row-left, other-left}
 
 flag-small : (w : ℕ) → isFlag w ≡ true → w < 2
 flag-small w h = omega (arith, leb-true w 1 h)
 
 -- the access of a taken event is 0 or 1
-pub small : (r : Record) (e : Event) (octets : List ℕ) → isTaken (answeredBy r e octets) ≡ true → askIn r e .access < 2
-unfolding askOf answeredBy answerOf
+pub small : (r : Record) (e : Event) (octets : List ℕ) → isTaken (answeredBy r e octets) ≡ true → accessIn e < 2
+unfolding accessIn answeredBy answerOf
 small r (Card home) octets t = omega arith
 small r (Start w manual net code) octets t = flag-small w (start-passed (r .hot) w manual net code _ _ t .0)
-small r (Message w sure draw) octets t = flag-small w (message-passed (r .hot) w sure draw _ _ t .0)
+small r (Message w protected draw) octets t = flag-small w (message-passed (r .hot) w protected draw _ _ t .0)
 small r (Timer number w) octets t = flag-small w (timer-passed (r .hot) number w t .0)
 small r Power octets t = omega arith
 small r (Key w set) octets t = flag-small w (key-passed (r .hot) w set t .0)
 small r Unknown octets t = omega arith
 
--- What stays.
+-- both accesses' numbers, read from the event's own and the other
+pub both-kept : (h : Hot) (f : Access → ℕ) (b w : ℕ) → b < 2 → w < 2 → cond (eqb b w) (f (accessOf h b)) (f (otherOf h b)) ≡ f (accessOf h w)
+both-kept h f b w hb hw = go (eqb b w) refl
+  where
+    go : (s : Bool) → eqb b w ≡ s → cond (eqb b w) (f (accessOf h b)) (f (otherOf h b)) ≡ f (accessOf h w)
+    go true q = rw q (ap (λ (z : ℕ). f (accessOf h z)) (eqb-true b w q))
+    go false q = rw q (ap f (other-of h b w hb hw q))
 
-module _ (h : Hot) where
-  -- both accesses' numbers, read from the event's own and the other
-  pub both-kept : (f : Access → ℕ) (b w : ℕ) → b < 2 → w < 2 → cond (eqb b w) (f (accessOf h b)) (f (otherOf h b)) ≡ f (accessOf h w)
-  both-kept f b w hb hw = go (eqb b w) refl
+-- the pending network and the count of entries that a turn leaves
+abbrev Left : ℕ → ℕ → Access → Type 0
+Left net entries a = (a .net ≡ net) × (a .entries ≡ entries)
+
+failed-left : (n : ℕ) (a : Access) → Left (a .net) (a .entries) (failed n a .access)
+unfolding failed inState withStatus withAttempts forgotten emptied
+failed-left n a = go (ltb n 5) refl
+  where
+    go : (b : Bool) → ltb n 5 ≡ b → Left (a .net) (a .entries) (failed n a .access)
+    go true q = rw q (refl, refl)
+    go false q = rw q (refl, refl)
+
+text-left : (t : Text) (w limit cause : ℕ) (found : Bool) (a : Access) → Left (a .net) (cond (isMark (markIn t)) (grown found (a .entries)) (a .entries)) (turned t w limit cause found a .access)
+unfolding turned applied markIn isMark
+text-left (says t) w limit cause found a = (refl, refl)
+text-left (asT3510Out n) w limit cause found a = failed-left (counterAfter n w cause 5 (a .attempts)) a
+
+across-left : (o : Across) (limit : ℕ) (a : Access) → Left (a .net) (a .entries) (otherTurned o limit a .access)
+unfolding otherTurned counted
+across-left untouched limit a = (refl, refl)
+across-left cardCounterToLimit limit a = (refl, refl)
+
+mark-count : (m : Mark) (s : Seat) (count : ℕ) → cond (isMark m) (grown (s .found) count) count ≡ countBy (markDeed m s) count
+unfolding markDeed isMark
+mark-count noMark s count = refl
+mark-count forbiddenAndCounted s count = refl
+mark-count n1NotAllowedAndCounted s count = refl
+
+-- an effect that leaves the device's numbers and the pending networks
+pub record Keeps (h : Hot) (b : ℕ) (e : Effect) : Type 0 where
+  pub dev : e .dev ≡ h .dev
+  pub net : e .mine .access .net ≡ accessOf h b .net
+  pub others : e .theirs .access .net ≡ otherOf h b .net
+
+-- how many entries each access has after an effect: as many as its deed leaves
+pub record Counts (h : Hot) (b : ℕ) (e : Effect) : Type 0 where
+  pub mine : e .mine .access .entries ≡ countBy (e .work .mine) (accessOf h b .entries)
+  pub theirs : e .theirs .access .entries ≡ countBy (e .work .theirs) (otherOf h b .entries)
+
+module _ (r : Record) where
+  abbrev h : Hot
+  h = r .hot
+
+  -- T3510 out, T3511 out, T3502 out
+  clock-stays : (number b : ℕ) → Keeps h b (clockEffect h number b) × Counts h b (clockEffect h number b)
+  unfolding clockEffect t3510Out t3511Out t3502Out withAttempts
+  clock-stays number b = go (eqb number 1) refl (eqb number 2) refl
     where
-      go : (s : Bool) → eqb b w ≡ s → cond (eqb b w) (f (accessOf h b)) (f (otherOf h b)) ≡ f (accessOf h w)
-      go true q = rw q (ap (λ (z : ℕ). f (accessOf h z)) (eqb-true b w q))
-      go false q = rw q (ap f (other-of h b w hb hw q))
-
-  -- the same, from access 0's and access 1's
-  pub each-kept : (f : Access → ℕ) (w : ℕ) → w < 2 → cond (eqb 0 w) (f (h .a0)) (f (h .a1)) ≡ f (accessOf h w)
-  unfolding accessOf otherOf
-  each-kept f w hw = both-kept f 0 w (omega arith) hw
-
-  pub out-effect : (number b : ℕ) → eqb number 4 ≡ true → timerEffect h number b ≡ t3247Effect h b
-  unfolding timerEffect
-  out-effect number b q = rw q
-
-  -- an effect that leaves the device's numbers and the pending networks
-  pub record Keeps (b : ℕ) (e : Effect) : Type 0 where
-    pub dev : e .dev ≡ h .dev
-    pub net : e .mine .access .net ≡ accessOf h b .net
-    pub others : e .theirs .access .net ≡ otherOf h b .net
-
-  -- the same of one that touches no entry
-  pub record Spares (b : ℕ) (e : Effect) : Type 0 where
-    pub keeps : Keeps b e
-    pub mine : e .mine .access .entries ≡ accessOf h b .entries
-    pub theirs : e .theirs .access .entries ≡ otherOf h b .entries
-    pub deed : e .work .deed ≡ 0
-
-  pub clock-spares : (number b : ℕ) → Spares b (clockEffect h number b)
-  unfolding clockEffect t3511Out t3502Out moved
-  clock-spares number b = go (eqb number 1) refl (eqb number 2) refl
-    where
-      go : (s : Bool) → eqb number 1 ≡ s → (s′ : Bool) → eqb number 2 ≡ s′ → Spares b (clockEffect h number b)
+      go : (s : Bool) → eqb number 1 ≡ s → (s′ : Bool) → eqb number 2 ≡ s′ → Keeps h b (clockEffect h number b) × Counts h b (clockEffect h number b)
       go true q s′ q′ =
-          let l = out-left (accessOf h b) in rw q (record { keeps = record { dev = refl; net = l .0; others = refl }; mine = l .1; theirs = refl; deed = refl })
-      go false q true q′ = rw (q, q′) (record { keeps = record { dev = refl; net = refl; others = refl }; mine = refl; theirs = refl; deed = refl })
-      go false q false q′ = rw (q, q′) (record { keeps = record { dev = refl; net = refl; others = refl }; mine = refl; theirs = refl; deed = refl })
+          let l = failed-left (oneMore 5 (accessOf h b .attempts)) (accessOf h b) in
+          rw q (record { dev = refl; net = l .0; others = refl }, record { mine = l .1; theirs = refl })
+      go false q true q′ = rw (q, q′) (record { dev = refl; net = refl; others = refl }, record { mine = refl; theirs = refl })
+      go false q false q′ = rw (q, q′) (record { dev = refl; net = refl; others = refl }, record { mine = refl; theirs = refl })
 
-  pub timer-keeps : (number b : ℕ) → Keeps b (timerEffect h number b)
+  timer-stays : (number b : ℕ) → Keeps h b (timerEffect h number b) × Counts h b (timerEffect h number b)
   unfolding timerEffect t3247Effect
-  timer-keeps number b = go (eqb number 4) refl
+  timer-stays number b = go (isDeviceTimer number) refl
     where
-      go : (s : Bool) → eqb number 4 ≡ s → Keeps b (timerEffect h number b)
-      go true q = rw q (record { dev = refl; net = refl; others = refl })
-      go false q = rw q (clock-spares number b .keeps)
+      go : (s : Bool) → isDeviceTimer number ≡ s → Keeps h b (timerEffect h number b) × Counts h b (timerEffect h number b)
+      go true q = rw q (record { dev = refl; net = refl; others = refl }, record { mine = refl; theirs = refl })
+      go false q = rw q (clock-stays number b)
 
-  pub message-keeps : (b sure draw : ℕ) (m : Reading) (s : Seen) → Keeps b (messageEffect h b sure draw m s)
-  unfolding messageEffect acceptEffect rejectEffect turns.accepted taught moved
-  message-keeps b sure draw (reading.Accept g) s = record { dev = refl; net = refl; others = refl }
-  message-keeps b sure draw (reading.Reject cause) s =
-      record {
-        dev = refl;
-        net = row-left b (h .dev .cardlimit) cause (s .found) (accessOf h b) (rowNow h b sure cause) .0;
-        others = other-left (h .dev .cardlimit) (otherOf h b) (rowNow h b sure cause) .0;
-      }
-  message-keeps b sure draw (reading.Bad f at) s = record { dev = refl; net = refl; others = refl }
+  pub timer-keeps : (number b : ℕ) → Keeps h b (timerEffect h number b)
+  timer-keeps number b = timer-stays number b .0
+
+  pub message-keeps : (b protected draw : ℕ) (m : Reading) (s : Seen) → Keeps h b (messageEffect h b protected draw m s)
+  unfolding messageEffect acceptEffect rejectEffect turns.accepted taught inState withStatus withAttempts rowTurn otherTurn
+  message-keeps b protected draw (reading.Accept g) s = record { dev = refl; net = refl; others = refl }
+  message-keeps b protected draw (reading.Reject cause) s = record {
+    dev = refl;
+    net = text-left (rowText (rowNow h b protected cause)) b (h .dev .cardlimit) cause (s .found) (accessOf h b) .0;
+    others = across-left (acrossOf (rowText (rowNow h b protected cause))) (h .dev .cardlimit) (otherOf h b) .0;
+  }
+  message-keeps b protected draw (reading.Bad f at) s = record { dev = refl; net = refl; others = refl }
+
+  -- what is seen of the pending network is its seat on the message's access
+  pub seen-seat : (b protected draw : ℕ) → b < 2 → (p : ℕ)
+      → seatOf (seenAt r (Message b protected draw)) (accessOf h b .net) p ≡ seatIn (accessOf h b .entries) (accessOf h b .net) p (entriesIn r b .nets)
+  unfolding askOf seenOf seenBy sightOf seenIn accessOf entriesIn
+  seen-seat zero protected draw hb p = refl
+  seen-seat (suc zero) protected draw hb p = refl
+  seen-seat (suc (suc b)) protected draw hb p = absurd (omega arith)
+
+  message-counts : (b protected draw : ℕ) (m : Reading) → Counts h b (messageEffect h b protected draw m (seenAt r (Message b protected draw)))
+  unfolding messageEffect acceptEffect rejectEffect turns.accepted taught inState withStatus withAttempts rowTurn otherTurn rowWork rowDeed
+  message-counts b protected draw (reading.Accept g) = record { mine = refl; theirs = refl }
+  message-counts b protected draw (reading.Reject cause) = record {
+    mine =
+        text-left (rowText (rowNow h b protected cause)) b (h .dev .cardlimit) cause (seenAt r (Message b protected draw) .found) (accessOf h b) .1
+        ∙ mark-count (markIn (rowText (rowNow h b protected cause))) (seatOf (seenAt r (Message b protected draw)) (accessOf h b .net) protected) (accessOf h b .entries);
+    theirs = across-left (acrossOf (rowText (rowNow h b protected cause))) (h .dev .cardlimit) (otherOf h b) .1;
+  }
+  message-counts b protected draw (reading.Bad f at) = record { mine = refl; theirs = refl }
+
+  pub event-counts : (e : Event) (octets : List ℕ) → isTaken (answeredBy r e octets) ≡ true → Counts h (accessIn e) (effectIn r e octets)
+  unfolding accessIn effectOf cardEffect renewed newAccess startEffect started pending inState keyEffect keySet keyed powerEffect turns.cycled withAttempts accessOf otherOf
+  event-counts (Card home) octets t = record { mine = refl; theirs = refl }
+  event-counts (Start b manual net code) octets t = record { mine = refl; theirs = refl }
+  event-counts (Message b protected draw) octets t = message-counts b protected draw (readingOf octets)
+  event-counts (Timer number b) octets t = timer-stays number b .1
+  event-counts Power octets t = record { mine = refl; theirs = refl }
+  event-counts (Key b set) octets t = record { mine = refl; theirs = refl }
+  event-counts Unknown octets t = record { mine = refl; theirs = refl }

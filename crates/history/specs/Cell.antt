@@ -4,20 +4,14 @@ use mathlib.Core.Bool.{cond}
 use mathlib.Core.List.{List}
 use lib.Dec.{eqb}
 use Rattle.entries.specs.declared.Entries.{Entries}
-use Rattle.entries.specs.Entries.{sizeOf, placeIn, peekAt}
+use Rattle.entries.specs.Entries.{entriesHeld, placeIn, peekAt}
 use Rattle.record.specs.declared.Record.{Record}
 use Rattle.record.specs.Sides.{accessOf}
-
--- two counters and two marks, numbers as in the record: a mark that stands is 1
-pub record Cell : Type 0 where
-  pub ban : ℕ
-  pub n1 : ℕ
-  pub forbidden : ℕ
-  pub barred : ℕ
+use Rattle.history.specs.History.{Cell}
 
 -- a column at the network's place; 0 where it has no entry
 abbrev pub columnIn : ℕ → List ℕ → List ℕ → ℕ → ℕ
-columnIn count nets xs n = peekAt xs (placeIn count n nets) (sizeOf count)
+columnIn count nets xs n = peekAt xs (placeIn count n nets) (entriesHeld count)
 
 unfoldable pub cellIn : ℕ → Entries → ℕ → Cell
 cellIn count t n = record {

@@ -23,25 +23,25 @@ unfoldable pub isPending : List ℕ → ℕ → ℕ → ℕ → Bool
 isPending g slot held net = both (isHeld held) (eqb (gutiNet g slot) net)
 
 -- a count above fifteen counts as fifteen
-unfoldable pub sizeOf : ℕ → ℕ
-sizeOf count = atMost 15 count
+unfoldable pub equivalentsHeld : ℕ → ℕ
+equivalentsHeld count = atMost 15 count
 
 unfoldable pub isAmong : ℕ → ℕ → List ℕ → Bool
 isAmong net n nets = ltb (seekTo (eqb net) n nets) n
 
 -- a GUTI of an equivalent network
 unfoldable pub isEquivalent : List ℕ → ℕ → ℕ → List ℕ → ℕ → Bool
-isEquivalent g slot held equivalents count = both (isHeld held) (isAmong (gutiNet g slot) (sizeOf count) equivalents)
+isEquivalent g slot held equivalents count = both (isHeld held) (isAmong (gutiNet g slot) (equivalentsHeld count) equivalents)
 
 -- this access's first, then the other's, else what comes next
-unfoldable pub firstOf : Bool → Bool → ℕ → ℕ → ℕ
-firstOf here there own next = cond here own (cond there (1 - own) next)
+unfoldable pub ownFirst : Bool → Bool → ℕ → ℕ → ℕ
+ownFirst here there own next = cond here own (cond there (1 - own) next)
 
 unfoldable pub orderOf : List ℕ → ℕ → ℕ → ℕ → ℕ → List ℕ → ℕ → ℕ
 orderOf g own here there net equivalents count =
-    firstOf (isPending g own here net) (isPending g (1 - own) there net) own
-    (firstOf (isEquivalent g own here equivalents count) (isEquivalent g (1 - own) there equivalents count) own
-    (firstOf (isHeld here) (isHeld there) own 2))
+    ownFirst (isPending g own here net) (isPending g (1 - own) there net) own
+    (ownFirst (isEquivalent g own here equivalents count) (isEquivalent g (1 - own) there equivalents count) own
+    (ownFirst (isHeld here) (isHeld there) own 2))
 
 -- access 0, and any other counts as 1; GUTIs that are not 22 octets are none
 unfoldable pub slotOf : List ℕ → ℕ → ℕ → ℕ → ℕ → List ℕ → ℕ → ℕ

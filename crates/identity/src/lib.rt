@@ -7,7 +7,7 @@ ghost use lib.ListN.{length};
 ghost use lib.Dec.{eqb};
 ghost use denote.Ref.{ptr};
 ghost use Rattle.laws.specs.Upto.{seekTo};
-ghost use Rattle.identity.specs.Identity.{gutiNet, isPending, sizeOf, isAmong, isEquivalent, firstOf, orderOf, slotOf, partAt, identityOf};
+ghost use Rattle.identity.specs.Identity.{gutiNet, isPending, equivalentsHeld, isAmong, isEquivalent, ownFirst, orderOf, slotOf, partAt, identityOf};
 
 // The network of the GUTI of an access: three octets behind its F2.
 fn net(gutis: &[u8], slot: usize) -> u32
@@ -20,7 +20,7 @@ fn net(gutis: &[u8], slot: usize) -> u32
 
 // Equivalents in use: a count above fifteen counts as fifteen.
 fn size(count: u8) -> usize
-    ensures { λ r. ⌜ r ≡ sizeOf count ⌝ }
+    ensures { λ r. ⌜ r ≡ equivalentsHeld count ⌝ }
     ensures { λ r. ⌜ r ≤ 15 ⌝ }
 {
     if count < 15 { count as usize } else { 15 }
@@ -66,7 +66,7 @@ fn equivalent(gutis: &[u8], slot: usize, held: u8, nets: &[u32; 15], count: u8) 
 // This access's first, then the other's, else what comes next.
 fn first(here: bool, there: bool, own: usize, next: usize) -> usize
     requires { ⌜ own ≤ 1 ⌝ }
-    ensures { λ r. ⌜ r ≡ firstOf here there own next ⌝ }
+    ensures { λ r. ⌜ r ≡ ownFirst here there own next ⌝ }
 {
     if here {
         return own;

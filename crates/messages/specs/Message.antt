@@ -7,9 +7,9 @@ use lib.Dec.{ltb, leb, eqb}
 use Rattle.octets.specs.declared.Fault.{Fault}
 use Rattle.octets.specs.declared.Fault.the-variants.{Cut, First, Second, Kind, Past, Strange}
 use Rattle.octets.specs.declared.Part.{Part}
-use Rattle.octets.specs.declared.Gathered.{Gathered}
-use Rattle.octets.specs.declared.Gathered.the-variants.{Broken, Whole}
-use Rattle.octets.specs.Element.{absent, gatherOf}
+use Rattle.octets.specs.declared.Ending.{Ending}
+use Rattle.octets.specs.declared.Ending.the-variants.{Broken, Whole}
+use Rattle.octets.specs.Element.{Elements, elementsFrom, absent, firstOf, endOf}
 use Rattle.timers.specs.declared.Span.{Span}
 use Rattle.timers.specs.declared.Span.the-variants.{Off, Seconds}
 use Rattle.timers.specs.Timer.{spanOf}
@@ -31,9 +31,9 @@ countOf p = cond (p .held) (cond (ltb (p .len / 3) 15) (p .len / 3) 15) 0
 unfoldable pub tripletsOf : Part → ℕ
 tripletsOf p = cond (eqb (countOf p) 0) 0 (p .start)
 
--- 16 T3502: its first octet is a timer octet; too short is absent, as deactivated is
-unfoldable pub waitOf : List ℕ → Part → Span
-waitOf s p = cond (p .held) (cond (eqb (p .len) 0) Off (spanOf (getD s (p .start) 0))) Off
+-- 16 T3502: its first octet is a timer octet; one too short is absent, as a deactivated one is
+unfoldable pub t3502Of : List ℕ → Part → Span
+t3502Of s p = cond (p .held) (cond (eqb (p .len) 0) Off (spanOf (getD s (p .start) 0))) Off
 
 -- "deactivated, read as absent"
 abbrev pub timedOf : Span → Bool
@@ -44,23 +44,31 @@ abbrev pub secondsOf : Span → ℕ
 secondsOf Off = 0
 secondsOf (Seconds n) = n
 
--- an accept, with its first 77, its first 4A and its first 16: the result begins behind its length
-unfoldable pub acceptOf : List ℕ → Part → Part → Part → Accept
-acceptOf s guti equivalents timer =
+-- An accept: the result begins behind its length; of the elements the first with each identifier counts
+unfoldable pub acceptOf : List ℕ → Elements → Accept
+acceptOf s l =
     record {
       result = getD s 4 0;
-      given = gutiOf s guti .held;
-      guti = gutiOf s guti .start;
-      triplets = tripletsOf equivalents;
-      count = countOf equivalents;
-      timed = timedOf (waitOf s timer);
-      wait = secondsOf (waitOf s timer);
+      given = gutiOf s (firstOf 0x77 l) .held;
+      guti = gutiOf s (firstOf 0x77 l) .start;
+      triplets = tripletsOf (firstOf 0x4A l);
+      count = countOf (firstOf 0x4A l);
+      timed = timedOf (t3502Of s (firstOf 0x16 l));
+      t3502length = secondsOf (t3502Of s (firstOf 0x16 l));
     }
 
+-- the octet at a place has to be there and to be the one asked for; then comes the rest
+unfoldable pub openedBy : {A : Type 0} → (Fault → ℕ → A) → List ℕ → ℕ → ℕ → Fault → A → A
+openedBy bad s at octet fault rest = cond (ltb at (length s)) (cond (eqb (getD s at 0) octet) rest (bad fault at)) (bad Cut at)
+
+-- elements that end with a fault tell it; where they are whole comes the rest
+unfoldable pub endedBy : {A : Type 0} → (Fault → ℕ → A) → Ending → A → A
+endedBy bad (Broken f at) rest = bad f at
+endedBy bad Whole rest = rest
+
 -- what the elements make of an accept
-unfoldable pub acceptedOf : List ℕ → Gathered → Reading
-acceptedOf s (Broken f at) = reading.Bad f at
-acceptedOf s (Whole p q r) = reading.Accept (acceptOf s p q r)
+unfoldable pub acceptedOf : List ℕ → Elements → Reading
+acceptedOf s l = endedBy reading.Bad (endOf l) (reading.Accept (acceptOf s l))
 
 -- Accept: result with one-octet length at least 1, all of it in the message; then the elements
 unfoldable pub acceptReading : List ℕ → Reading
@@ -68,17 +76,12 @@ acceptReading s =
     cond (ltb 3 (length s))
     (cond (eqb (getD s 3 0) 0) (reading.Bad Cut 3)
     (cond (ltb (length s) (4 + getD s 3 0)) (reading.Bad Cut (length s))
-    (acceptedOf s (gatherOf false s (4 + getD s 3 0) 0x77 0x4A 0x16))))
+    (acceptedOf s (elementsFrom false s (4 + getD s 3 0)))))
     (reading.Bad Cut 3)
 
--- what the elements make of a reject: none is known, and a malformed one tells
-unfoldable pub rejectedOf : ℕ → Gathered → Reading
-rejectedOf cause (Broken f at) = reading.Bad f at
-rejectedOf cause (Whole p q r) = reading.Reject cause
-
--- Reject: cause octet, then elements (00 is never an element's identifier)
+-- Reject: cause octet, then elements, of which none is known: only how they end matters
 unfoldable pub rejectReading : List ℕ → Reading
-rejectReading s = cond (ltb 3 (length s)) (rejectedOf (getD s 3 0) (gatherOf false s 4 0x00 0x00 0x00)) (reading.Bad Cut 3)
+rejectReading s = cond (ltb 3 (length s)) (endedBy reading.Bad (endOf (elementsFrom false s 4)) (reading.Reject (getD s 3 0))) (reading.Bad Cut 3)
 
 -- 42 accept, 44 reject
 unfoldable pub typeReading : List ℕ → Reading
@@ -89,30 +92,26 @@ typeReading s =
     (reading.Bad Kind 2)))
     (reading.Bad Cut 2)
 
--- the octet at a place has to be there and to be the one asked for; then comes the rest
-unfoldable pub openedBy : List ℕ → ℕ → ℕ → Fault → Reading → Reading
-openedBy s at octet fault rest = cond (ltb at (length s)) (cond (eqb (getD s at 0) octet) rest (reading.Bad fault at)) (reading.Bad Cut at)
-
 -- All begin 7E 00 and a type. Octet by octet, so that of two faults the one at the lower offset is told.
 unfoldable pub readingOf : List ℕ → Reading
-readingOf s = openedBy s 0 0x7E First (openedBy s 1 0x00 Second (typeReading s))
+readingOf s = openedBy reading.Bad s 0 0x7E First (openedBy reading.Bad s 1 0x00 Second (typeReading s))
 
--- this paper's number for each fault: 3, message malformed or not an accept or reject
-abbrev pub numberOf : Fault → ℕ
-numberOf Cut = 3
-numberOf First = 3
-numberOf Second = 3
-numberOf Kind = 3
-numberOf Past = 3
-numberOf Strange = 3
+-- document 01's number for each fault: 3, message malformed or not an accept or reject
+abbrev pub faultNumber : Fault → ℕ
+faultNumber Cut = 3
+faultNumber First = 3
+faultNumber Second = 3
+faultNumber Kind = 3
+faultNumber Past = 3
+faultNumber Strange = 3
 
 -- The reject reader for C: the cause, or 256 plus the refusal's number; an accept is of another type
 unfoldable pub causeOf : Reading → ℕ
-causeOf (reading.Accept a) = 256 + numberOf Kind
+causeOf (reading.Accept a) = 256 + faultNumber Kind
 causeOf (reading.Reject cause) = cause
-causeOf (reading.Bad f at) = 256 + numberOf f
+causeOf (reading.Bad f at) = 256 + faultNumber f
 
 -- The timer reading for C: the seconds, 65535 for top bits 7
-abbrev pub timerOf : Span → ℕ
-timerOf Off = 65535
-timerOf (Seconds n) = n
+abbrev pub timerSeconds : Span → ℕ
+timerSeconds Off = 65535
+timerSeconds (Seconds n) = n

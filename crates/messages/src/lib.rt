@@ -1,12 +1,14 @@
 // Messages from the network: the reading of an accept or a reject, and the calls for C firmware.
 ghost use mathlib.Core.Path.{_≡_};
-ghost use mathlib.Core.Bool.{cond};
+ghost use mathlib.Core.Bool.{cond, false};
 ghost use lib.ListN.{getD};
+ghost use Rattle.octets.specs.Element.{Elements, elementsFrom, firstOf};
 ghost use Rattle.timers.specs.Timer.{spanOf};
-ghost use Rattle.messages.specs.Message.{gutiOf, countOf, waitOf, timedOf, secondsOf, acceptOf, acceptReading, rejectReading, typeReading, readingOf, numberOf, causeOf, timerOf};
+ghost use Rattle.messages.specs.Message.{gutiOf, countOf, t3502Of, timedOf, secondsOf, acceptOf, acceptedOf, acceptReading, rejectReading, typeReading, readingOf, faultNumber, causeOf, timerSeconds};
+use octets::Ending;
 use octets::Fault;
-use octets::Gathered;
 use octets::Part;
+use octets::Wanted;
 use octets::wide;
 use octets::word;
 use timers::Span;
@@ -20,9 +22,9 @@ pub struct Accept {
     // the equivalents' triplets lie from here on, count of them
     pub triplets: usize,
     pub count: u8,
-    // T3502 is given, in seconds
+    // T3502 is given, this many seconds long
     pub timed: bool,
-    pub wait: u16,
+    pub t3502length: u16,
 }
 
 // A refusal has its fault and the fault's offset.
@@ -90,8 +92,8 @@ fn place(none: bool, start: usize) -> usize
     if none { 0 } else { start }
 }
 
-fn wait(msg: &[u8], p: Part) -> Span
-    ensures { λ r. ⌜ r ≡ waitOf (now (msg .entry)) p ⌝ }
+fn t3502(msg: &[u8], p: Part) -> Span
+    ensures { λ r. ⌜ r ≡ t3502Of (now (msg .entry)) p ⌝ }
 {
     if p.held {
         if p.len == 0 {
@@ -122,19 +124,39 @@ fn seconds(s: Span) -> u16
 
 // An accept, by its first 77, 4A and 16.
 fn accepted(msg: &[u8], p: Part, q: Part, t: Part) -> Accept
-    ensures { λ r. ⌜ r ≡ acceptOf (now (msg .entry)) p q t ⌝ }
+    ensures { λ r. ⌜ ((l : Elements) → p ≡ firstOf 0x77 l → q ≡ firstOf 0x4A l → t ≡ firstOf 0x16 l → r ≡ acceptOf (now (msg .entry)) l) ⌝ }
 {
     let g = guti(msg, p);
     let n = count(q);
-    let w = wait(msg, t);
+    let span = t3502(msg, t);
     Accept {
         result: octet(msg, 4),
         given: g.held,
         guti: g.start,
         triplets: place(n == 0, q.start),
         count: n,
-        timed: timed(w),
-        wait: seconds(w),
+        timed: timed(span),
+        t3502length: seconds(span),
+    }
+}
+
+// What the elements from a place on make of an accept.
+fn read_elements(msg: &[u8], from: usize) -> Reading
+    ensures { λ r. ⌜ r ≡ acceptedOf (now (msg .entry)) (elementsFrom false (now (msg .entry)) from) ⌝ }
+{
+    let g = octets::gather(
+        msg,
+        from,
+        false,
+        Wanted::Id(0x77),
+        Wanted::Id(0x4A),
+        Wanted::Id(0x16),
+        Wanted::Nothing,
+    );
+    let end = g.end;
+    match end {
+        Ending::Broken(f, at) => Reading::Bad(f, at),
+        Ending::Whole => Reading::Accept(accepted(msg, g.first, g.second, g.third)),
     }
 }
 
@@ -151,10 +173,7 @@ fn read_accept(msg: &[u8]) -> Reading
     if msg.len() < 4 + n {
         return Reading::Bad(Fault::Cut, msg.len());
     }
-    match octets::gather(msg, 4 + n, false, 0x77, 0x4A, 0x16) {
-        Gathered::Broken(f, at) => Reading::Bad(f, at),
-        Gathered::Whole(p, q, t) => Reading::Accept(accepted(msg, p, q, t)),
-    }
+    read_elements(msg, 4 + n)
 }
 
 fn read_reject(msg: &[u8]) -> Reading
@@ -164,9 +183,9 @@ fn read_reject(msg: &[u8]) -> Reading
         return Reading::Bad(Fault::Cut, 3);
     }
     let cause = msg[3];
-    match octets::gather(msg, 4, false, 0x00, 0x00, 0x00) {
-        Gathered::Broken(f, at) => Reading::Bad(f, at),
-        Gathered::Whole(_, _, _) => Reading::Reject(cause),
+    match octets::ends(msg, 4, false) {
+        Ending::Broken(f, at) => Reading::Bad(f, at),
+        Ending::Whole => Reading::Reject(cause),
     }
 }
 
@@ -205,7 +224,7 @@ pub fn read(msg: &[u8]) -> Reading
 
 // The number that document 01 has for a fault.
 pub fn number(f: Fault) -> u8
-    ensures { λ r. ⌜ r ≡ numberOf f ⌝ }
+    ensures { λ r. ⌜ r ≡ faultNumber f ⌝ }
 {
     match f {
         Fault::Cut => 3,
@@ -230,7 +249,7 @@ pub extern "C" fn reject_cause(msg: &[u8]) -> u32
 
 #[no_mangle]
 pub extern "C" fn timer_seconds(octet: u8) -> u32
-    ensures { λ r. ⌜ r ≡ timerOf (spanOf octet) ⌝ }
+    ensures { λ r. ⌜ r ≡ timerSeconds (spanOf octet) ⌝ }
 {
     match timers::timer(octet) {
         Span::Off => 65535,

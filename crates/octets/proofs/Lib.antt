@@ -1,3 +1,5 @@
 -- Laws that the proofs cite.
+pub mod Codes
 pub mod Elements
+pub mod Held
 pub mod Table

@@ -1,4 +1,4 @@
-// The format of each identifier octet, from 00 to FF; formatOf in specs has the rule and what the codes mean.
+// The format of each identifier octet, from 00 to FF; formatOf in specs has the rule, codeOf what the codes mean.
 pub const FORMATS: [u8; 256] = [
     3,
     3,

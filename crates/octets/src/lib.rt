@@ -1,8 +1,10 @@
 // Optional elements of a message: the formats, one element at a place, the walker, and the first elements with given identifiers.
 ghost use mathlib.Core.Path.{_≡_};
-ghost use Prim.Native.Nat.{ℕ, _<_, _≤_};
+ghost use mathlib.Core.Bool.{cond};
+ghost use Prim.Native.Nat.{_<_, _≤_};
 ghost use lib.ListN.{length, getD, drop};
-ghost use Rattle.octets.specs.Element.{formatOf, leadOf, contentsOf, elementAt, afterOf, keptOf, gatherOf};
+ghost use Rattle.octets.specs.Element.{Format, formatOf, codeOf, leadBy, contentsBy, elementAt, afterOf, walkedAt, elementsFrom, absent, wantedOf, endOf, gatherOf};
+ghost use Rattle.octets.specs.Element.Elements.{over, element};
 
 mod formats;
 
@@ -36,9 +38,25 @@ pub struct Part {
     pub len: usize,
 }
 
-pub enum Gathered {
+// An identifier that is looked for, or none.
+pub enum Wanted {
+    Nothing,
+    Id(u8),
+}
+
+// How elements end: with the message, or with a fault and its offset.
+pub enum Ending {
     Broken(Fault, usize),
-    Whole(Part, Part, Part),
+    Whole,
+}
+
+// How a message's elements end, and the first ones with four identifiers before that.
+pub struct Gathered {
+    pub end: Ending,
+    pub first: Part,
+    pub second: Part,
+    pub third: Part,
+    pub fourth: Part,
 }
 
 // An octet as a wider number.
@@ -55,7 +73,7 @@ pub fn word(x: u8) -> u32
 }
 
 pub fn format(id: u8) -> u8
-    ensures { λ r. ⌜ r ≡ formatOf id ⌝ }
+    ensures { λ r. ⌜ r ≡ codeOf (formatOf id) ⌝ }
 {
     FORMATS[wide(id)]
 }
@@ -71,9 +89,9 @@ fn octet(msg: &[u8], from: usize, i: usize) -> usize
     0
 }
 
-// The octets before the contents, for each identifier of a format.
+// The octets before the contents, for the format of a code.
 fn lead(code: u8, request: bool) -> usize
-    ensures { λ r. ⌜ ((i : ℕ) → code ≡ formatOf i → r ≡ leadOf request i) × (r < 4) ⌝ }
+    ensures { λ r. ⌜ ((f : Format) → code ≡ codeOf f → r ≡ leadBy request f) × (r < 4) ⌝ }
 {
     if code == 0 {
         return 0;
@@ -89,10 +107,10 @@ fn lead(code: u8, request: bool) -> usize
     2
 }
 
-// The octets of the contents, for each identifier of a format, by what follows it.
+// The octets of the contents, for the format of a code, by what follows the identifier.
 fn contents(msg: &[u8], from: usize, code: u8, request: bool) -> usize
     requires { ⌜ from ≤ length (now msg) ⌝ }
-    ensures { λ r. ⌜ ((i : ℕ) → code ≡ formatOf i → r ≡ contentsOf request i (drop from (now (msg .entry)))) × (r < 65536) ⌝ }
+    ensures { λ r. ⌜ ((f : Format) → code ≡ codeOf f → r ≡ contentsBy request f (drop from (now (msg .entry)))) × (r < 65536) ⌝ }
 {
     if code == 0 {
         return 1;
@@ -135,10 +153,10 @@ pub fn element_at(msg: &[u8], at: usize, request: bool) -> Element
     }
 }
 
-fn after_at(msg: &[u8], at: usize, request: bool) -> usize
-    ensures { λ r. ⌜ r ≡ afterOf (elementAt request (now (msg .entry)) at) at ⌝ }
+fn after(e: Element, at: usize) -> usize
+    ensures { λ r. ⌜ r ≡ afterOf e at ⌝ }
 {
-    match element_at(msg, at, request) {
+    match e {
         Element::End => at,
         Element::Bad(_) => at,
         Element::At {
@@ -156,6 +174,12 @@ pub struct Walker<'a> {
     pub at: usize,
 }
 
+// What a walker saw at its place, and the place that it stepped to.
+pub struct Walked {
+    pub here: Element,
+    pub next: usize,
+}
+
 pub fn open<'a>(msg: &'a [u8], at: usize) -> Walker<'a>
     ensures { λ w. ⌜ (w .msg ≡ msg .entry) × (w .at ≡ at) ⌝ }
 {
@@ -168,71 +192,120 @@ pub fn look<'a>(w: Walker<'a>, request: bool) -> Element
     element_at(w.msg, w.at, request)
 }
 
-pub fn pass<'a>(w: Walker<'a>, request: bool) -> Walker<'a>
-    ensures { λ q. ⌜ (q .msg ≡ w .entry .msg) × (q .at ≡ afterOf (elementAt request (now (w .entry .msg)) (w .entry .at)) (w .entry .at)) ⌝ }
+// Over the element that was looked at: it is not read again.
+pub fn pass<'a>(w: Walker<'a>, e: Element) -> Walker<'a>
+    ensures { λ q. ⌜ (q .msg ≡ w .entry .msg) × (q .at ≡ afterOf e (w .entry .at)) ⌝ }
 {
-    let at = after_at(w.msg, w.at, request);
+    let at = after(e, w.at);
     Walker { msg: w.msg, at }
 }
 
-// Plain parameters: whoever calls these two needs no walk.
-pub fn read(msg: &[u8], at: usize, request: bool) -> Element
-    ensures { λ r. ⌜ r ≡ elementAt request (now (msg .entry)) at ⌝ }
+// One step, with plain parameters: whoever calls it needs no walk by hand.
+pub fn walk(msg: &[u8], at: usize, request: bool) -> Walked
+    ensures { λ r. ⌜ r ≡ walkedAt request (now (msg .entry)) at ⌝ }
 {
-    look(open(msg, at), request)
+    let w = open(msg, at);
+    let here = look(w, request);
+    let q = pass(w, here);
+    Walked { here, next: q.at }
 }
 
-// Two steps of a walker: the element behind the one at a place.
-pub fn second(msg: &[u8], at: usize, request: bool) -> Element
-    ensures { λ r. ⌜ r ≡ elementAt request (now (msg .entry)) (afterOf (elementAt request (now (msg .entry)) at) at) ⌝ }
+fn none() -> Part
+    ensures { λ r. ⌜ r ≡ absent ⌝ }
 {
-    look(pass(open(msg, at), request), request)
+    Part {
+        held: false,
+        start: 0,
+        len: 0,
+    }
 }
 
-fn kept(p: Part, same: bool, start: usize, len: usize) -> Part
-    ensures { λ r. ⌜ r ≡ keptOf p same start len ⌝ }
+// What is held of what is wanted, behind one element more.
+fn kept(p: Part, w: Wanted, id: u8, start: usize, len: usize) -> Part
+    ensures { λ r. ⌜ r ≡ cond (p .held) p (wantedOf w (element id start len over)) ⌝ }
 {
     if p.held {
         return p;
     }
-    if same {
-        return Part {
-            held: true,
-            start,
-            len,
-        };
+    match w {
+        Wanted::Nothing => none(),
+        Wanted::Id(x) => {
+            if id == x {
+                return Part {
+                    held: true,
+                    start,
+                    len,
+                };
+            }
+            none()
+        }
     }
-    p
 }
 
-// The first elements with the identifiers x, y and z, in one pass.
-pub fn gather(msg: &[u8], from: usize, request: bool, x: u8, y: u8, z: u8) -> Gathered
-    ensures { λ r. ⌜ r ≡ gatherOf request (now (msg .entry)) from x y z ⌝ }
+fn together(end: Ending, first: Part, second: Part, third: Part, fourth: Part) -> Gathered
+    ensures { λ r. ⌜ r ≡ record { end = end; first = first; second = second; third = third; fourth = fourth } ⌝ }
 {
-    let absent = Part {
-        held: false,
-        start: 0,
-        len: 0,
-    };
+    Gathered {
+        end,
+        first,
+        second,
+        third,
+        fourth,
+    }
+}
+
+// How the elements end, and the first ones with the identifiers x, y, z and u, in one pass.
+pub fn gather(
+    msg: &[u8],
+    from: usize,
+    request: bool,
+    x: Wanted,
+    y: Wanted,
+    z: Wanted,
+    u: Wanted,
+) -> Gathered
+    ensures { λ r. ⌜ r ≡ gatherOf x y z u (elementsFrom request (now (msg .entry)) from) ⌝ }
+{
+    let absent = none();
     let mut p = absent;
     let mut q = absent;
     let mut r = absent;
+    let mut t = absent;
     let mut at = from;
     loop {
-        match read(msg, at, request) {
-            Element::End => return Gathered::Whole(p, q, r),
-            Element::Bad(fault) => return Gathered::Broken(fault, at),
+        let w = walk(msg, at, request);
+        let here = w.here;
+        match here {
+            Element::End => return together(Ending::Whole, p, q, r, t),
+            Element::Bad(fault) => return together(Ending::Broken(fault, at), p, q, r, t),
             Element::At {
                 id,
                 start,
                 len,
-                next,
+                next: _,
             } => {
-                p = kept(p, id == x, start, len);
-                q = kept(q, id == y, start, len);
-                r = kept(r, id == z, start, len);
-                at = next;
+                p = kept(p, x, id, start, len);
+                q = kept(q, y, id, start, len);
+                r = kept(r, z, id, start, len);
+                t = kept(t, u, id, start, len);
+                at = w.next;
             }
         }
     }
+}
+
+// How the elements end alone.
+pub fn ends(msg: &[u8], from: usize, request: bool) -> Ending
+    ensures { λ r. ⌜ r ≡ endOf (elementsFrom request (now (msg .entry)) from) ⌝ }
+{
+    let g = gather(
+        msg,
+        from,
+        request,
+        Wanted::Nothing,
+        Wanted::Nothing,
+        Wanted::Nothing,
+        Wanted::Nothing,
+    );
+    g.end
 }

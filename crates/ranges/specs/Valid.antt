@@ -34,7 +34,7 @@ modeRanges a =
     (both (upTo 5 (a .attempts))
     (both (isFlag (a .t3510))
     (both (isFlag (a .t3511))
-    (both (isFlag (a .t3502)) (upTo 11160 (a .wait)))))))
+    (both (isFlag (a .t3502)) (upTo 11160 (a .t3502length)))))))
 
 -- its areas, identity and counts; an area's numbers are of three octets, a last area's where one is held
 unfoldable pub identityRanges : Access → Bool
@@ -69,7 +69,7 @@ rangesOf r =
 -- "a counter above its limit"
 unfoldable pub countersOf : Device → Access → Entries → Bool
 countersOf d a t =
-    both (upTo (d .cardlimit) (a .cards))
+    both (upTo (d .cardlimit) (a .cardcounter))
     (both (allTo (upTo (d .banlimit)) (a .entries) (t .bans)) (allTo (upTo (d .n1limit)) (a .entries) (t .n1s)))
 
 -- "a state above 0 with no card"

@@ -45,7 +45,12 @@ fn device_ranges(d: Device) -> bool
 fn mode_ranges(a: Access) -> bool
     ensures { λ r. ⌜ r ≡ modeRanges a ⌝ }
 {
-    let timers = all(a.t3510 <= 1, a.t3511 <= 1, a.t3502 <= 1, a.wait <= 11160);
+    let timers = all(
+        a.t3510 <= 1,
+        a.t3511 <= 1,
+        a.t3502 <= 1,
+        a.t3502length <= 11160,
+    );
     all(
         a.state <= 6,
         ranged(1, 3, a.status),
@@ -98,7 +103,7 @@ fn counters(d: Device, a: Access, t: Entries) -> bool
         limited(&t.bans, n, d.banlimit),
         limited(&t.n1s, n, d.n1limit),
     );
-    and(a.cards <= d.cardlimit, tables)
+    and(a.cardcounter <= d.cardlimit, tables)
 }
 
 fn card(h: Hot) -> bool

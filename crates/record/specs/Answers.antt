@@ -1,9 +1,9 @@
 -- The reply numbers of document 01. Assumes nothing.
 use Prim.Native.Nat.{ℕ}
 use mathlib.Core.Bool.{Bool, true, false}
-use Rattle.messages.specs.Message.{numberOf as faultNumber}
+use Rattle.messages.specs.Message.{faultNumber}
 use Rattle.record.specs.declared.Answer.{Answer}
-use Rattle.record.specs.declared.Answer.the-variants.{Taken, Range, Ignored, Malformed, Full, NoCard, State, Same, Listed, Area, Bare, Idle, Short}
+use Rattle.record.specs.declared.Answer.the-variants.{Taken, Range, Ignored, Malformed, Full, StateZero, State, Same, Listed, Area, Unprotected, Idle, Short}
 
 unfoldable pub numberOf : Answer → ℕ
 -- taken
@@ -17,7 +17,7 @@ numberOf (Malformed f at) = faultNumber f
 -- entry needed, network not in the access's table, all 16 entries held
 numberOf Full = 4
 -- a start in state 0
-numberOf NoCard = 5
+numberOf StateZero = 5
 -- state wrong for the event
 numberOf State = 6
 -- other access is in state 4 with the same network
@@ -27,7 +27,7 @@ numberOf Listed = 8
 -- area listed (access 0)
 numberOf Area = 9
 -- accept without protection
-numberOf Bare = 10
+numberOf Unprotected = 10
 -- timer not running
 numberOf Idle = 11
 -- lent buffer shorter than the request
@@ -39,11 +39,11 @@ isTaken Range = false
 isTaken Ignored = false
 isTaken (Malformed f at) = false
 isTaken Full = false
-isTaken NoCard = false
+isTaken StateZero = false
 isTaken State = false
 isTaken Same = false
 isTaken Listed = false
 isTaken Area = false
-isTaken Bare = false
+isTaken Unprotected = false
 isTaken Idle = false
 isTaken Short = false

@@ -4,17 +4,61 @@ use mathlib.Core.Bool.{Bool, cond}
 use Rattle.laws.specs.Bounds.{oneMore}
 use Rattle.record.specs.declared.Access.{Access}
 
--- state, update status and attempt counter
-unfoldable pub moved : ℕ → ℕ → ℕ → Access → Access
-moved state status attempts a = record {
+-- the state
+unfoldable pub inState : ℕ → Access → Access
+inState state a = record {
   state = state;
-  status = status;
-  attempts = attempts;
-  cards = a .cards;
+  status = a .status;
+  attempts = a .attempts;
+  cardcounter = a .cardcounter;
   t3510 = a .t3510;
   t3511 = a .t3511;
   t3502 = a .t3502;
-  wait = a .wait;
+  t3502length = a .t3502length;
+  net = a .net;
+  code = a .code;
+  guti = a .guti;
+  visited = a .visited;
+  lastnet = a .lastnet;
+  lastcode = a .lastcode;
+  ksi = a .ksi;
+  equivalents = a .equivalents;
+  entries = a .entries;
+}
+
+-- the update status
+unfoldable pub withStatus : ℕ → Access → Access
+withStatus status a = record {
+  state = a .state;
+  status = status;
+  attempts = a .attempts;
+  cardcounter = a .cardcounter;
+  t3510 = a .t3510;
+  t3511 = a .t3511;
+  t3502 = a .t3502;
+  t3502length = a .t3502length;
+  net = a .net;
+  code = a .code;
+  guti = a .guti;
+  visited = a .visited;
+  lastnet = a .lastnet;
+  lastcode = a .lastcode;
+  ksi = a .ksi;
+  equivalents = a .equivalents;
+  entries = a .entries;
+}
+
+-- the attempt counter
+unfoldable pub withAttempts : ℕ → Access → Access
+withAttempts attempts a = record {
+  state = a .state;
+  status = a .status;
+  attempts = attempts;
+  cardcounter = a .cardcounter;
+  t3510 = a .t3510;
+  t3511 = a .t3511;
+  t3502 = a .t3502;
+  t3502length = a .t3502length;
   net = a .net;
   code = a .code;
   guti = a .guti;
@@ -32,11 +76,11 @@ forgotten a = record {
   state = a .state;
   status = a .status;
   attempts = a .attempts;
-  cards = a .cards;
+  cardcounter = a .cardcounter;
   t3510 = a .t3510;
   t3511 = a .t3511;
   t3502 = a .t3502;
-  wait = a .wait;
+  t3502length = a .t3502length;
   net = a .net;
   code = a .code;
   guti = 0;
@@ -54,11 +98,11 @@ emptied a = record {
   state = a .state;
   status = a .status;
   attempts = a .attempts;
-  cards = a .cards;
+  cardcounter = a .cardcounter;
   t3510 = a .t3510;
   t3511 = a .t3511;
   t3502 = a .t3502;
-  wait = a .wait;
+  t3502length = a .t3502length;
   net = a .net;
   code = a .code;
   guti = a .guti;
@@ -76,11 +120,11 @@ counted n a = record {
   state = a .state;
   status = a .status;
   attempts = a .attempts;
-  cards = n;
+  cardcounter = n;
   t3510 = a .t3510;
   t3511 = a .t3511;
   t3502 = a .t3502;
-  wait = a .wait;
+  t3502length = a .t3502length;
   net = a .net;
   code = a .code;
   guti = a .guti;
@@ -98,11 +142,11 @@ pending net code a = record {
   state = a .state;
   status = a .status;
   attempts = a .attempts;
-  cards = a .cards;
+  cardcounter = a .cardcounter;
   t3510 = a .t3510;
   t3511 = a .t3511;
   t3502 = a .t3502;
-  wait = a .wait;
+  t3502length = a .t3502length;
   net = net;
   code = code;
   guti = a .guti;
@@ -120,11 +164,11 @@ keyed set a = record {
   state = a .state;
   status = a .status;
   attempts = a .attempts;
-  cards = a .cards;
+  cardcounter = a .cardcounter;
   t3510 = a .t3510;
   t3511 = a .t3511;
   t3502 = a .t3502;
-  wait = a .wait;
+  t3502length = a .t3502length;
   net = a .net;
   code = a .code;
   guti = a .guti;
@@ -138,15 +182,15 @@ keyed set a = record {
 
 -- last area is the pending one, GUTI replaced if given, equivalent networks replaced (absent: emptied), T3502 length from the message, else 720 s
 unfoldable pub taught : Bool → ℕ → ℕ → Access → Access
-taught given count wait a = record {
+taught given count t3502length a = record {
   state = a .state;
   status = a .status;
   attempts = a .attempts;
-  cards = a .cards;
+  cardcounter = a .cardcounter;
   t3510 = a .t3510;
   t3511 = a .t3511;
   t3502 = a .t3502;
-  wait = wait;
+  t3502length = t3502length;
   net = a .net;
   code = a .code;
   guti = cond given 1 (a .guti);
@@ -164,11 +208,11 @@ entered found a = record {
   state = a .state;
   status = a .status;
   attempts = a .attempts;
-  cards = a .cards;
+  cardcounter = a .cardcounter;
   t3510 = a .t3510;
   t3511 = a .t3511;
   t3502 = a .t3502;
-  wait = a .wait;
+  t3502length = a .t3502length;
   net = a .net;
   code = a .code;
   guti = a .guti;

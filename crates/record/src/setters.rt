@@ -6,8 +6,9 @@ ghost use mathlib.Core.Bool.{cond};
 ghost use Rattle.laws.specs.Bounds.{oneMore};
 ghost use Rattle.record.specs.Setters as sets;
 
+// State, update status and attempt counter at once: one copy of the numbers, where three setters would make three.
 pub fn moved(state: u8, status: u8, attempts: u8, a: Access) -> Access
-    ensures { λ r. ⌜ r ≡ sets.moved state status attempts a ⌝ }
+    ensures { λ r. ⌜ r ≡ sets.withAttempts attempts (sets.withStatus status (sets.inState state a)) ⌝ }
 {
     let mut q = a;
     q.state = state;
@@ -39,7 +40,7 @@ pub fn counted(n: u8, a: Access) -> Access
     ensures { λ r. ⌜ r ≡ sets.counted n a ⌝ }
 {
     let mut q = a;
-    q.cards = n;
+    q.cardcounter = n;
     q
 }
 
@@ -67,11 +68,11 @@ fn held(given: bool, guti: u8) -> u8
 }
 
 // What an accept leaves behind.
-pub fn taught(given: bool, count: u8, wait: u16, a: Access) -> Access
-    ensures { λ r. ⌜ r ≡ sets.taught given count wait a ⌝ }
+pub fn taught(given: bool, count: u8, t3502length: u16, a: Access) -> Access
+    ensures { λ r. ⌜ r ≡ sets.taught given count t3502length a ⌝ }
 {
     let mut q = a;
-    q.wait = wait;
+    q.t3502length = t3502length;
     q.guti = held(given, a.guti);
     q.visited = 1;
     q.lastnet = a.net;

@@ -16,7 +16,7 @@ use Rattle.record.specs.Sides.{accessOf}
 use Rattle.record.proofs.Bounds.{rest}
 use Rattle.request.specs.declared.Written.{Written}
 use Rattle.request.specs.Layout.{layout}
-use Rattle.request.specs.Writing.{saysOf, fieldsOf, requestOf, answerOf, writtenOf, over, bufferOf}
+use Rattle.request.specs.Writing.{saysOf, fieldsOf, requestOf, writingAnswer, writtenOf, over, bufferOf}
 use Rattle.request.specs.Steps.{sentOf, sentOver}
 use Rattle.request.proofs.Ranges.{ready}
 
@@ -36,7 +36,7 @@ tested r access = both (leb access 1) (validOf r)
 
 pub out-of-range : (r : Record) (access : ℕ) (t : Bool) (b : List ℕ) → t ≡ tested r access → not t ≡ true
     → (record { answer = Range; len = 0 } ≡ writtenOf r access (length b)) × (b ≡ bufferOf r access b)
-unfolding writtenOf bufferOf answerOf isTaken
+unfolding writtenOf bufferOf writingAnswer isTaken
 out-of-range r access t b e h =
     let fails : tested r access ≡ false = sym e ∙ not-true t h in
     (rw fails, rw fails)
@@ -46,7 +46,7 @@ module _ (r : Record) (access : ℕ) (t : Bool) (own : Access) (e : t ≡ tested
   holds = sym e ∙ not-false t h
 
   pub out-of-state : (b : List ℕ) → (own .state ≡ 4 → ⊥) → (record { answer = State; len = 0 } ≡ writtenOf r access (length b)) × (b ≡ bufferOf r access b)
-  unfolding writtenOf bufferOf answerOf isTaken
+  unfolding writtenOf bufferOf writingAnswer isTaken
   out-of-state b z =
       let fails : eqb (accessOf (r .hot) access .state) 4 ≡ false = rw (← same) (ne-eqb (own .state) 4 z) in
       (rw (holds, fails), rw (holds, fails))
@@ -60,8 +60,8 @@ module _ (r : Record) (access : ℕ) (t : Bool) (own : Access) (e : t ≡ tested
         let all = ready r access (rest (leb access 1) _ holds) four in
         (all .suci .1, (all .capability .1, (all .security .1, rw same (all .ksi))))
 
-    answered : (n : ℕ) → answerOf r access n ≡ cond (leb (length (requestOf r access)) n) Taken Short
-    unfolding answerOf
+    answered : (n : ℕ) → writingAnswer r access n ≡ cond (leb (length (requestOf r access)) n) Taken Short
+    unfolding writingAnswer
     answered n = rw (holds, eq-eqb _ _ four)
 
     pub written : (nets b d : List ℕ) (w : Written) → nets ≡ cond (eqb access 0) (r .equivalents0) (r .equivalents1)

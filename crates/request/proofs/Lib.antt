@@ -1,7 +1,8 @@
 -- Laws of the layout and its reading.
 pub mod Answers
-pub mod Parts
+pub mod Back
 pub mod Pieces
 pub mod Ranges
 pub mod Recorded
 pub mod RoundTrip
+pub mod Short

@@ -5,168 +5,130 @@ use mathlib.Core.Bool.{Bool, true, false, cond}
 use mathlib.Core.List.{List, [], _∷_, _++_, append-nil, append-assoc}
 use native.Mathlib.Omega.{arith}
 use native.Mathlib.Nat.{add-zero, zero-add}
-use native.Mathlib.Numerals.{add-one}
-use lib.ListN.{length, getD, take, drop, set, replicate, length-append, drop-of-length-le}
-use lib.Seq.{take-at, drop-append-add, drop-drop, length-take-le, paste-zero, paste-suc, take-length, take-all}
+use lib.ListN.{length, take, drop, replicate, length-append, drop-of-length-le}
+use lib.Seq.{take-at, drop-append-add, drop-drop, length-take-le, paste, paste-zero, take-length, take-all}
 use lib.Dec.{ltb, eqb}
 use borrow.Author.Tests.{ne-eqb, le-leb, lt-leb}
 use Rattle.record.specs.declared.Access.{Access}
 use Rattle.record.specs.declared.Answer.the-variants.{Taken, Short}
 use Rattle.identity.specs.Identity.{slotOf, partOf, identityOf}
-use Rattle.request.specs.Layout.{headOf, lengthed, bare, opening, elements, octetsOf, shown, layout}
-use Rattle.request.specs.Writing.{lastOf, sayingOf, over, gutisOf}
-use Rattle.request.specs.Steps.{spliced, sizedOf, areaOf, shownCount, areaCount, pieces, sentOf, sentOver}
+use Rattle.request.specs.Layout.{lengthIn, withLead, itemOctets, laid, openingHead, opening, itemsOf, octetsOf, shown, layout}
+use Rattle.request.specs.Layout.Form.{shortForm, plainForm}
+use Rattle.request.specs.Writing.{octets3, lastOf, sayingOf, over, gutisOf}
+use Rattle.request.specs.Steps.{spliced, Put, sizedOf, sentOf, sentOver}
 
 module _ (b : List ℕ) (at : ℕ) (s t : List ℕ) (h : at ≤ length b) where
   abbrev p : List ℕ
-  p = take at b
+  p = take at b ++ s
 
-  abbrev r : List ℕ
-  r = drop (at + length s) b
+  front : length p ≡ at + length s
+  front = length-append (take at b) s ∙ ap (λ (k : ℕ). k + length s) (length-take-le at b h)
 
-  front : length (p ++ s) ≡ at + length s
-  front = length-append p s ∙ ap (λ (k : ℕ). k + length s) (length-take-le at b h)
-
-  before : take (at + length s) (p ++ (s ++ r)) ≡ p ++ s
-  before = ap (take (at + length s)) (sym (append-assoc p s r)) ∙ take-at (p ++ s) r (at + length s) front
-
-  behind : drop (at + length s + length t) (p ++ (s ++ r)) ≡ drop (at + length (s ++ t)) b
+  behind : drop (at + length s + length t) (p ++ drop (at + length s) b) ≡ drop (at + length (s ++ t)) b
   behind =
       let e : at + length s + length t ≡ at + length (s ++ t) = omega (arith, length-append s t) in
-      ap (drop (at + length s + length t)) (sym (append-assoc p s r))
-      ∙ ap (λ (k : ℕ). drop (k + length t) ((p ++ s) ++ r)) (sym front)
-      ∙ drop-append-add (p ++ s) r (length t)
-      ∙ drop-drop (length t) (at + length s) b
-      ∙ ap (λ (k : ℕ). drop k b) e
+      rw (← front, drop-append-add, front, drop-drop, e)
 
-  -- two pieces next to each other are one
-  pub joins : spliced (spliced b at s) (at + length s) t ≡ spliced b at (s ++ t)
+  joins : spliced (spliced b at s) (at + length s) t ≡ spliced b at (s ++ t)
   unfolding spliced
-  joins =
-      ap (λ (l : List ℕ). l ++ (t ++ drop (at + length s + length t) (p ++ (s ++ r)))) before
-      ∙ ap (λ (l : List ℕ). (p ++ s) ++ (t ++ l)) behind
-      ∙ append-assoc p s (t ++ drop (at + length (s ++ t)) b)
-      ∙ ap (λ (l : List ℕ). p ++ l) (sym (append-assoc s t (drop (at + length (s ++ t)) b)))
+  joins = rw (behind, take-at p (drop (at + length s) b) (at + length s) front, append-assoc (take at b) s t)
 
--- the same, of what two calls say
-pub joined : (b c d : List ℕ) (at next n : ℕ) (s t : List ℕ) → at ≤ length b → next ≡ at + n → length s ≡ n → c ≡ spliced b at s → d ≡ spliced c next t → d ≡ spliced b at (s ++ t)
-joined b c d at next n s t h e f g k = k ∙ rw (g, e, ← f) (joins b at s t h)
+-- two pieces next to each other are one
+pub join : {b c d s t : List ℕ} {at p q : ℕ} → at ≤ length b → Put b at s c p → Put c p t d q → Put b at (s ++ t) d q
+join {b} {c} {d} {s} {t} {at} h x y = record {
+  holds = y .holds ∙ rw (x .holds, x .goes) (joins b at s t h);
+  goes = omega (arith, x .goes, y .goes, length-append s t);
+}
 
--- nothing put changes nothing
-pub nothing : (b : List ℕ) (at : ℕ) → b ≡ spliced b at []
+-- no piece changes nothing
+pub none : (b : List ℕ) (at : ℕ) → Put b at [] b at
 unfolding spliced
-nothing b at = paste-zero b at [] ∙ append-assoc (take at b) [] (drop (at + 0) b)
+none b at = record { holds = paste-zero b at []; goes = sym (add-zero at) }
 
--- from the first octet on
-pub first : (b s : List ℕ) → spliced b 0 s ≡ over s b
-unfolding spliced over
-first b s = rw zero-add
-
--- a turn of the loop that copies
-pub turn : (b c s : List ℕ) (at i : ℕ) → c ≡ spliced b at (take i s) → at + i < length b → i < length s → set c (at + i) (getD s i 0) ≡ spliced b at (take (i + 1) s)
+-- a piece copied to its end
+pub copied : (b c s : List ℕ) (at : ℕ) → c ≡ paste b at s (length s) → Put b at s c (at + length s)
 unfolding spliced
-turn b c s at i e h k =
-    let m : length (take i s) ≡ i = length-take-le i s (omega arith) in
-    let n : length (take (suc i) s) ≡ suc i = length-take-le (suc i) s (omega arith) in
-    rw (e, m, add-one, n)
-    (ap (λ (l : List ℕ). set l (at + i) (getD s i 0)) (sym (append-assoc (take at b) (take i s) (drop (at + i) b)))
-    ∙ paste-suc b at s i 0 h k
-    ∙ append-assoc (take at b) (take (suc i) s) (drop (at + suc i) b))
+copied b c s at e = record { holds = rw take-length at e; goes = refl }
 
--- the size of an element
-pub sizes : (id n : ℕ) (s : List ℕ) → length s ≡ n → length (lengthed id s) ≡ sizedOf n
-unfolding lengthed sizedOf
-sizes id n [] e = rw (← e)
-sizes id n (o ∷ s) e = rw (ne-eqb n 0 (λ z. omega arith)) (omega arith)
+-- an element of no octets, and one of some
+pub lead-none : (lead s : List ℕ) → length s ≡ 0 → withLead lead s ≡ []
+unfolding withLead
+lead-none lead [] e = refl
+lead-none lead (o ∷ s) e = absurd (omega arith)
 
-pub sizes-take : (id n : ℕ) (s : List ℕ) → n ≤ length s → length (lengthed id (take n s)) ≡ sizedOf n
-sizes-take id n s h = sizes id n (take n s) (length-take-le n s h)
+pub lead-some : (lead s : List ℕ) → (length s ≡ 0 → ⊥) → withLead lead s ≡ lead ++ s
+unfolding withLead
+lead-some lead [] h = absurd (h refl)
+lead-some lead (o ∷ s) h = refl
 
--- an element of n octets, one at least, is its identifier, its length and its contents
-pub leads : (id n : ℕ) (s : List ℕ) → length s ≡ n → 1 ≤ n → (id ∷ n ∷ []) ++ s ≡ lengthed id s
-unfolding lengthed
-leads id n [] e h = absurd (omega arith)
-leads id n (o ∷ s) e h = rw e
+pub lead-long : (lead s : List ℕ) → (length s ≡ 0 → ⊥) → length (withLead lead s) ≡ length lead + length s
+lead-long lead s h = ap length (lead-some lead s h) ∙ length-append lead s
 
--- The layout of what an access says is its pieces. Of the capability and of 52 nothing is shown with ngKSI 7, and of 52 nothing without a last area.
-shows : (x y : Bool) (ksi k a b c d e f : ℕ) (i cap sec : List ℕ)
-    → octetsOf (cond x (record { kind = 1; ksi = ksi; identity = i; capability = []; security = sec; last = [] })
-    (record { kind = 1; ksi = ksi; identity = i; capability = take k cap; security = sec; last = cond y [] (a ∷ b ∷ c ∷ d ∷ e ∷ f ∷ []) }))
-    ≡ pieces (headOf 1 ksi (length i)) i (take (cond x 0 k) cap) sec (take (cond x 0 (cond y 0 7)) (0x52 ∷ a ∷ b ∷ c ∷ d ∷ e ∷ f ∷ []))
-unfolding octetsOf opening elements pieces lengthed bare
-shows true y ksi k a b c d e f i cap sec = append-assoc (headOf 1 ksi (length i)) i (lengthed 0x2E sec ++ [])
-shows false true ksi k a b c d e f i cap sec = append-assoc (headOf 1 ksi (length i)) i (lengthed 0x10 (take k cap) ++ (lengthed 0x2E sec ++ []))
-shows false false ksi k a b c d e f i cap sec =
-    append-assoc (headOf 1 ksi (length i)) i (lengthed 0x10 (take k cap) ++ (lengthed 0x2E sec ++ (0x52 ∷ a ∷ b ∷ c ∷ d ∷ e ∷ f ∷ [])))
+-- a request is its opening and one element behind the other
+pub in-order : (ksi : ℕ) (i c s l : List ℕ) → octetsOf (sayingOf ksi i c s l)
+    ≡ (((openingHead 1 ksi (length i) ++ i) ++ itemOctets shortForm 0x10 c) ++ itemOctets shortForm 0x2E s) ++ itemOctets plainForm 0x52 l
+unfolding octetsOf opening itemsOf laid sayingOf
+in-order ksi i c s l = simp (append-assoc, append-nil)
 
-pub laid : (a : Access) (i cap sec : List ℕ) (k : ℕ)
-    → layout (sayingOf a i (take k cap) sec)
-    ≡ pieces (headOf 1 (a .ksi) (length i)) i (take (shownCount (a .ksi) k) cap) sec (take (areaCount (a .ksi) (a .visited)) (areaOf (a .lastnet) (a .lastcode)))
-unfolding layout shown sayingOf lastOf shownCount areaCount
-laid a i cap sec k = shows (eqb (a .ksi) 7) (eqb (a .visited) 0) (a .ksi) k _ _ _ _ _ _ i cap sec
+-- how many octets they take
+pub opens : (ksi : ℕ) (i : List ℕ) → length (openingHead 1 ksi (length i) ++ i) ≡ 6 + length i
+unfolding openingHead lengthIn
+opens ksi i = omega arith
 
-pub length-head : (kind ksi n : ℕ) → length (headOf kind ksi n) ≡ 6
-unfolding headOf
-length-head kind ksi n = refl
+pub spread : (ksi : ℕ) (i c s l : List ℕ) → length (octetsOf (sayingOf ksi i c s l))
+    ≡ length (openingHead 1 ksi (length i) ++ i) + length (itemOctets shortForm 0x10 c) + length (itemOctets shortForm 0x2E s) + length (itemOctets plainForm 0x52 l)
+spread ksi i c s l = rw in-order (simp length-append)
 
--- how long the pieces are
-pub long : (h i cap sec area : List ℕ) (c s l : ℕ) → length h ≡ 6 → length cap ≡ c → length sec ≡ s → length area ≡ l → length (pieces h i cap sec area) ≡ 6 + (length i + (sizedOf c + (sizedOf s + l)))
-unfolding pieces
-long h i cap sec area c s l e f g k =
-    omega (arith, length-append h (i ++ (lengthed 0x10 cap ++ (lengthed 0x2E sec ++ area))), length-append i (lengthed 0x10 cap ++ (lengthed 0x2E sec ++ area)), length-append (lengthed 0x10 cap) (lengthed 0x2E sec ++ area), length-append (lengthed 0x2E sec) area, sizes 0x10 c cap f, sizes 0x2E s sec g)
+sizes : (lead s : List ℕ) → length (withLead lead s) ≡ sizedOf (length lead) (length s)
+unfolding withLead
+sizes lead [] = refl
+sizes lead (o ∷ s) = rw (ne-eqb (length (o ∷ s)) 0 (λ e. omega arith)) (length-append lead (o ∷ s))
 
--- an element of no octets, and one of some, as two calls put it
-pub element-none : (b : List ℕ) (at id n : ℕ) (s : List ℕ) → n ≡ 0 → (at ≡ at + sizedOf n) × (b ≡ spliced b at (lengthed id (take n s)))
-unfolding sizedOf lengthed
-element-none b at id n s e = (rw e (sym (add-zero at)), rw e (nothing b at))
+pub long : (ksi : ℕ) (i c s l : List ℕ) → length (octetsOf (sayingOf ksi i c s l)) ≡ 6 + (length i + (sizedOf 2 (length c) + (sizedOf 2 (length s) + sizedOf 1 (length l))))
+unfolding itemOctets lengthIn
+long ksi i c s l = spread ksi i c s l ∙ rw (opens, sizes _ c, sizes _ s, sizes _ l) (omega arith)
 
-pub sized-some : (n : ℕ) → (n ≡ 0 → ⊥) → sizedOf n ≡ n + 2
-unfolding sizedOf
-sized-some n h = rw (ne-eqb n 0 h)
+-- With ngKSI 7 nothing is shown of the capability and of the last area, and without a last area nothing of that.
+shows : (x y : Bool) (ksi k : ℕ) (i cap sec area : List ℕ) → length area ≡ 6
+    → cond x (record { kind = 1; ksi = ksi; identity = i; capability = []; security = sec; last = [] }) (sayingOf ksi i (take k cap) sec (cond y [] area))
+    ≡ sayingOf ksi i (take (cond x 0 k) cap) sec (take (cond x 0 (cond y 0 6)) area)
+unfolding sayingOf
+shows true y ksi k i cap sec area h = refl
+shows false true ksi k i cap sec area h = refl
+shows false false ksi k i cap sec area h = rw (take-all 6 area (omega arith))
 
-pub element-some : (b c d : List ℕ) (at id n next r : ℕ) (s : List ℕ) → (n ≡ 0 → ⊥) → at + sizedOf n ≤ length b → n ≤ length s
-    → next ≡ at + 2 → c ≡ spliced b at (take 2 (id ∷ n ∷ [])) → r ≡ next + n → d ≡ spliced c next (take n s)
-    → (r ≡ at + sizedOf n) × (d ≡ spliced b at (lengthed id (take n s)))
-element-some b c d at id n next r s z h k e f g m =
-    let size : sizedOf n ≡ n + 2 = sized-some n z in
-    (omega arith, joined b c d at next 2 (id ∷ n ∷ []) (take n s) (omega arith) e refl f m ∙ ap (spliced b at) (leads id n (take n s) (length-take-le n s k) (omega (arith, z))))
+pub composed : (a : Access) (i cap sec area : List ℕ) (k m c s l : ℕ)
+    → c ≡ cond (eqb (a .ksi) 7) 0 k → s ≡ m → l ≡ cond (eqb (a .ksi) 7) 0 (cond (eqb (a .visited) 0) 0 6) → area ≡ octets3 (a .lastnet) ++ octets3 (a .lastcode)
+    → octetsOf (sayingOf (a .ksi) i (take c cap) (take s sec) (take l area)) ≡ layout (sayingOf (a .ksi) i (take k cap) (take m sec) (lastOf a))
+unfolding layout shown sayingOf lastOf
+composed a i cap sec area k m c s l ec es el ea =
+    rw (ec, es, el, ea) (sym (ap octetsOf (shows (eqb (a .ksi) 7) (eqb (a .visited) 0) (a .ksi) k i cap (take m sec) (octets3 (a .lastnet) ++ octets3 (a .lastcode)) refl)))
 
--- three pieces
-pub three : (b c d e : List ℕ) (at p q i j : ℕ) (x y z : List ℕ) → at ≤ length b → p ≡ at + i → length x ≡ i → q ≡ p + j → length y ≡ j
-    → c ≡ spliced b at x → d ≡ spliced c p y → e ≡ spliced d q z → e ≡ spliced b at (x ++ (y ++ z))
-three b c d e at p q i j x y z h ep ex eq ey ec ed ee =
-    joined b d e at q (i + j) (x ++ y) z h (omega arith) (omega (arith, length-append x y)) (joined b c d at p i x y h ep ex ec ed) ee
-    ∙ ap (spliced b at) (append-assoc x y z)
+pub sent-short : (o b : List ℕ) (len : ℕ) → length o ≡ len → length b < len → (record { answer = Short; len = 0 } ≡ sentOf o (length b)) × (b ≡ sentOver o b)
+unfolding sentOf sentOver
+sent-short o b len e h = (rw (e, lt-leb len (length b) h), rw (e, lt-leb len (length b) h))
 
--- the head and the identity, and what stands behind them
-pub filled : (b c d e head part rest : List ℕ) (p q : ℕ) → length head ≡ 6 → p ≡ 0 + 6 → q ≡ p + length part
-    → c ≡ spliced b 0 (take 6 head) → d ≡ spliced c p (take (length part) part) → e ≡ spliced d q rest → e ≡ over (head ++ (part ++ rest)) b
-filled b c d e head part rest p q h ep eq ec ed ee =
-    three b c d e 0 p q 6 (length part) head part rest (omega arith) ep h eq refl
-    (ec ∙ ap (spliced b 0) (take-all 6 head (omega arith)))
-    (ed ∙ ap (spliced c p) (take-length part)) ee
-    ∙ first b (head ++ (part ++ rest))
+pub sent-taken : (o b d : List ℕ) (len next : ℕ) → length o ≡ len → len ≤ length b → Put b 0 o d next → (record { answer = Taken; len = len } ≡ sentOf o (length b)) × (d ≡ sentOver o b)
+unfolding sentOf sentOver spliced over
+sent-taken o b d len next e h f = (rw (e, le-leb len (length b) h), rw (e, le-leb len (length b) h) (rw (zero-add, e) at (f .holds)))
 
--- two GUTIs put between the F2
-pub paired : (a b c d : List ℕ) → length a ≡ 10 → length b ≡ 10 → c ≡ spliced (replicate 22 0xF2) 1 (take 10 a) → d ≡ spliced c 12 (take 10 b) → d ≡ gutisOf a b
+-- a GUTI behind F2
+f2 : (g : List ℕ) → length g ≡ 10 → withLead (0xF2 ∷ []) g ≡ 0xF2 ∷ g
+f2 g e = lead-some (0xF2 ∷ []) g (λ z. omega arith)
+
+pub f2-long : (g : List ℕ) → length g ≡ 10 → length (withLead (0xF2 ∷ []) g) ≡ 11
+f2-long g e = rw (f2 g e) (omega arith)
+
+-- two of them fill the 22 octets
+pub paired : (a b c d : List ℕ) (i j : ℕ) → length a ≡ 10 → length b ≡ 10
+    → Put (replicate 22 0) 0 (withLead (0xF2 ∷ []) a) c i → Put c i (withLead (0xF2 ∷ []) b) d j → d ≡ gutisOf a b
 unfolding spliced gutisOf
-paired a b c d ha hb ec ed =
-    let ea : take 10 a ≡ a = take-all 10 a (omega arith) in
-    let eb : take 10 b ≡ b = take-all 10 b (omega arith) in
-    let made : c ≡ (0xF2 ∷ a) ++ (0xF2 ∷ replicate 10 0xF2) = ec ∙ rw (ea, ha) in
-    let split : c ≡ front ++ replicate 10 0xF2 = made ∙ sym (append-assoc (0xF2 ∷ a) (0xF2 ∷ []) (replicate 10 0xF2)) in
-    let size : length front ≡ 12 = omega (arith, length-append (0xF2 ∷ a) (0xF2 ∷ [])) in
-    let over22 : length (front ++ replicate 10 0xF2) ≤ 12 + length b = omega (arith, length-append front (replicate 10 0xF2)) in
-    ed
-    ∙ ap (λ (x : List ℕ). take 12 c ++ (x ++ drop (12 + length x) c)) eb
-    ∙ ap (λ (l : List ℕ). take 12 l ++ (b ++ drop (12 + length b) l)) split
-    ∙ ap (λ (l : List ℕ). l ++ (b ++ drop (12 + length b) (front ++ replicate 10 0xF2))) (take-at front (replicate 10 0xF2) 12 size)
-    ∙ ap (λ (l : List ℕ). front ++ (b ++ l)) (drop-of-length-le (front ++ replicate 10 0xF2) over22)
-    ∙ ap (λ (l : List ℕ). front ++ l) (append-nil b)
-    ∙ append-assoc (0xF2 ∷ a) (0xF2 ∷ []) b
+paired a b c d i j ha hb x y =
+    join (omega arith) x y .holds
+    ∙ rw (zero-add, f2 a ha, f2 b hb, drop-of-length-le {A = ℕ} (replicate 22 0) over22, append-nil ((0xF2 ∷ a) ++ (0xF2 ∷ b)))
   where
-    front : List ℕ
-    front = (0xF2 ∷ a) ++ (0xF2 ∷ [])
+    over22 : length (replicate {A = ℕ} 22 0) ≤ length ((0xF2 ∷ a) ++ (0xF2 ∷ b))
+    over22 = omega (arith, length-append (0xF2 ∷ a) (0xF2 ∷ b))
 
 -- a part of at most 64 octets is chosen from such a SUCI
 pub take-short : (n : ℕ) (l : List ℕ) → length (take n l) ≤ n
@@ -183,31 +145,3 @@ unfolding identityOf partOf
 identity-short g s access held0 held1 net nets count h =
     either-short (ltb (slotOf g access held0 held1 net nets count) 2) (take 11 (drop (slotOf g access held0 held1 net nets count * 11) g)) s
     (omega (arith, take-short 11 (drop (slotOf g access held0 held1 net nets count * 11) g))) h
-
--- the length that the writer tests is the layout's
-pub measured : (a : Access) (i cap sec : List ℕ) (k m c s l len : ℕ) → c ≡ shownCount (a .ksi) k → s ≡ m → l ≡ areaCount (a .ksi) (a .visited)
-    → c ≤ length cap → s ≤ length sec → l ≤ 7 → len ≡ 6 + (length i + (sizedOf c + (sizedOf s + l))) → length (layout (sayingOf a i (take k cap) (take m sec))) ≡ len
-measured a i cap sec k m c s l len ec es el hc hs hl e =
-    ap length (laid a i cap (take m sec) k)
-    ∙ rw (← ec, ← es, ← el)
-    (long (headOf 1 (a .ksi) (length i)) i (take c cap) (take s sec) (take l (areaOf (a .lastnet) (a .lastcode))) c s l six
-    (length-take-le c cap hc) (length-take-le s sec hs) (length-take-le l (areaOf (a .lastnet) (a .lastcode)) hl))
-    ∙ sym e
-  where
-    six : length (headOf 1 (a .ksi) (length i)) ≡ 6
-    six = length-head 1 (a .ksi) (length i)
-
--- what is put is the layout
-pub composed : (a : Access) (i cap sec h area b d : List ℕ) (k m c s l : ℕ) → c ≡ shownCount (a .ksi) k → s ≡ m → l ≡ areaCount (a .ksi) (a .visited)
-    → h ≡ headOf 1 (a .ksi) (length i) → area ≡ areaOf (a .lastnet) (a .lastcode) → d ≡ over (pieces h i (take c cap) (take s sec) (take l area)) b
-    → d ≡ over (layout (sayingOf a i (take k cap) (take m sec))) b
-composed a i cap sec h area b d k m c s l ec es el eh ea e =
-    e ∙ ap (λ (x : List ℕ). over x b) (rw (eh, ea, ec, es, el) (sym (laid a i cap (take m sec) k)))
-
-pub sent-short : (o b : List ℕ) (len : ℕ) → length o ≡ len → length b < len → (record { answer = Short; len = 0 } ≡ sentOf o (length b)) × (b ≡ sentOver o b)
-unfolding sentOf sentOver
-sent-short o b len e h = (rw (e, lt-leb len (length b) h), rw (e, lt-leb len (length b) h))
-
-pub sent-taken : (o b d : List ℕ) (len : ℕ) → length o ≡ len → len ≤ length b → d ≡ over o b → (record { answer = Taken; len = len } ≡ sentOf o (length b)) × (d ≡ sentOver o b)
-unfolding sentOf sentOver
-sent-taken o b d len e h f = (rw (e, le-leb len (length b) h), rw (e, le-leb len (length b) h) f)

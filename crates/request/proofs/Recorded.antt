@@ -21,7 +21,7 @@ use Rattle.request.specs.Layout.{Fit, shown}
 use Rattle.request.specs.Reading.{askingOf, toldBy}
 use Rattle.request.specs.Reading.Said.{says}
 use Rattle.record.specs.Sides.{accessOf}
-use Rattle.request.specs.Writing.{gutisOf, lastOf, sayingOf, saysOf, fieldsOf, requestOf, answerOf, writtenOf, over, bufferOf}
+use Rattle.request.specs.Writing.{gutisOf, lastOf, sayingOf, saysOf, fieldsOf, requestOf, writingAnswer, writtenOf, over, bufferOf}
 use Rattle.request.proofs.Ranges.{Ready, ready}
 use Rattle.request.proofs.RoundTrip.{round-layout}
 
@@ -109,9 +109,9 @@ passed true true z e = (refl, refl)
 passed true false z e = let n : _≡_ {A = ℕ} 0 1 = cc in absurd (omega arith)
 passed false y z e = let n : _≡_ {A = ℕ} 0 1 = cc in absurd (omega arith)
 
-module _ (r : Record) (access : ℕ) (b : List ℕ) (whole : Whole r) (taken : answerOf r access (length b) ≡ Taken) where
+module _ (r : Record) (access : ℕ) (b : List ℕ) (whole : Whole r) (taken : writingAnswer r access (length b) ≡ Taken) where
   tests : (both (leb access 1) (validOf r) ≡ true) × (eqb (accessOf (r .hot) access .state) 4 ≡ true)
-  unfolding answerOf
+  unfolding writingAnswer
   tests = passed _ _ (leb (length (requestOf r access)) (length b)) taken
 
   -- what the writer has written

@@ -1,26 +1,28 @@
--- Reading what the layout gives, for any fields that fit, gives them back: each part lies where the octets before it end. Assumes nothing.
+-- Reading what the layout gives, for any fields that fit, gives them back: the opening as it stands, each element by its identifier. Assumes nothing.
 use Prim.Native.Nat.{ℕ, suc, _+_, _*_, _/_, _%_, _≤_}
-use mathlib.Core.Path.{_≡_, refl, sym, _∙_, ap}
+use mathlib.Core.Path.{_≡_, refl, _∙_, ap}
 use mathlib.Core.Bool.{Bool, true, false, cond}
 use mathlib.Core.Logic.{_⊎_, inl, inr}
-use mathlib.Core.List.{List, [], _∷_, _++_, append-assoc, append-nil}
+use mathlib.Core.List.{List, [], _∷_, _++_}
 use native.Mathlib.Omega.{arith}
 use lib.ListN.{length, getD, length-append}
-use lib.Seq.{take-at, drop-at}
+use lib.Seq.{take-at}
 use lib.Dec.{eqb}
-use borrow.Author.Tests.{lt-ltb, le-ltb, le-leb, eq-eqb}
+use borrow.Author.Tests.{lt-ltb, le-ltb, le-leb, eq-eqb, ne-eqb}
 use Rattle.octets.specs.declared.Part.{Part}
-use Rattle.octets.specs.declared.Gathered.the-variants.{Whole}
-use Rattle.octets.specs.Element.{gatherOf}
-use Rattle.request.specs.Layout.{Fields, Fit, headOf, lengthed, bare, opening, elements, octetsOf, shown, layout}
-use Rattle.request.specs.Reading.{isFourth, isIdentity, isRequest, capabilityOf, saidOf, judgedOf, askedOf, partsReading, restReading, openedBy, typeReading, askingOf, cutOf, toldBy}
+use Rattle.octets.specs.declared.Ending.the-variants.{Whole}
+use Rattle.octets.specs.Element.{Elements, formatOf, elementsFrom, firstOf, endOf}
+use Rattle.messages.specs.Message.{openedBy, endedBy}
+use Rattle.request.specs.Layout.{Fields, Fit, lengthIn, laid, openingHead, opening, itemsOf, octetsOf, shown, layout}
+use Rattle.request.specs.Layout.Form.{plainForm}
+use Rattle.request.specs.Reading.{isFourth, isIdentity, isSecurity, isCapability, isRequest, capabilityOf, requestIn, judgedOf, askedOf, partsReading, restReading, requestReading, askingOf, cutOf, toldBy}
 use Rattle.request.specs.Reading.Said.{says}
 use Rattle.request.specs.declared.Asking.the-variants as asking
-use Rattle.request.proofs.Parts.{heldAt, gathers, cut-lengthed, cut-bare, capable, secure, kept}
+use Rattle.request.proofs.Back.{Reads, AllRead, short-reads, plain-reads, orElse, saysIn, some, Found, back, ends}
 
 -- behind 7E 00 41 and octet 4 stands the identity's length
 headed : (o hi lo : ℕ) (t : List ℕ) (n : ℕ) → hi * 256 + lo ≡ n → askingOf (0x7E ∷ 0x00 ∷ 0x41 ∷ o ∷ hi ∷ lo ∷ t) ≡ partsReading (0x7E ∷ 0x00 ∷ 0x41 ∷ o ∷ hi ∷ lo ∷ t) n
-unfolding askingOf openedBy typeReading restReading
+unfolding askingOf openedBy requestReading restReading
 headed o hi lo t n e =
     rw (lt-ltb 0 (suc (suc (suc (suc (suc (suc (length t))))))) (omega arith), lt-ltb 1 (suc (suc (suc (suc (suc (suc (length t))))))) (omega arith), lt-ltb 2 (suc (suc (suc (suc (suc (suc (length t))))))) (omega arith), le-ltb (suc (suc (suc (suc (suc (suc (length t))))))) 6 (omega arith), e)
 
@@ -33,20 +35,47 @@ unfolding isIdentity
 identified o n (inl (e, h)) = rw (e, h)
 identified o n (inr (e, (h, k))) = rw (e, le-leb 9 n h, le-leb n 64 k)
 
-long : (o n : ℕ) → ((o ≡ 0xF2) × (n ≡ 11)) ⊎ ((o ≡ 0x01) × ((9 ≤ n) × (n ≤ 64))) → (9 ≤ n) × (n ≤ 64)
-long o n (inl (e, h)) = (omega arith, omega arith)
-long o n (inr (e, h)) = h
+sized : (o n : ℕ) → ((o ≡ 0xF2) × (n ≡ 11)) ⊎ ((o ≡ 0x01) × ((9 ≤ n) × (n ≤ 64))) → (9 ≤ n) × (n ≤ 64)
+sized o n (inl (e, h)) = (omega arith, omega arith)
+sized o n (inr (e, h)) = h
 
 leads : (i e : List ℕ) → 9 ≤ length i → getD (i ++ e) 0 0 ≡ getD i 0 0
 leads [] e h = absurd (omega arith)
 leads (o ∷ i) e h = refl
 
-passed : (a b c d : Bool) → a ≡ true → b ≡ true → c ≡ true → d ≡ true → cond a (cond b (cond c d false) false) false ≡ true
-passed a b c d e f g h = rw (e, f, g, h)
+-- the elements of a request are read as they are laid out
+area-read : (c : List ℕ) → (c ≡ []) ⊎ (length c ≡ 6) → (c ≡ []) ⊎ Reads plainForm 0x52 c
+unfolding formatOf
+area-read c (inl e) = inl e
+area-read c (inr e) = inr (plain-reads 0x52 c refl e)
 
-said : (f : Fields) (k x : ℕ) (i c s l : List ℕ) → k ≡ f .kind → x ≡ f .ksi → i ≡ f .identity → c ≡ f .capability → s ≡ f .security → l ≡ f .last
-    → says (record { kind = k; ksi = x; identity = i; capability = c; security = s; last = l }) ≡ says f
-said f k x i c s l d e g h j m = rw (d, e, g, h, j, m)
+all-read : (f : Fields) → Fit f → AllRead (itemsOf f)
+unfolding AllRead itemsOf formatOf
+all-read f fit = (inr (short-reads 0x10 (f .capability) refl), (inr (short-reads 0x2E (f .security) refl), (area-read (f .last) (fit .last), tt)))
+
+alone : (c : List ℕ) → orElse c [] ≡ c
+unfolding orElse
+alone [] = refl
+alone (o ∷ c) = refl
+
+-- a part found passes its test, and stays
+module _ {s : List ℕ} {q : Part} where
+  capable : (c : List ℕ) → Found s q c → length c ≤ 13 → isCapability q ≡ true
+  unfolding isCapability
+  capable c h k = rw (h .len, le-leb (length c) 13 k) (either (q .held)) where
+    either : (t : Bool) → cond t true true ≡ true
+    either true = refl
+    either false = refl
+
+  secure : (c : List ℕ) → Found s q c → 2 ≤ length c → length c ≤ 8 → isSecurity q ≡ true
+  unfolding isSecurity some
+  secure [] h k m = absurd (omega arith)
+  secure (o ∷ c) h k m = rw (h .held, h .len, le-leb 2 (length (o ∷ c)) k, le-leb (length (o ∷ c)) 8 m)
+
+  stays : (c : List ℕ) → Found s q c → cutOf s (capabilityOf q) ≡ c
+  unfolding capabilityOf cutOf
+  stays [] h = rw (h .len)
+  stays (o ∷ c) h = rw (ne-eqb (q .len) 0 (λ e. omega (arith, h .len))) (h .cut)
 
 module _ (f : Fields) (fit : Fit f) where
   abbrev s : List ℕ
@@ -55,94 +84,65 @@ module _ (f : Fields) (fit : Fit f) where
   abbrev n : ℕ
   n = length (f .identity)
 
+  abbrev l : Elements
+  l = elementsFrom true s (6 + n)
+
   size : (9 ≤ n) × (n ≤ 64)
-  size = long (getD (f .identity) 0 0) n (fit .identity)
+  size = sized (getD (f .identity) 0 0) n (fit .identity)
 
   opened : length (opening f) ≡ 6 + n
-  unfolding opening headOf
+  unfolding opening openingHead lengthIn
   opened = omega arith
 
-  abbrev p : Part
-  p = heldAt 2 (6 + n) (f .capability)
+  finds : (x : ℕ) → Found s (firstOf x l) (saysIn x (itemsOf f))
+  unfolding octetsOf
+  finds x = rw (← opened) (back (opening f) (itemsOf f) (all-read f fit) x)
 
-  abbrev one : ℕ
-  one = 6 + n + length (lengthed 0x10 (f .capability))
+  found-capability : Found s (firstOf 0x10 l) (f .capability)
+  unfolding saysIn itemsOf
+  found-capability = rw alone at (finds 0x10)
 
-  abbrev q : Part
-  q = heldAt 2 one (f .security)
+  found-security : Found s (firstOf 0x2E l) (f .security)
+  unfolding saysIn itemsOf
+  found-security = rw alone at (finds 0x2E)
 
-  abbrev two : ℕ
-  two = one + length (lengthed 0x2E (f .security))
-
-  abbrev t : Part
-  t = heldAt 1 two (f .last)
+  found-last : Found s (firstOf 0x52 l) (f .last)
+  unfolding saysIn itemsOf
+  found-last = rw alone at (finds 0x52)
 
   begins : askingOf s ≡ partsReading s n
-  unfolding octetsOf opening headOf
-  begins = let h : n ≤ 64 = size .1 in headed (f .ksi * 16 + f .kind) (n / 256) (n % 256) (f .identity ++ elements f) n (omega arith)
+  unfolding octetsOf opening openingHead lengthIn
+  begins = let h : n ≤ 64 = size .1 in headed (f .ksi * 16 + f .kind) (n / 256) (n % 256) (f .identity ++ laid (itemsOf f)) n (omega arith)
 
-  whole : gatherOf true s (6 + n) 0x10 0x2E 0x52 ≡ Whole p q t
-  unfolding gatherOf octetsOf elements
-  whole = rw (drop-at (opening f) (elements f) (6 + n) opened) (gathers (6 + n) (f .capability) (f .security) (f .last) (fit .last))
-
-  goes : partsReading s n ≡ judgedOf s n p q t
-  unfolding partsReading askedOf octetsOf
+  goes : partsReading s n ≡ judgedOf s n l
+  unfolding partsReading askedOf endedBy octetsOf
   goes = rw (le-ltb (length s) (6 + n) fits, whole)
     where
-      fits : 6 + n ≤ length (opening f ++ elements f)
-      fits = omega (arith, length-append (opening f) (elements f), opened)
+      fits : 6 + n ≤ length (opening f ++ laid (itemsOf f))
+      fits = omega (arith, length-append (opening f) (laid (itemsOf f)), opened)
 
-  accepted : isRequest s n p q ≡ true
-  unfolding isRequest octetsOf opening headOf
-  accepted =
-      rw (leads (f .identity) (elements f) (size .0))
-      (passed _ _ _ _ (fourth (f .ksi) (f .kind) (fit .kind) (fit .ksi)) (identified (getD (f .identity) 0 0) n (fit .identity))
-      (capable (6 + n) (f .capability) (fit .capability)) (secure one (f .security) (fit .security .0) (fit .security .1)))
+      whole : endOf l ≡ Whole
+      whole = rw (← opened) (ends (opening f) (itemsOf f) (all-read f fit))
 
-  judged : judgedOf s n p q t ≡ asking.Request (saidOf s n p q t)
-  unfolding judgedOf
-  judged = rw accepted
+  opens : (isFourth (getD s 3 0) ≡ true) × (isIdentity (getD s 6 0) n ≡ true)
+  unfolding octetsOf opening openingHead lengthIn
+  opens = (fourth (f .ksi) (f .kind) (fit .kind) (fit .ksi), rw (leads (f .identity) (laid (itemsOf f)) (size .0)) (identified (getD (f .identity) 0 0) n (fit .identity)))
+
+  judged : judgedOf s n l ≡ asking.Request (requestIn s n l)
+  unfolding judgedOf isRequest
+  judged = rw (opens .0, opens .1, capable (f .capability) found-capability (fit .capability), secure (f .security) found-security (fit .security .0) (fit .security .1))
 
   same-identity : cutOf s (record { held = true; start = 6; len = n }) ≡ f .identity
-  unfolding cutOf octetsOf opening headOf
-  same-identity = take-at (f .identity) (elements f) n refl
+  unfolding cutOf octetsOf opening openingHead lengthIn
+  same-identity = take-at (f .identity) (laid (itemsOf f)) n refl
 
-  same-capability : cutOf s (capabilityOf p) ≡ f .capability
-  unfolding octetsOf elements
-  same-capability = rw (kept (6 + n) (f .capability)) (cut-lengthed 0x10 (6 + n) (opening f) (f .capability) (lengthed 0x2E (f .security) ++ bare 0x52 (f .last)) opened)
+  halves : (getD s 3 0 % 16 ≡ f .kind) × (getD s 3 0 / 16 ≡ f .ksi)
+  unfolding octetsOf opening openingHead
+  halves = let h : f .kind ≡ 1 = fit .kind in (omega arith, omega arith)
 
-  abbrev first : List ℕ
-  first = opening f ++ lengthed 0x10 (f .capability)
-
-  first-long : length first ≡ one
-  first-long = omega (arith, length-append (opening f) (lengthed 0x10 (f .capability)), opened)
-
-  same-security : cutOf s q ≡ f .security
-  unfolding octetsOf elements
-  same-security =
-      ap (λ (l : List ℕ). cutOf l q) (sym (append-assoc (opening f) (lengthed 0x10 (f .capability)) (lengthed 0x2E (f .security) ++ bare 0x52 (f .last))))
-      ∙ cut-lengthed 0x2E one first (f .security) (bare 0x52 (f .last)) first-long
-
-  abbrev second : List ℕ
-  second = first ++ lengthed 0x2E (f .security)
-
-  second-long : length second ≡ two
-  second-long = omega (arith, length-append first (lengthed 0x2E (f .security)), first-long)
-
-  same-last : cutOf s t ≡ f .last
-  unfolding octetsOf elements
-  same-last =
-      ap (λ (l : List ℕ). cutOf l t)
-      (sym (append-assoc (opening f) (lengthed 0x10 (f .capability)) (lengthed 0x2E (f .security) ++ bare 0x52 (f .last)))
-      ∙ sym (append-assoc first (lengthed 0x2E (f .security)) (bare 0x52 (f .last)))
-      ∙ ap (λ (l : List ℕ). second ++ l) (sym (append-nil (bare 0x52 (f .last)))))
-      ∙ cut-bare 0x52 two second (f .last) [] second-long
-
-  told : toldBy s (asking.Request (saidOf s n p q t)) ≡ says f
-  unfolding toldBy saidOf octetsOf opening headOf
-  told =
-      let h : f .kind ≡ 1 = fit .kind in
-      said f ((f .ksi * 16 + f .kind) % 16) ((f .ksi * 16 + f .kind) / 16) _ _ _ _ (omega arith) (omega arith) same-identity same-capability same-security same-last
+  told : toldBy s (asking.Request (requestIn s n l)) ≡ says f
+  unfolding toldBy requestIn
+  told = rw (halves .0, halves .1, same-identity, stays (f .capability) found-capability, found-security .cut, found-last .cut)
 
   -- the round trip
   pub round : toldBy (octetsOf f) (askingOf (octetsOf f)) ≡ says f

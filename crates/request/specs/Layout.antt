@@ -16,30 +16,53 @@ pub record Fields : Type 0 where
   pub security : List ℕ
   pub last : List ℕ
 
--- "All begin 7E 00 and a type: 41 request"; "octet 4 is ngKSI times 16 plus 1; identity with two-octet length", the high octet first
-unfoldable pub headOf : ℕ → ℕ → ℕ → List ℕ
-headOf kind ksi n = 0x7E ∷ 0x00 ∷ 0x41 ∷ (ksi * 16 + kind) ∷ (n / 256) ∷ (n % 256) ∷ []
+-- How long the length of an element is: one octet, two octets, or none
+pub data Form : Type 0 where
+  shortForm : Form
+  longForm : Form
+  plainForm : Form
 
--- an element with a one-octet length, if there is one
-unfoldable pub lengthed : ℕ → List ℕ → List ℕ
-lengthed id [] = []
-lengthed id (o ∷ s) = id ∷ length (o ∷ s) ∷ o ∷ s
+-- An element as it is laid out: its form, its identifier and its contents
+pub data Item : Type 0 where
+  item : Form → ℕ → List ℕ → Item
 
--- an element without a length, if there is one
-unfoldable pub bare : ℕ → List ℕ → List ℕ
-bare id [] = []
-bare id (o ∷ s) = id ∷ o ∷ s
+-- the length of n octets of contents, the high octet first
+unfoldable pub lengthIn : Form → ℕ → List ℕ
+lengthIn shortForm n = n ∷ []
+lengthIn longForm n = (n / 256) ∷ (n % 256) ∷ []
+lengthIn plainForm n = []
+
+-- contents behind their lead; an element with no contents is left out
+unfoldable pub withLead : List ℕ → List ℕ → List ℕ
+withLead lead [] = []
+withLead lead (o ∷ c) = lead ++ (o ∷ c)
+
+unfoldable pub itemOctets : Form → ℕ → List ℕ → List ℕ
+itemOctets f id c = withLead (id ∷ lengthIn f (length c)) c
+
+-- elements one behind the other
+unfoldable pub laid : List Item → List ℕ
+laid [] = []
+laid (item f id c ∷ l) = itemOctets f id c ++ laid l
+
+-- "All begin 7E 00 and a type: 41 request"; "octet 4 is ngKSI times 16 plus 1; identity with two-octet length"
+unfoldable pub openingHead : ℕ → ℕ → ℕ → List ℕ
+openingHead kind ksi n = 0x7E ∷ 0x00 ∷ 0x41 ∷ (ksi * 16 + kind) ∷ lengthIn longForm n
 
 -- what every request opens with
 unfoldable pub opening : Fields → List ℕ
-opening f = headOf (f .kind) (f .ksi) (length (f .identity)) ++ f .identity
+opening f = openingHead (f .kind) (f .ksi) (length (f .identity)) ++ f .identity
 
--- "then 10 (5GMM capability), 2E, and 52 if a last area is held"
-unfoldable pub elements : Fields → List ℕ
-elements f = lengthed 0x10 (f .capability) ++ (lengthed 0x2E (f .security) ++ bare 0x52 (f .last))
+-- "then 10 (5GMM capability), 2E, and 52 if a last area is held": one line an element, in their order
+unfoldable pub itemsOf : Fields → List Item
+itemsOf f =
+    item shortForm 0x10 (f .capability)
+    ∷ item shortForm 0x2E (f .security)
+    ∷ item plainForm 0x52 (f .last)
+    ∷ []
 
 unfoldable pub octetsOf : Fields → List ℕ
-octetsOf f = opening f ++ elements f
+octetsOf f = opening f ++ laid (itemsOf f)
 
 -- "With ngKSI 7 only 2E follows the identity."
 unfoldable pub shown : Fields → Fields

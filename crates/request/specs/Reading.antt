@@ -4,13 +4,10 @@ use mathlib.Core.Bool.{Bool, true, cond}
 use mathlib.Core.List.{List, []}
 use lib.ListN.{length, getD, take, drop}
 use lib.Dec.{ltb, leb, eqb}
-use Rattle.octets.specs.declared.Fault.{Fault}
 use Rattle.octets.specs.declared.Fault.the-variants.{Cut, First, Second, Kind}
 use Rattle.octets.specs.declared.Part.{Part}
-use Rattle.octets.specs.declared.Gathered.{Gathered}
-use Rattle.octets.specs.declared.Gathered.the-variants.{Broken, Whole}
-use Rattle.octets.specs.Element.{absent, gatherOf}
-use Rattle.messages.specs.Message.{numberOf}
+use Rattle.octets.specs.Element.{Elements, elementsFrom, absent, firstOf, endOf}
+use Rattle.messages.specs.Message.{openedBy, endedBy, faultNumber}
 use Rattle.record.specs.Tests.{both, either, within}
 use Rattle.request.specs.Layout.{Fields}
 use Rattle.request.specs.declared.Request.{Request}
@@ -33,49 +30,45 @@ isSecurity q = both (q .held) (within 2 8 (q .len))
 unfoldable pub isCapability : Part → Bool
 isCapability p = cond (p .held) (leb (p .len) 13) true
 
-unfoldable pub isRequest : List ℕ → ℕ → Part → Part → Bool
-isRequest s n p q = both (isFourth (getD s 3 0)) (both (isIdentity (getD s 6 0) n) (both (isCapability p) (isSecurity q)))
+-- what a request with an identity of n octets has to be, by its elements
+unfoldable pub isRequest : List ℕ → ℕ → Elements → Bool
+isRequest s n l = both (isFourth (getD s 3 0)) (both (isIdentity (getD s 6 0) n) (both (isCapability (firstOf 0x10 l)) (isSecurity (firstOf 0x2E l))))
 
 -- a capability of no octets is too short: absent
 unfoldable pub capabilityOf : Part → Part
 capabilityOf p = cond (eqb (p .len) 0) absent p
 
-unfoldable pub saidOf : List ℕ → ℕ → Part → Part → Part → Request
-saidOf s n p q t = record {
+unfoldable pub requestIn : List ℕ → ℕ → Elements → Request
+requestIn s n l = record {
   kind = getD s 3 0 % 16;
   ksi = getD s 3 0 / 16;
   identity = record { held = true; start = 6; len = n };
-  capability = capabilityOf p;
-  security = q;
-  last = t;
+  capability = capabilityOf (firstOf 0x10 l);
+  security = firstOf 0x2E l;
+  last = firstOf 0x52 l;
 }
 
-unfoldable pub judgedOf : List ℕ → ℕ → Part → Part → Part → Asking
-judgedOf s n p q t = cond (isRequest s n p q) (asking.Request (saidOf s n p q t)) asking.Unfit
+unfoldable pub judgedOf : List ℕ → ℕ → Elements → Asking
+judgedOf s n l = cond (isRequest s n l) (asking.Request (requestIn s n l)) asking.Unfit
 
 -- what the elements make of a request: a malformed one tells
-unfoldable pub askedOf : List ℕ → ℕ → Gathered → Asking
-askedOf s n (Broken f at) = asking.Bad f at
-askedOf s n (Whole p q t) = judgedOf s n p q t
+unfoldable pub askedOf : List ℕ → ℕ → Elements → Asking
+askedOf s n l = endedBy asking.Bad (endOf l) (judgedOf s n l)
 
 -- octet 4 and an identity with two-octet length, all of it in the message; then the elements
 unfoldable pub partsReading : List ℕ → ℕ → Asking
-partsReading s n = cond (ltb (length s) (6 + n)) (asking.Bad Cut (length s)) (askedOf s n (gatherOf true s (6 + n) 0x10 0x2E 0x52))
+partsReading s n = cond (ltb (length s) (6 + n)) (asking.Bad Cut (length s)) (askedOf s n (elementsFrom true s (6 + n)))
 
 unfoldable pub restReading : List ℕ → Asking
 restReading s = cond (ltb (length s) 6) (asking.Bad Cut (length s)) (partsReading s (getD s 4 0 * 256 + getD s 5 0))
 
--- the octet at a place has to be there and to be the one asked for; then comes the rest
-unfoldable pub openedBy : List ℕ → ℕ → ℕ → Fault → Asking → Asking
-openedBy s at octet fault rest = cond (ltb at (length s)) (cond (eqb (getD s at 0) octet) rest (asking.Bad fault at)) (asking.Bad Cut at)
-
 -- 41 request
-unfoldable pub typeReading : List ℕ → Asking
-typeReading s = openedBy s 2 0x41 Kind (restReading s)
+unfoldable pub requestReading : List ℕ → Asking
+requestReading s = openedBy asking.Bad s 2 0x41 Kind (restReading s)
 
 -- "All begin 7E 00 and a type": octet by octet, so that of two faults the one at the lower offset is told
 unfoldable pub askingOf : List ℕ → Asking
-askingOf s = openedBy s 0 0x7E First (openedBy s 1 0x00 Second (typeReading s))
+askingOf s = openedBy asking.Bad s 0 0x7E First (openedBy asking.Bad s 1 0x00 Second (requestReading s))
 
 -- the octets of a part
 unfoldable pub cutOf : List ℕ → Part → List ℕ
@@ -101,5 +94,5 @@ toldBy s asking.Unfit = nothing
 -- document 01's number for each case: a fault's own, and 3 for "All else"
 abbrev pub askingNumber : Asking → ℕ
 askingNumber (asking.Request q) = 0
-askingNumber (asking.Bad f at) = numberOf f
+askingNumber (asking.Bad f at) = faultNumber f
 askingNumber asking.Unfit = 3

@@ -28,17 +28,18 @@ octets3 n = (n / 65536 % 256) ∷ (n / 256 % 256) ∷ (n % 256) ∷ []
 unfoldable pub lastOf : Access → List ℕ
 lastOf a = cond (eqb (a .visited) 0) [] (octets3 (a .lastnet) ++ octets3 (a .lastcode))
 
--- what an access says with this identity and these capabilities
-unfoldable pub sayingOf : Access → List ℕ → List ℕ → List ℕ → Fields
-sayingOf a identity capability security = record { kind = 1; ksi = a .ksi; identity = identity; capability = capability; security = security; last = lastOf a }
+-- what a request says with these
+unfoldable pub sayingOf : ℕ → List ℕ → List ℕ → List ℕ → List ℕ → Fields
+sayingOf ksi identity capability security last = record { kind = 1; ksi = ksi; identity = identity; capability = capability; security = security; last = last }
 
 -- what a record says in the request over an access, a of the access's numbers and its equivalents
 unfoldable pub saysOf : Record → ℕ → Access → List ℕ → Fields
 saysOf r access a equivalents =
-    sayingOf a
+    sayingOf (a .ksi)
     (identityOf (gutisOf (r .guti0) (r .guti1)) (take (r .hot .dev .suci) (r .suci)) access (r .hot .a0 .guti) (r .hot .a1 .guti) (a .net) equivalents (a .equivalents))
     (take (r .hot .dev .capability) (r .capability))
     (take (r .hot .dev .security) (r .security))
+    (lastOf a)
 
 unfoldable pub fieldsOf : Record → ℕ → Fields
 fieldsOf r access = saysOf r access (accessOf (r .hot) access) (cond (eqb access 0) (r .equivalents0) (r .equivalents1))
@@ -47,8 +48,8 @@ unfoldable pub requestOf : Record → ℕ → List ℕ
 requestOf r access = layout (fieldsOf r access)
 
 -- "1, 6, 12 for writing a request", over a buffer of n octets
-unfoldable pub answerOf : Record → ℕ → ℕ → Answer
-answerOf r access n =
+unfoldable pub writingAnswer : Record → ℕ → ℕ → Answer
+writingAnswer r access n =
     cond (both (leb access 1) (validOf r))
     (cond (eqb (accessOf (r .hot) access .state) 4)
     (cond (leb (length (requestOf r access)) n) Taken Short)
@@ -56,11 +57,11 @@ answerOf r access n =
     Range
 
 unfoldable pub writtenOf : Record → ℕ → ℕ → Written
-writtenOf r access n = record { answer = answerOf r access n; len = cond (isTaken (answerOf r access n)) (length (requestOf r access)) 0 }
+writtenOf r access n = record { answer = writingAnswer r access n; len = cond (isTaken (writingAnswer r access n)) (length (requestOf r access)) 0 }
 
 -- "a longer one keeps its further octets"
 unfoldable pub over : List ℕ → List ℕ → List ℕ
 over octets buffer = octets ++ drop (length octets) buffer
 
 unfoldable pub bufferOf : Record → ℕ → List ℕ → List ℕ
-bufferOf r access buffer = cond (isTaken (answerOf r access (length buffer))) (over (requestOf r access) buffer) buffer
+bufferOf r access buffer = cond (isTaken (writingAnswer r access (length buffer))) (over (requestOf r access) buffer) buffer

@@ -2,15 +2,17 @@
 use crate::Asking;
 use crate::Request;
 use messages::octet;
+use octets::Ending;
 use octets::Fault;
-use octets::Gathered;
 use octets::Part;
+use octets::Wanted;
 use octets::wide;
 use record::and;
 use record::or;
 ghost use mathlib.Core.Path.{_≡_};
 ghost use Prim.Native.Nat.{_<_};
-ghost use Rattle.request.specs.Reading.{isFourth, isIdentity, isSecurity, isCapability, isRequest, capabilityOf, saidOf, judgedOf, partsReading, restReading, typeReading, askingOf, askingNumber};
+ghost use Rattle.octets.specs.Element.{Elements, firstOf};
+ghost use Rattle.request.specs.Reading.{isFourth, isIdentity, isSecurity, isCapability, isRequest, capabilityOf, requestIn, judgedOf, partsReading, restReading, requestReading, askingOf, askingNumber};
 
 fn fourth(o: u8) -> bool
     ensures { λ r. ⌜ r ≡ isFourth o ⌝ }
@@ -39,7 +41,7 @@ fn capability(p: Part) -> bool
 }
 
 fn fits(msg: &[u8], n: usize, p: Part, q: Part) -> bool
-    ensures { λ r. ⌜ r ≡ isRequest (now (msg .entry)) n p q ⌝ }
+    ensures { λ r. ⌜ ((l : Elements) → p ≡ firstOf 0x10 l → q ≡ firstOf 0x2E l → r ≡ isRequest (now (msg .entry)) n l) ⌝ }
 {
     let a = fourth(octet(msg, 3));
     let b = identity(octet(msg, 6), n);
@@ -60,8 +62,9 @@ fn held(p: Part) -> Part
     p
 }
 
+// A request, by its first 10, 2E and 52.
 fn said(msg: &[u8], n: usize, p: Part, q: Part, t: Part) -> Request
-    ensures { λ r. ⌜ r ≡ saidOf (now (msg .entry)) n p q t ⌝ }
+    ensures { λ r. ⌜ ((l : Elements) → p ≡ firstOf 0x10 l → q ≡ firstOf 0x2E l → t ≡ firstOf 0x52 l → r ≡ requestIn (now (msg .entry)) n l) ⌝ }
 {
     let o = octet(msg, 3);
     let capability = held(p);
@@ -80,7 +83,7 @@ fn said(msg: &[u8], n: usize, p: Part, q: Part, t: Part) -> Request
 }
 
 fn judged(msg: &[u8], n: usize, p: Part, q: Part, t: Part) -> Asking
-    ensures { λ r. ⌜ r ≡ judgedOf (now (msg .entry)) n p q t ⌝ }
+    ensures { λ r. ⌜ ((l : Elements) → p ≡ firstOf 0x10 l → q ≡ firstOf 0x2E l → t ≡ firstOf 0x52 l → r ≡ judgedOf (now (msg .entry)) n l) ⌝ }
 {
     if fits(msg, n, p, q) {
         return Asking::Request(said(msg, n, p, q, t));
@@ -95,9 +98,19 @@ fn read_parts(msg: &[u8], n: usize) -> Asking
     if msg.len() < 6 + n {
         return Asking::Bad(Fault::Cut, msg.len());
     }
-    match octets::gather(msg, 6 + n, true, 0x10, 0x2E, 0x52) {
-        Gathered::Broken(f, at) => Asking::Bad(f, at),
-        Gathered::Whole(p, q, t) => judged(msg, n, p, q, t),
+    let g = octets::gather(
+        msg,
+        6 + n,
+        true,
+        Wanted::Id(0x10),
+        Wanted::Id(0x2E),
+        Wanted::Id(0x52),
+        Wanted::Nothing,
+    );
+    let end = g.end;
+    match end {
+        Ending::Broken(f, at) => Asking::Bad(f, at),
+        Ending::Whole => judged(msg, n, g.first, g.second, g.third),
     }
 }
 
@@ -113,7 +126,7 @@ fn read_rest(msg: &[u8]) -> Asking
 }
 
 fn read_type(msg: &[u8]) -> Asking
-    ensures { λ r. ⌜ r ≡ typeReading (now (msg .entry)) ⌝ }
+    ensures { λ r. ⌜ r ≡ requestReading (now (msg .entry)) ⌝ }
 {
     if msg.len() <= 2 {
         return Asking::Bad(Fault::Cut, 2);

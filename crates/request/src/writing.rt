@@ -10,21 +10,22 @@ use record::access_of;
 ghost use mathlib.Core.Path.{_≡_};
 ghost use mathlib.Core.Bool.{cond};
 ghost use mathlib.Core.List.{_++_};
-ghost use Prim.Native.Nat.{_+_, _%_, _≤_, _<_};
+ghost use Prim.Native.Nat.{_+_, _≤_, _<_};
 ghost use lib.Dec.{leb, eqb};
 ghost use lib.ListN.{length, take};
 ghost use Rattle.ranges.specs.Valid.{validOf};
 ghost use Rattle.record.specs.Tests.{both};
-ghost use Rattle.request.specs.Layout.{headOf, lengthed, layout};
-ghost use Rattle.request.specs.Writing.{gutisOf, sayingOf, saysOf, writtenOf, over, bufferOf};
-ghost use Rattle.request.specs.Steps.{spliced, sizedOf, areaOf, shownCount, areaCount, pieces, sentOf, sentOver};
+ghost use Rattle.request.specs.Layout.{withLead, itemOctets, openingHead, octetsOf, layout};
+ghost use Rattle.request.specs.Layout.Form.{shortForm, plainForm};
+ghost use Rattle.request.specs.Writing.{gutisOf, octets3, lastOf, sayingOf, saysOf, writtenOf, bufferOf};
+ghost use Rattle.request.specs.Steps.{Put, sizedOf, sentOf, sentOver};
 
-// The first n octets of src, from a place on; the place behind them is handed back.
-fn put(buffer: &mut [u8], at: usize, src: &[u8], n: usize) -> usize
-    requires { ⌜ (at + n ≤ length (now buffer)) × (n ≤ length (now src)) ⌝ }
-    ensures { λ r. ⌜ r ≡ at + n ⌝ }
-    ensures { λ r. ⌜ now (buffer .exit) ≡ spliced (now (buffer .entry)) at (take n (now (src .entry))) ⌝ }
+// Octets from a place on; the place behind them is handed back.
+fn put(buffer: &mut [u8], at: usize, src: &[u8]) -> usize
+    requires { ⌜ at + length (now src) ≤ length (now buffer) ⌝ }
+    ensures { λ r. ⌜ Put (now (buffer .entry)) at (now (src .entry)) (now (buffer .exit)) r ⌝ }
 {
+    let n = src.len();
     let mut i = 0;
     while i < n {
         buffer[at + i] = src[i];
@@ -33,70 +34,39 @@ fn put(buffer: &mut [u8], at: usize, src: &[u8], n: usize) -> usize
     at + n
 }
 
-fn sized(n: usize) -> usize
-    requires { ⌜ n < 256 ⌝ }
-    ensures { λ r. ⌜ r ≡ sizedOf n ⌝ }
-    ensures { λ r. ⌜ r < 258 ⌝ }
+// An element behind its lead, or nothing where it has no contents.
+fn item(buffer: &mut [u8], at: usize, lead: &[u8], src: &[u8]) -> usize
+    requires { ⌜ at + length (withLead (now lead) (now src)) ≤ length (now buffer) ⌝ }
+    ensures { λ r. ⌜ Put (now (buffer .entry)) at (withLead (now (lead .entry)) (now (src .entry))) (now (buffer .exit)) r ⌝ }
 {
-    if n == 0 { 0 } else { n + 2 }
-}
-
-// An element with a one-octet length, or nothing where it has no contents.
-fn element(buffer: &mut [u8], at: usize, id: u8, src: &[u8], n: usize) -> usize
-    requires { ⌜ (at + sizedOf n ≤ length (now buffer)) × ((n ≤ length (now src)) × (n < 256)) ⌝ }
-    ensures { λ r. ⌜ r ≡ at + sizedOf n ⌝ }
-    ensures { λ r. ⌜ now (buffer .exit) ≡ spliced (now (buffer .entry)) at (lengthed id (take n (now (src .entry)))) ⌝ }
-{
-    if n == 0 {
+    if src.len() == 0 {
         return at;
     }
-    let lead = [id, n as u8];
-    let from = put(buffer, at, &lead, 2);
-    put(buffer, from, src, n)
+    let from = put(buffer, at, lead);
+    put(buffer, from, src)
 }
 
-// The elements behind the identity: 10, 2E and 52.
-fn elements(
-    buffer: &mut [u8],
-    at: usize,
-    capability: &[u8],
-    c: usize,
-    security: &[u8],
-    s: usize,
-    area: &[u8],
-    l: usize,
-) -> usize
-    requires { ⌜ (at + (sizedOf c + (sizedOf s + l)) ≤ length (now buffer)) × ((c ≤ length (now capability)) × ((s ≤ length (now security)) × ((l ≤ length (now area)) × ((c < 256) × (s < 256))))) ⌝ }
-    ensures { λ r. ⌜ now (buffer .exit) ≡ spliced (now (buffer .entry)) at (lengthed 0x10 (take c (now (capability .entry))) ++ (lengthed 0x2E (take s (now (security .entry))) ++ take l (now (area .entry)))) ⌝ }
+// With a one-octet length.
+fn short(buffer: &mut [u8], at: usize, id: u8, src: &[u8]) -> usize
+    requires { ⌜ (length (now src) < 256) × (at + length (itemOctets shortForm id (now src)) ≤ length (now buffer)) ⌝ }
+    ensures { λ r. ⌜ Put (now (buffer .entry)) at (itemOctets shortForm id (now (src .entry))) (now (buffer .exit)) r ⌝ }
 {
-    let b = element(buffer, at, 0x10, capability, c);
-    let d = element(buffer, b, 0x2E, security, s);
-    put(buffer, d, area, l)
+    let lead = [id, src.len() as u8];
+    item(buffer, at, &lead, src)
 }
 
-// All pieces, from the buffer's first octet on.
-fn fill(
-    buffer: &mut [u8],
-    head: &[u8],
-    part: &[u8],
-    capability: &[u8],
-    c: usize,
-    security: &[u8],
-    s: usize,
-    area: &[u8],
-    l: usize,
-) -> usize
-    requires { ⌜ (length (now head) ≡ 6) × ((6 + (length (now part) + (sizedOf c + (sizedOf s + l))) ≤ length (now buffer)) × ((c ≤ length (now capability)) × ((s ≤ length (now security)) × ((l ≤ length (now area)) × ((c < 256) × (s < 256)))))) ⌝ }
-    ensures { λ r. ⌜ now (buffer .exit) ≡ over (pieces (now (head .entry)) (now (part .entry)) (take c (now (capability .entry))) (take s (now (security .entry))) (take l (now (area .entry)))) (now (buffer .entry)) ⌝ }
+// Without a length.
+fn plain(buffer: &mut [u8], at: usize, id: u8, src: &[u8]) -> usize
+    requires { ⌜ at + length (itemOctets plainForm id (now src)) ≤ length (now buffer) ⌝ }
+    ensures { λ r. ⌜ Put (now (buffer .entry)) at (itemOctets plainForm id (now (src .entry))) (now (buffer .exit)) r ⌝ }
 {
-    let a = put(buffer, 0, head, 6);
-    let b = put(buffer, a, part, part.len());
-    elements(buffer, b, capability, c, security, s, area, l)
+    let lead = [id];
+    item(buffer, at, &lead, src)
 }
 
 fn head(ksi: u8, n: usize) -> [u8; 6]
     requires { ⌜ (ksi ≤ 7) × (n ≤ 64) ⌝ }
-    ensures { λ r. ⌜ r ≡ headOf 1 ksi n ⌝ }
+    ensures { λ r. ⌜ r ≡ openingHead 1 ksi n ⌝ }
 {
     [
         0x7E,
@@ -108,49 +78,93 @@ fn head(ksi: u8, n: usize) -> [u8; 6]
     ]
 }
 
-fn low(n: u32) -> u8
-    ensures { λ r. ⌜ r ≡ n % 256 ⌝ }
+// The head, then the identity.
+fn begin(buffer: &mut [u8], at: usize, ksi: u8, part: &[u8]) -> usize
+    requires { ⌜ (ksi ≤ 7) × ((length (now part) ≤ 64) × (at + (6 + length (now part)) ≤ length (now buffer))) ⌝ }
+    ensures { λ r. ⌜ Put (now (buffer .entry)) at (openingHead 1 ksi (length (now (part .entry))) ++ now (part .entry)) (now (buffer .exit)) r ⌝ }
 {
-    (n % 256) as u8
+    let head = head(ksi, part.len());
+    let from = put(buffer, at, &head);
+    put(buffer, from, part)
 }
 
-fn area(net: u32, code: u32) -> [u8; 7]
-    ensures { λ r. ⌜ r ≡ areaOf net code ⌝ }
+// A request at a place of the buffer: its opening, then a line for each element.
+fn fill(
+    buffer: &mut [u8],
+    at: usize,
+    ksi: u8,
+    part: &[u8],
+    capability: &[u8],
+    security: &[u8],
+    last: &[u8],
+) -> usize
+    requires { ⌜ (ksi ≤ 7) × ((length (now part) ≤ 64) × ((length (now capability) < 256) × ((length (now security) < 256) × (at + length (octetsOf (sayingOf ksi (now part) (now capability) (now security) (now last))) ≤ length (now buffer))))) ⌝ }
+    ensures { λ r. ⌜ Put (now (buffer .entry)) at (octetsOf (sayingOf ksi (now (part .entry)) (now (capability .entry)) (now (security .entry)) (now (last .entry)))) (now (buffer .exit)) r ⌝ }
 {
-    [
-        0x52,
-        low(net / 65536),
-        low(net / 256),
-        low(net),
-        low(code / 65536),
-        low(code / 256),
-        low(code),
-    ]
+    let a = begin(buffer, at, ksi, part);
+    let b = short(buffer, a, 0x10, capability);
+    let c = short(buffer, b, 0x2E, security);
+    plain(buffer, c, 0x52, last)
 }
 
-fn shown(ksi: u8, n: u8) -> usize
-    ensures { λ r. ⌜ (r ≡ shownCount ksi n) × (r ≤ n) ⌝ }
+// A number, or 0 where there is nothing.
+fn unless(none: bool, n: usize) -> usize
+    ensures { λ r. ⌜ (r ≡ cond none 0 n) × (r ≤ n) ⌝ }
 {
-    if ksi == 7 { 0 } else { wide(n) }
-}
-
-fn room(ksi: u8, visited: u8) -> usize
-    ensures { λ r. ⌜ (r ≡ areaCount ksi visited) × (r ≤ 7) ⌝ }
-{
-    if ksi == 7 {
-        return 0;
-    }
-    if visited == 0 { 0 } else { 7 }
+    if none { 0 } else { n }
 }
 
 fn size(n: usize, c: usize, s: usize, l: usize) -> usize
-    requires { ⌜ (n ≤ 64) × ((c < 256) × ((s < 256) × (l ≤ 7))) ⌝ }
-    ensures { λ r. ⌜ r ≡ 6 + (n + (sizedOf c + (sizedOf s + l))) ⌝ }
+    requires { ⌜ (n ≤ 64) × ((c < 256) × ((s < 256) × (l < 256))) ⌝ }
+    ensures { λ r. ⌜ r ≡ 6 + (n + (sizedOf 2 c + (sizedOf 2 s + sizedOf 1 l))) ⌝ }
 {
-    6 + (n + (sized(c) + (sized(s) + l)))
+    let capability = unless(c == 0, 2 + c);
+    let security = unless(s == 0, 2 + s);
+    let last = unless(l == 0, 1 + l);
+    6 + (n + (capability + (security + last)))
 }
 
-// The request of an access with this identity, if the buffer has room for it.
+// The request with these pieces, if the buffer has room for it.
+fn lay(
+    buffer: &mut [u8],
+    ksi: u8,
+    part: &[u8],
+    capability: &[u8],
+    security: &[u8],
+    last: &[u8],
+) -> Written
+    requires { ⌜ (ksi ≤ 7) × ((length (now part) ≤ 64) × ((length (now capability) < 256) × ((length (now security) < 256) × (length (now last) < 256)))) ⌝ }
+    ensures { λ r. ⌜ r ≡ sentOf (octetsOf (sayingOf ksi (now (part .entry)) (now (capability .entry)) (now (security .entry)) (now (last .entry)))) (length (now (buffer .entry))) ⌝ }
+    ensures { λ r. ⌜ now (buffer .exit) ≡ sentOver (octetsOf (sayingOf ksi (now (part .entry)) (now (capability .entry)) (now (security .entry)) (now (last .entry)))) (now (buffer .entry)) ⌝ }
+{
+    let len = size(part.len(), capability.len(), security.len(), last.len());
+    if buffer.len() < len {
+        return Written {
+            answer: Answer::Short,
+            len: 0,
+        };
+    }
+    fill(buffer, 0, ksi, part, capability, security, last);
+    Written {
+        answer: Answer::Taken,
+        len,
+    }
+}
+
+fn area(net: u32, code: u32) -> [u8; 6]
+    ensures { λ r. ⌜ r ≡ octets3 net ++ octets3 code ⌝ }
+{
+    [
+        (net / 65536 % 256) as u8,
+        (net / 256 % 256) as u8,
+        (net % 256) as u8,
+        (code / 65536 % 256) as u8,
+        (code / 256 % 256) as u8,
+        (code % 256) as u8,
+    ]
+}
+
+// The request of an access with this identity: what is shown of its capability and its last area.
 fn send(
     buffer: &mut [u8],
     own: Access,
@@ -160,36 +174,32 @@ fn send(
     security: &[u8],
 ) -> Written
     requires { ⌜ (length (now part) ≤ 64) × ((length (now capability) ≡ 13) × ((length (now security) ≡ 8) × ((dev .capability ≤ 13) × ((dev .security ≤ 8) × (own .ksi ≤ 7))))) ⌝ }
-    ensures { λ r. ⌜ r ≡ sentOf (layout (sayingOf own (now (part .entry)) (take (dev .capability) (now (capability .entry))) (take (dev .security) (now (security .entry))))) (length (now (buffer .entry))) ⌝ }
-    ensures { λ r. ⌜ now (buffer .exit) ≡ sentOver (layout (sayingOf own (now (part .entry)) (take (dev .capability) (now (capability .entry))) (take (dev .security) (now (security .entry))))) (now (buffer .entry)) ⌝ }
+    ensures { λ r. ⌜ r ≡ sentOf (layout (sayingOf (own .ksi) (now (part .entry)) (take (dev .capability) (now (capability .entry))) (take (dev .security) (now (security .entry))) (lastOf own))) (length (now (buffer .entry))) ⌝ }
+    ensures { λ r. ⌜ now (buffer .exit) ≡ sentOver (layout (sayingOf (own .ksi) (now (part .entry)) (take (dev .capability) (now (capability .entry))) (take (dev .security) (now (security .entry))) (lastOf own))) (now (buffer .entry)) ⌝ }
 {
-    let n = part.len();
-    let c = shown(own.ksi, dev.capability);
+    let none = own.ksi == 7;
+    let c = unless(none, wide(dev.capability));
     let s = wide(dev.security);
-    let l = room(own.ksi, own.visited);
-    let len = size(n, c, s, l);
-    if buffer.len() < len {
-        return Written {
-            answer: Answer::Short,
-            len: 0,
-        };
-    }
-    let head = head(own.ksi, n);
+    let l = unless(none, unless(own.visited == 0, 6));
     let area = area(own.lastnet, own.lastcode);
-    fill(buffer, &head, part, capability, c, security, s, &area, l);
-    Written {
-        answer: Answer::Taken,
-        len,
-    }
+    lay(
+        buffer,
+        own.ksi,
+        part,
+        &capability[..c],
+        &security[..s],
+        &area[..l],
+    )
 }
 
 // F2 and ten octets for each access, as they are sent.
 fn gutis(guti0: [u8; 10], guti1: [u8; 10]) -> [u8; 22]
     ensures { λ r. ⌜ r ≡ gutisOf guti0 guti1 ⌝ }
 {
-    let mut both = [0xF2u8; 22];
-    put(&mut both, 1, &guti0, 10);
-    put(&mut both, 12, &guti1, 10);
+    let mut both = [0u8; 22];
+    let lead = [0xF2u8];
+    let from = item(&mut both, 0, &lead, &guti0);
+    item(&mut both, from, &lead, &guti1);
     both
 }
 

@@ -1,18 +1,16 @@
 -- What an event comes to: its answer; if taken its effect, else nothing changed. Assumes nothing.
 use Prim.Native.Nat.{ℕ}
+use mathlib.Core.Path.{_≡_}
 use mathlib.Core.Bool.{Bool, true, false, cond}
 use mathlib.Core.List.{List}
 use lib.ListN.{length}
-use lib.Dec.{leb, eqb}
-use Rattle.octets.specs.declared.Fault.the-variants.{Cut}
-use Rattle.record.specs.Tests.{either}
+use lib.Dec.{eqb}
 use Rattle.record.specs.Answers.{isTaken}
 use Rattle.record.specs.declared.Hot.{Hot}
 use Rattle.record.specs.declared.Answer.{Answer}
 use Rattle.record.specs.declared.Answer.the-variants as answer
 use Rattle.entries.specs.declared.Seen.{Seen}
 use Rattle.entries.specs.declared.Deed.{Deed}
-use Rattle.messages.specs.declared.Accept.{Accept}
 use Rattle.messages.specs.declared.Reading.{Reading}
 use Rattle.messages.specs.declared.Reading.the-variants as reading
 use Rattle.messages.specs.Message.{readingOf}
@@ -26,60 +24,82 @@ use Rattle.rules.specs.declared.Asked.{Asked}
 use Rattle.rules.specs.declared.Asked.the-variants.{No, On}
 use Rattle.rules.specs.declared.Reply.{Reply}
 use Rattle.rules.specs.declared.Ask.{Ask}
+use Rattle.rules.specs.declared.Ask.the-variants as ask
+use Rattle.rules.specs.declared.Site.{Site}
+use Rattle.rules.specs.declared.Site.the-variants as site
 use Rattle.rules.specs.declared.Plan.{Plan}
 use Rattle.record.specs.Sides.{accessOf, hotOf}
 use Rattle.checks.specs.Answers.{startAnswer, messageAnswer, timerAnswer, keyAnswer, cardAnswer, rowNow}
-use Rattle.effects.specs.Kinds.{sweepDeed}
 use Rattle.effects.specs.Effects.{Effect, ticked, idle, plain, cardEffect, startEffect, keyEffect, acceptEffect, timerEffect, powerEffect, rejectEffect}
 
--- the octets beside a message event, read; those of another event are none
-unfoldable pub heardOf : Event → List ℕ → Reading
-heardOf (Card home) s = reading.Bad Cut 0
-heardOf (Start w manual net code) s = reading.Bad Cut 0
-heardOf (Message w sure draw) s = readingOf s
-heardOf (Timer number w) s = reading.Bad Cut 0
-heardOf Power s = reading.Bad Cut 0
-heardOf (Key w set) s = reading.Bad Cut 0
-heardOf Unknown s = reading.Bad Cut 0
+-- a message is read once, for its answer and its effect: m is what was read of its octets; of another event nothing is read
+abbrev pub Read : Event → List ℕ → Reading → Type 0
+Read (Card home) octets m = Unit {0}
+Read (Start w manual net code) octets m = Unit {0}
+Read (Message w protected draw) octets m = m ≡ readingOf octets
+Read (Timer number w) octets m = Unit {0}
+Read Power octets m = Unit {0}
+Read (Key w set) octets m = Unit {0}
+Read Unknown octets m = Unit {0}
 
-abbrev pub askAt : ℕ → ℕ → ℕ → Bool → ℕ → Ask
-askAt w net code area sure = record { access = w; net = net; code = code; area = area; sure = sure }
-
--- a start asks about its network and area, a message about the pending ones
+-- the network that is looked up before an event is decided: a start's, or the pending one of a message's access
 unfoldable pub askOf : Hot → Event → Ask
-askOf h (Card home) = askAt 0 0 0 false 0
-askOf h (Start w manual net code) = askAt w net code (eqb w 0) 0
-askOf h (Message w sure draw) = askAt w (accessOf h w .net) (accessOf h w .code) false sure
-askOf h (Timer number w) = askAt w 0 0 false 0
-askOf h Power = askAt 0 0 0 false 0
-askOf h (Key w set) = askAt w 0 0 false 0
-askOf h Unknown = askAt 0 0 0 false 0
+askOf h (Card home) = ask.Nothing
+askOf h (Start w manual net code) = ask.Network w net
+askOf h (Message w protected draw) = ask.Network w (accessOf h w .net)
+askOf h (Timer number w) = ask.Nothing
+askOf h Power = ask.Nothing
+askOf h (Key w set) = ask.Nothing
+askOf h Unknown = ask.Nothing
+
+-- "area listed (access 0)": the area that is looked up, that of a start over access 0
+unfoldable pub siteAt : ℕ → ℕ → ℕ → Site
+siteAt w net code = cond (eqb w 0) (site.Area net code) site.Nothing
+
+unfoldable pub siteOf : Event → Site
+siteOf (Card home) = site.Nothing
+siteOf (Start w manual net code) = siteAt w net code
+siteOf (Message w protected draw) = site.Nothing
+siteOf (Timer number w) = site.Nothing
+siteOf Power = site.Nothing
+siteOf (Key w set) = site.Nothing
+siteOf Unknown = site.Nothing
+
+-- the event's own access; an event of both does the same on each, and goes as access 0's
+unfoldable pub accessIn : Event → ℕ
+accessIn (Card home) = 0
+accessIn (Start w manual net code) = w
+accessIn (Message w protected draw) = w
+accessIn (Timer number w) = w
+accessIn Power = 0
+accessIn (Key w set) = w
+accessIn Unknown = 0
 
 -- the answer; an event that is none of these answers 1
-unfoldable pub answerOf : Hot → Event → Seen → Bool → Reading → List ℕ → Answer
-answerOf h (Card home) s listed m octets = cardAnswer home octets
-answerOf h (Start w manual net code) s listed m octets = startAnswer h w manual net code s listed
-answerOf h (Message w sure draw) s listed m octets = messageAnswer h w sure draw m s
-answerOf h (Timer number w) s listed m octets = timerAnswer h number w
-answerOf h Power s listed m octets = answer.Taken
-answerOf h (Key w set) s listed m octets = keyAnswer h w set
-answerOf h Unknown s listed m octets = answer.Range
+unfoldable pub answerOf : Hot → Event → Seen → Bool → List ℕ → Answer
+answerOf h (Card home) s listed octets = cardAnswer home octets
+answerOf h (Start w manual net code) s listed octets = startAnswer h w manual net code s listed
+answerOf h (Message w protected draw) s listed octets = messageAnswer h w protected draw (readingOf octets) s
+answerOf h (Timer number w) s listed octets = timerAnswer h number w
+answerOf h Power s listed octets = answer.Taken
+answerOf h (Key w set) s listed octets = keyAnswer h w set
+answerOf h Unknown s listed octets = answer.Range
 
 -- what a taken message does
 unfoldable pub messageEffect : Hot → ℕ → ℕ → ℕ → Reading → Seen → Effect
-messageEffect h w sure draw (reading.Accept g) s = acceptEffect h w g
-messageEffect h w sure draw (reading.Reject cause) s = rejectEffect h w sure draw (s .found) cause (rowNow h w sure cause)
-messageEffect h w sure draw (reading.Bad f at) s = plain h w (still (accessOf h w)) false
+messageEffect h w protected draw (reading.Accept g) s = acceptEffect h w g s
+messageEffect h w protected draw (reading.Reject cause) s = rejectEffect h w protected draw s cause (rowNow h w protected cause)
+messageEffect h w protected draw (reading.Bad f at) s = plain h w (still (accessOf h w)) false
 
 -- what a taken event does
-unfoldable pub effectOf : Hot → Event → Seen → Reading → List ℕ → Effect
-effectOf h (Card home) s m octets = cardEffect h home (length octets)
-effectOf h (Start w manual net code) s m octets = startEffect h w net code
-effectOf h (Message w sure draw) s m octets = messageEffect h w sure draw m s
-effectOf h (Timer number w) s m octets = timerEffect h number w
-effectOf h Power s m octets = powerEffect h
-effectOf h (Key w set) s m octets = keyEffect h w set
-effectOf h Unknown s m octets = plain h 0 (still (accessOf h 0)) false
+unfoldable pub effectOf : Hot → Event → Seen → List ℕ → Effect
+effectOf h (Card home) s octets = cardEffect h home (length octets)
+effectOf h (Start w manual net code) s octets = startEffect h w net code
+effectOf h (Message w protected draw) s octets = messageEffect h w protected draw (readingOf octets) s
+effectOf h (Timer number w) s octets = timerEffect h number w
+effectOf h Power s octets = powerEffect h
+effectOf h (Key w set) s octets = keyEffect h w set
+effectOf h Unknown s octets = plain h 0 (still (accessOf h 0)) false
 
 -- the numbers after it
 unfoldable pub hotAfter : Hot → ℕ → Effect → Hot
@@ -112,12 +132,12 @@ isIgnoring answer.Range = false
 isIgnoring answer.Ignored = true
 isIgnoring (answer.Malformed f at) = false
 isIgnoring answer.Full = false
-isIgnoring answer.NoCard = false
+isIgnoring answer.StateZero = false
 isIgnoring answer.State = false
 isIgnoring answer.Same = false
 isIgnoring answer.Listed = false
 isIgnoring answer.Area = false
-isIgnoring answer.Bare = false
+isIgnoring answer.Unprotected = false
 isIgnoring answer.Idle = false
 isIgnoring answer.Short = false
 
@@ -133,36 +153,22 @@ refusedReply n w = record {
   update = askedOn (isIgnoring n) (cond (eqb w 0) 1 0);
 }
 
-abbrev pub noGift : Accept
-noGift = record { result = 0; given = false; guti = 0; triplets = 0; count = 0; timed = false; wait = 0 }
-
-unfoldable pub giftOf : Reading → Accept
-giftOf (reading.Accept g) = g
-giftOf (reading.Reject cause) = noGift
-giftOf (reading.Bad f at) = noGift
-
-unfoldable pub takenPlan : Hot → Ask → Seen → Reading → Effect → Plan
-takenPlan h q s m e = record { reply = takenReply h (q .access) e; hot = hotAfter h (q .access) e; work = e .work; ask = q; seen = s; gift = giftOf m }
+unfoldable pub takenPlan : Hot → ℕ → Effect → Plan
+takenPlan h w e = record { reply = takenReply h w e; hot = hotAfter h w e; work = e .work; access = w }
 
 -- all but 0 change nothing
-unfoldable pub refusedPlan : Hot → Ask → Seen → Reading → Answer → Plan
-refusedPlan h q s m n = record { reply = refusedReply n (q .access); hot = h; work = idle; ask = q; seen = s; gift = giftOf m }
+unfoldable pub refusedPlan : Hot → ℕ → Answer → Plan
+refusedPlan h w n = record { reply = refusedReply n w; hot = h; work = idle; access = w }
 
-unfoldable pub decidedBy : Answer → Hot → Event → Ask → Seen → Reading → List ℕ → Plan
-decidedBy n h e q s m octets = cond (isTaken n) (takenPlan h q s m (effectOf h e s m octets)) (refusedPlan h q s m n)
+unfoldable pub decidedBy : Answer → Hot → ℕ → Effect → Plan
+decidedBy n h w e = cond (isTaken n) (takenPlan h w e) (refusedPlan h w n)
 
-unfoldable pub planOf : Hot → Event → Seen → Bool → Reading → List ℕ → Plan
-planOf h e s listed m octets = decidedBy (answerOf h e s listed m octets) h e (askOf h e) s m octets
+unfoldable pub planOf : Hot → Event → Seen → Bool → List ℕ → Plan
+planOf h e s listed octets = decidedBy (answerOf h e s listed octets) h (accessIn e) (effectOf h e s octets)
 
--- T3247 out, a power cycle and a card change go over both accesses' entries, all else over the event's own
-unfoldable pub mineOf : ℕ → ℕ → ℕ → ℕ
-mineOf deed w me = cond (either (leb sweepDeed deed) (eqb w me)) deed 0
+-- the deed on the entries of access me
+unfoldable pub deedOn : ℕ → Deed → Deed → ℕ → Deed
+deedOn w mine theirs me = cond (eqb w me) mine theirs
 
 unfoldable pub deedOf : Plan → ℕ → Deed
-deedOf p me = record {
-  kind = mineOf (p .work .deed) (p .ask .access) me;
-  at = p .seen .at;
-  found = p .seen .found;
-  net = p .ask .net;
-  sure = p .ask .sure;
-}
+deedOf p me = deedOn (p .access) (p .work .mine) (p .work .theirs) me

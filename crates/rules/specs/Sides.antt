@@ -2,16 +2,13 @@
 use Prim.Native.Nat.{ℕ}
 use Rattle.record.specs.declared.Hot.{Hot}
 use Rattle.record.specs.declared.Answer.the-variants as answer
-use Rattle.entries.specs.declared.Seen.{Seen}
-use Rattle.messages.specs.declared.Reading.{Reading}
 use Rattle.turns.specs.Timers.{flagAfter, toldOf, clocksOf, clocked}
 use Rattle.effects.specs.declared.Sides.{Sides}
 use Rattle.rules.specs.declared.Asked.the-variants.{No}
 use Rattle.rules.specs.declared.Reply.{Reply}
-use Rattle.rules.specs.declared.Ask.{Ask}
 use Rattle.rules.specs.declared.Plan.{Plan}
 use Rattle.effects.specs.Effects.{ticked}
-use Rattle.rules.specs.Plan.{askedOn, giftOf}
+use Rattle.rules.specs.Plan.{askedOn}
 
 -- the numbers after it
 unfoldable pub hotBy : Hot → Sides → Hot
@@ -33,5 +30,5 @@ replyBy h w x = record {
   update = No;
 }
 
-unfoldable pub planBy : Hot → Ask → Seen → Reading → Sides → Plan
-planBy h q s m x = record { reply = replyBy h (q .access) x; hot = hotBy h x; work = x .work; ask = q; seen = s; gift = giftOf m }
+unfoldable pub planBy : Hot → ℕ → Sides → Plan
+planBy h w x = record { reply = replyBy h w x; hot = hotBy h x; work = x .work; access = w }

@@ -2,6 +2,7 @@
 use crate::Ask;
 use crate::Event;
 use crate::Plan;
+use crate::Site;
 use crate::replies::refused_reply;
 use crate::replies::taken_reply;
 use checks::card_answer;
@@ -22,9 +23,7 @@ use effects::start_effect;
 use effects::ticked;
 use effects::timer_effect;
 use entries::Seen;
-use messages::Accept;
 use messages::Reading;
-use octets::Fault;
 use record::Access;
 use record::Answer;
 use record::Hot;
@@ -46,41 +45,30 @@ ghost use Rattle.rules.specs.Plan as rules;
 ghost use Rattle.effects.specs.Effects.{sidesOf};
 ghost use Rattle.rules.specs.Sides.{hotBy, planBy};
 
-pub fn heard(e: Event, octets: &[u8]) -> Reading
-    ensures { λ r. ⌜ r ≡ rules.heardOf e (now (octets .entry)) ⌝ }
+// A message is read once, for its answer and its effect; nothing looks at what stands here for another event.
+fn heard(e: Event, octets: &[u8]) -> Reading
+    ensures { λ r. ⌜ rules.Read e (now (octets .entry)) r ⌝ }
 {
     match e {
-        Event::Card(_) => Reading::Bad(Fault::Cut, 0),
+        Event::Card(_) => Reading::Reject(0),
         Event::Start {
             access: _,
             manual: _,
             net: _,
             code: _,
-        } => Reading::Bad(Fault::Cut, 0),
+        } => Reading::Reject(0),
         Event::Message {
             access: _,
-            sure: _,
+            protected: _,
             draw: _,
         } => messages::read(octets),
         Event::Timer {
             number: _,
             access: _,
-        } => Reading::Bad(Fault::Cut, 0),
-        Event::Power => Reading::Bad(Fault::Cut, 0),
-        Event::Key { access: _, set: _ } => Reading::Bad(Fault::Cut, 0),
-        Event::Unknown => Reading::Bad(Fault::Cut, 0),
-    }
-}
-
-fn ask_at(access: u8, net: u32, code: u32, area: bool, sure: u8) -> Ask
-    ensures { λ r. ⌜ r ≡ rules.askAt access net code area sure ⌝ }
-{
-    Ask {
-        access,
-        net,
-        code,
-        area,
-        sure,
+        } => Reading::Reject(0),
+        Event::Power => Reading::Reject(0),
+        Event::Key { access: _, set: _ } => Reading::Reject(0),
+        Event::Unknown => Reading::Reject(0),
     }
 }
 
@@ -88,30 +76,92 @@ pub fn ask_of(h: Hot, e: Event) -> Ask
     ensures { λ r. ⌜ r ≡ rules.askOf h e ⌝ }
 {
     match e {
-        Event::Card(_) => ask_at(0, 0, 0, false, 0),
+        Event::Card(_) => Ask::Nothing,
+        Event::Start {
+            access,
+            manual: _,
+            net,
+            code: _,
+        } => Ask::Network { access, net },
+        Event::Message {
+            access,
+            protected: _,
+            draw: _,
+        } => {
+            let a = access_of(h, access);
+            Ask::Network { access, net: a.net }
+        }
+        Event::Timer {
+            number: _,
+            access: _,
+        } => Ask::Nothing,
+        Event::Power => Ask::Nothing,
+        Event::Key { access: _, set: _ } => Ask::Nothing,
+        Event::Unknown => Ask::Nothing,
+    }
+}
+
+fn site_at(access: u8, net: u32, code: u32) -> Site
+    ensures { λ r. ⌜ r ≡ rules.siteAt access net code ⌝ }
+{
+    if access == 0 {
+        return Site::Area { net, code };
+    }
+    Site::Nothing
+}
+
+pub fn site_of(e: Event) -> Site
+    ensures { λ r. ⌜ r ≡ rules.siteOf e ⌝ }
+{
+    match e {
+        Event::Card(_) => Site::Nothing,
         Event::Start {
             access,
             manual: _,
             net,
             code,
-        } => ask_at(access, net, code, access == 0, 0),
+        } => site_at(access, net, code),
+        Event::Message {
+            access: _,
+            protected: _,
+            draw: _,
+        } => Site::Nothing,
+        Event::Timer {
+            number: _,
+            access: _,
+        } => Site::Nothing,
+        Event::Power => Site::Nothing,
+        Event::Key { access: _, set: _ } => Site::Nothing,
+        Event::Unknown => Site::Nothing,
+    }
+}
+
+fn access_in(e: Event) -> u8
+    ensures { λ r. ⌜ r ≡ rules.accessIn e ⌝ }
+{
+    match e {
+        Event::Card(_) => 0,
+        Event::Start {
+            access,
+            manual: _,
+            net: _,
+            code: _,
+        } => access,
         Event::Message {
             access,
-            sure,
+            protected: _,
             draw: _,
-        } => {
-            let a = access_of(h, access);
-            ask_at(access, a.net, a.code, false, sure)
-        }
-        Event::Timer { number: _, access } => ask_at(access, 0, 0, false, 0),
-        Event::Power => ask_at(0, 0, 0, false, 0),
-        Event::Key { access, set: _ } => ask_at(access, 0, 0, false, 0),
-        Event::Unknown => ask_at(0, 0, 0, false, 0),
+        } => access,
+        Event::Timer { number: _, access } => access,
+        Event::Power => 0,
+        Event::Key { access, set: _ } => access,
+        Event::Unknown => 0,
     }
 }
 
 fn answer_of(h: Hot, e: Event, s: Seen, listed: bool, m: Reading, octets: &[u8]) -> Answer
-    ensures { λ r. ⌜ r ≡ rules.answerOf h e s listed m (now (octets .entry)) ⌝ }
+    requires { ⌜ rules.Read e (now octets) m ⌝ }
+    ensures { λ r. ⌜ r ≡ rules.answerOf h e s listed (now (octets .entry)) ⌝ }
 {
     match e {
         Event::Card(home) => card_answer(home, octets),
@@ -121,7 +171,11 @@ fn answer_of(h: Hot, e: Event, s: Seen, listed: bool, m: Reading, octets: &[u8])
             net,
             code,
         } => start_answer(h, access, manual, net, code, s, listed),
-        Event::Message { access, sure, draw } => message_answer(h, access, sure, draw, m, s),
+        Event::Message {
+            access,
+            protected,
+            draw,
+        } => message_answer(h, access, protected, draw, m, s),
         Event::Timer { number, access } => timer_answer(h, number, access),
         Event::Power => Answer::Taken,
         Event::Key { access, set } => key_answer(h, access, set),
@@ -136,14 +190,14 @@ fn none(h: Hot, w: u8) -> Sides
     plain(h, w, still(access_of(h, w)), false)
 }
 
-fn message_effect(h: Hot, w: u8, sure: u8, draw: u16, m: Reading, s: Seen) -> Sides
-    ensures { λ r. ⌜ r ≡ sidesOf w (rules.messageEffect h w sure draw m s) ⌝ }
+fn message_effect(h: Hot, w: u8, protected: u8, draw: u16, m: Reading, s: Seen) -> Sides
+    ensures { λ r. ⌜ r ≡ sidesOf w (rules.messageEffect h w protected draw m s) ⌝ }
 {
     match m {
-        Reading::Accept(g) => accept_effect(h, w, g),
+        Reading::Accept(g) => accept_effect(h, w, g, s),
         Reading::Reject(cause) => {
-            let row = row_now(h, w, sure, cause);
-            reject_effect(h, w, sure, draw, s.found, cause, row)
+            let row = row_now(h, w, protected, cause);
+            reject_effect(h, w, protected, draw, s, cause, row)
         }
         Reading::Bad(_, _) => none(h, w),
     }
@@ -152,7 +206,8 @@ fn message_effect(h: Hot, w: u8, sure: u8, draw: u16, m: Reading, s: Seen) -> Si
 // A card that was taken has a SUCI of at most 64 octets.
 fn effect_of(h: Hot, e: Event, s: Seen, m: Reading, octets: &[u8]) -> Sides
     requires { ⌜ ((home : ℕ) → e ≡ Event.Card home → length (now octets) < 256) ⌝ }
-    ensures { λ r. ⌜ r ≡ sidesOf (rules.askOf h e .access) (rules.effectOf h e s m (now (octets .entry))) ⌝ }
+    requires { ⌜ rules.Read e (now octets) m ⌝ }
+    ensures { λ r. ⌜ r ≡ sidesOf (rules.accessIn e) (rules.effectOf h e s (now (octets .entry))) ⌝ }
 {
     match e {
         Event::Card(home) => card_effect(h, home, octets.len() as u8),
@@ -162,7 +217,11 @@ fn effect_of(h: Hot, e: Event, s: Seen, m: Reading, octets: &[u8]) -> Sides
             net,
             code,
         } => start_effect(h, access, net, code),
-        Event::Message { access, sure, draw } => message_effect(h, access, sure, draw, m, s),
+        Event::Message {
+            access,
+            protected,
+            draw,
+        } => message_effect(h, access, protected, draw, m, s),
         Event::Timer { number, access } => timer_effect(h, number, access),
         Event::Power => power_effect(h),
         Event::Key { access, set } => key_effect(h, access, set),
@@ -189,81 +248,51 @@ fn hot_after(h: Hot, e: Sides) -> Hot
     }
 }
 
-fn no_gift() -> Accept
-    ensures { λ r. ⌜ r ≡ rules.noGift ⌝ }
+fn taken_plan(h: Hot, w: u8, e: Sides) -> Plan
+    ensures { λ r. ⌜ r ≡ planBy h w e ⌝ }
 {
-    Accept {
-        result: 0,
-        given: false,
-        guti: 0,
-        triplets: 0,
-        count: 0,
-        timed: false,
-        wait: 0,
-    }
-}
-
-fn gift_of(m: Reading) -> Accept
-    ensures { λ r. ⌜ r ≡ rules.giftOf m ⌝ }
-{
-    match m {
-        Reading::Accept(g) => g,
-        Reading::Reject(_) => no_gift(),
-        Reading::Bad(_, _) => no_gift(),
-    }
-}
-
-fn taken_plan(h: Hot, q: Ask, s: Seen, m: Reading, e: Sides) -> Plan
-    ensures { λ r. ⌜ r ≡ planBy h q s m e ⌝ }
-{
-    let reply = taken_reply(h, q.access, e);
+    let reply = taken_reply(h, w, e);
     let hot = hot_after(h, e);
     let work = e.work;
-    let gift = gift_of(m);
     Plan {
         reply,
         hot,
         work,
-        ask: q,
-        seen: s,
-        gift,
+        access: w,
     }
 }
 
 // All but 0 change nothing.
-fn refused_plan(h: Hot, q: Ask, s: Seen, m: Reading, n: Answer) -> Plan
-    ensures { λ r. ⌜ r ≡ rules.refusedPlan h q s m n ⌝ }
+fn refused_plan(h: Hot, w: u8, n: Answer) -> Plan
+    ensures { λ r. ⌜ r ≡ rules.refusedPlan h w n ⌝ }
 {
-    let reply = refused_reply(n, q.access);
+    let reply = refused_reply(n, w);
     let work = idle();
-    let gift = gift_of(m);
     Plan {
         reply,
         hot: h,
         work,
-        ask: q,
-        seen: s,
-        gift,
+        access: w,
     }
 }
 
-fn decided_by(n: Answer, h: Hot, e: Event, q: Ask, s: Seen, m: Reading, octets: &[u8]) -> Plan
-    requires { ⌜ q ≡ rules.askOf h e ⌝ }
+fn decided_by(n: Answer, h: Hot, e: Event, s: Seen, m: Reading, octets: &[u8]) -> Plan
     requires { ⌜ (isTaken n ≡ true → (home : ℕ) → e ≡ Event.Card home → length (now octets) < 256) ⌝ }
-    ensures { λ r. ⌜ r ≡ rules.decidedBy n h e q s m (now (octets .entry)) ⌝ }
+    requires { ⌜ rules.Read e (now octets) m ⌝ }
+    ensures { λ r. ⌜ r ≡ rules.decidedBy n h (rules.accessIn e) (rules.effectOf h e s (now (octets .entry))) ⌝ }
 {
+    let w = access_in(e);
     if taken(n) {
         let x = effect_of(h, e, s, m, octets);
-        return taken_plan(h, q, s, m, x);
+        return taken_plan(h, w, x);
     }
-    refused_plan(h, q, s, m, n)
+    refused_plan(h, w, n)
 }
 
-// Asked anew, though the core has asked: a question handed on would be copied once more, and that takes longer.
-pub fn plan_of(h: Hot, e: Event, s: Seen, listed: bool, m: Reading, octets: &[u8]) -> Plan
-    ensures { λ r. ⌜ r ≡ rules.planOf h e s listed m (now (octets .entry)) ⌝ }
+pub fn plan_of(h: Hot, e: Event, s: Seen, listed: bool, octets: &[u8]) -> Plan
+    ensures { λ r. ⌜ r ≡ rules.planOf h e s listed (now (octets .entry)) ⌝ }
 {
-    let q = ask_of(h, e);
+    let m = heard(e, octets);
     let n = answer_of(h, e, s, listed, m, octets);
-    decided_by(n, h, e, q, s, m, octets)
+    decided_by(n, h, e, s, m, octets)
 }

@@ -1,22 +1,11 @@
-// Whose entries a plan's deed is for.
-use crate::Plan;
+// Whose entries an event's deeds are for.
 use entries::Deed;
-use record::or;
-use record::pick;
 ghost use mathlib.Core.Path.{_≡_};
-ghost use Rattle.rules.specs.Plan.{deedOf};
+ghost use Rattle.rules.specs.Plan.{deedOn};
 
-// The deed on an access's entries.
-pub fn deed(p: Plan, me: u8) -> Deed
-    ensures { λ r. ⌜ r ≡ deedOf p me ⌝ }
+// The deed on the entries of access me. A few numbers are handed over: a whole plan would be built in memory.
+pub fn deed_on(access: u8, mine: Deed, theirs: Deed, me: u8) -> Deed
+    ensures { λ r. ⌜ r ≡ deedOn access mine theirs me ⌝ }
 {
-    let both = or(entries::SWEEP <= p.work.deed, p.ask.access == me);
-    let kind = pick(both, p.work.deed, 0);
-    Deed {
-        kind: kind,
-        at: p.seen.at,
-        found: p.seen.found,
-        net: p.ask.net,
-        sure: p.ask.sure,
-    }
+    if access == me { mine } else { theirs }
 }

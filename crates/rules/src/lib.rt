@@ -1,7 +1,5 @@
 // What an event is answered and what it plans: decided on the record's numbers, what stands about a network, and the message's reading.
 use effects::Work;
-use entries::Seen;
-use messages::Accept;
 use record::Answer;
 use record::Hot;
 use turns::Clocks;
@@ -12,9 +10,9 @@ mod deeds;
 mod replies;
 
 pub use decision::ask_of;
-pub use decision::heard;
 pub use decision::plan_of;
-pub use deeds::deed;
+pub use decision::site_of;
+pub use deeds::deed_on;
 pub use replies::refused_reply;
 
 // A card's SUCI and a message's octets come beside the event.
@@ -28,7 +26,7 @@ pub enum Event {
     },
     Message {
         access: u8,
-        sure: u8,
+        protected: u8,
         draw: u16,
     },
     Timer {
@@ -59,21 +57,22 @@ pub struct Reply {
     pub update: Asked,
 }
 
-// What an event asks about before it is decided: its access, the network and area at hand, whether the area lists are looked at, and a message's protection.
-pub struct Ask {
-    pub access: u8,
-    pub net: u32,
-    pub code: u32,
-    pub area: bool,
-    pub sure: u8,
+// The network whose entry is looked up before an event is decided.
+pub enum Ask {
+    Nothing,
+    Network { access: u8, net: u32 },
 }
 
-// What an event comes to: the reply, the numbers after it but for the area lists' counts, and the work on the arrays with what it needs.
+// The area that is looked up in the lists.
+pub enum Site {
+    Nothing,
+    Area { net: u32, code: u32 },
+}
+
+// What an event comes to: the reply, the numbers after it but for the area lists' counts, the work on the arrays, and the event's own access.
 pub struct Plan {
     pub reply: Reply,
     pub hot: Hot,
     pub work: Work,
-    pub ask: Ask,
-    pub seen: Seen,
-    pub gift: Accept,
+    pub access: u8,
 }

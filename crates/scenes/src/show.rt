@@ -172,7 +172,7 @@ fn mode(a: Access) {
     field(b" T3510 ", a.t3510 as u64);
     field(b" T3511 ", a.t3511 as u64);
     field(b" T3502 ", a.t3502 as u64);
-    field(b" length ", a.wait as u64);
+    field(b" length ", a.t3502length as u64);
     put(b" pending ");
     digits(a.net as u64, 6);
     digits(a.code as u64, 6);
@@ -250,7 +250,7 @@ fn access(a: Access, guti: [u8; 10], list: [u32; 15], e: Entries) {
     mode(a);
     identity(a, guti);
     equivalents(a.equivalents, list);
-    field(b" cards ", a.cards as u64);
+    field(b" cards ", a.cardcounter as u64);
     table(a.entries, e);
 }
 

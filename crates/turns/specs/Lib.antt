@@ -1,4 +1,5 @@
--- Timers, the rows of the table of rejects, and the other events on an access.
+-- Timers, document 01's rejects and the words they are told in, and what each event makes of an access.
 pub mod Timers
-pub mod Rows
+pub mod Words
+pub mod Rejects
 pub mod Turns

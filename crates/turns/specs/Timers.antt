@@ -1,6 +1,6 @@
 -- Timers: what an event orders, whether the timer then runs, and what the caller is told. Assumes nothing.
 use Prim.Native.Nat.{ℕ}
-use mathlib.Core.Bool.{cond}
+use mathlib.Core.Bool.{Bool, cond}
 use lib.Dec.{eqb}
 use Rattle.record.specs.declared.Access.{Access}
 use Rattle.turns.specs.declared.Order.{Order}
@@ -9,6 +9,14 @@ use Rattle.turns.specs.declared.Orders.{Orders}
 use Rattle.turns.specs.declared.Told.{Told}
 use Rattle.turns.specs.declared.Told.the-variants.{Left, Stopped, Started}
 use Rattle.turns.specs.declared.Clocks.{Clocks}
+
+-- "1 T3510, 2 T3511, 3 T3502, 4 T3247": T3247 is the device's, the others are an access's
+unfoldable pub isDeviceTimer : ℕ → Bool
+isDeviceTimer number = eqb number 4
+
+-- whether a timer of an access runs
+unfoldable pub runsOn : ℕ → Access → ℕ
+runsOn number a = cond (eqb number 1) (a .t3510) (cond (eqb number 2) (a .t3511) (a .t3502))
 
 unfoldable pub flagAfter : Order → ℕ → ℕ
 flagAfter Leave flag = flag
@@ -21,11 +29,11 @@ clocked o a = record {
   state = a .state;
   status = a .status;
   attempts = a .attempts;
-  cards = a .cards;
+  cardcounter = a .cardcounter;
   t3510 = flagAfter (o .t3510) (a .t3510);
   t3511 = flagAfter (o .t3511) (a .t3511);
   t3502 = flagAfter (o .t3502) (a .t3502);
-  wait = a .wait;
+  t3502length = a .t3502length;
   net = a .net;
   code = a .code;
   guti = a .guti;
@@ -43,12 +51,38 @@ toldOf Leave flag = Left
 toldOf Stop flag = cond (eqb flag 0) Left Stopped
 toldOf (Run s) flag = Started s
 
-abbrev pub ordersOf : Order → Order → Order → Orders
-ordersOf a b c = record { t3510 = a; t3511 = b; t3502 = c }
+-- The sets of orders that events give to an access's timers, by name.
 
 -- no timer is touched
 abbrev pub quiet : Orders
-quiet = ordersOf Leave Leave Leave
+quiet = record { t3510 = Leave; t3511 = Leave; t3502 = Leave }
+
+-- start: "T3510 (15 s) runs, T3511 and T3502 stop"
+abbrev pub starting : Orders
+starting = record { t3510 = Run 15; t3511 = Stop; t3502 = Stop }
+
+-- accept, reject: "T3510 stops"
+abbrev pub answered : Orders
+answered = record { t3510 = Stop; t3511 = Leave; t3502 = Leave }
+
+-- T3510 out below 5: "stops; .. T3511 (10 s) starts"
+abbrev pub retrying : Orders
+retrying = record { t3510 = Stop; t3511 = Run 10; t3502 = Leave }
+
+-- T3510 out at 5: "stops; .. T3502 starts", with its stored length
+abbrev pub resting : ℕ → Orders
+resting length = record { t3510 = Stop; t3511 = Leave; t3502 = Run length }
+
+-- T3511 out, T3502 out: "stops"
+abbrev pub t3511Stops : Orders
+t3511Stops = record { t3510 = Leave; t3511 = Stop; t3502 = Leave }
+
+abbrev pub t3502Stops : Orders
+t3502Stops = record { t3510 = Leave; t3511 = Leave; t3502 = Stop }
+
+-- power cycle: "timers stop"
+abbrev pub halted : Orders
+halted = record { t3510 = Stop; t3511 = Stop; t3502 = Stop }
 
 -- what is told of an access's three timers, by how they ran before
 unfoldable pub clocksOf : Orders → Access → Clocks

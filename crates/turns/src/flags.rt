@@ -4,10 +4,23 @@ use crate::Order;
 use crate::Orders;
 use crate::Told;
 use record::Access;
+use record::pick;
 ghost use mathlib.Core.Path.{_≡_};
 ghost use mathlib.Core.Bool.{cond};
-ghost use Rattle.turns.specs.Timers.{flagAfter, clocked, toldOf, clocksOf};
+ghost use Rattle.turns.specs.Timers.{isDeviceTimer, runsOn, flagAfter, clocked, toldOf, clocksOf};
 ghost use Rattle.turns.specs.declared.Told.the-variants.{Left, Stopped};
+
+pub fn is_device_timer(number: u8) -> bool
+    ensures { λ r. ⌜ r ≡ isDeviceTimer number ⌝ }
+{
+    number == 4
+}
+
+pub fn runs_on(number: u8, a: Access) -> u8
+    ensures { λ r. ⌜ r ≡ runsOn number a ⌝ }
+{
+    pick(number == 1, a.t3510, pick(number == 2, a.t3511, a.t3502))
+}
 
 pub fn flag_after(o: Order, flag: u8) -> u8
     ensures { λ r. ⌜ r ≡ flagAfter o flag ⌝ }
@@ -33,7 +46,7 @@ pub fn clocked(o: Orders, a: Access) -> Access
 }
 
 // Stopped only if running.
-fn halted(idle: bool) -> Told
+fn stopped(idle: bool) -> Told
     ensures { λ r. ⌜ r ≡ cond idle Left Stopped ⌝ }
 {
     if idle { Told::Left } else { Told::Stopped }
@@ -44,7 +57,7 @@ pub fn told_of(o: Order, flag: u8) -> Told
 {
     match o {
         Order::Leave => Told::Left,
-        Order::Stop => halted(flag == 0),
+        Order::Stop => stopped(flag == 0),
         Order::Run(s) => Told::Started(s),
     }
 }

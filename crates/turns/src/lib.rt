@@ -2,12 +2,15 @@
 use record::Access;
 
 mod flags;
+mod given;
 mod rows;
 mod turns;
 
 pub use flags::clocked;
 pub use flags::clocks_of;
 pub use flags::flag_after;
+pub use flags::is_device_timer;
+pub use flags::runs_on;
 pub use flags::told_of;
 pub use rows::is_card;
 pub use rows::needs_entry;

@@ -6,7 +6,7 @@ use record::or;
 ghost use mathlib.Core.Path.{_≡_};
 ghost use mathlib.Core.Bool.{cond, false};
 ghost use lib.Dec.{eqb};
-ghost use Rattle.turns.specs.Rows.{isCard, isNetworkNo, isAreaNo, isN1No, isProtocol, rowOf, startsT3247, needsEntry, toRoaming, toRegional};
+ghost use Rattle.turns.specs.Rejects.{isCard, isNetworkNo, isAreaNo, isN1No, isProtocol, rowOf, startsT3247, needsEntry, toRoaming, toRegional};
 ghost use Rattle.turns.specs.declared.Row.the-variants.{CardBelow, CardLimit, CardProtected, Away, Home, Area, N1, Protocol, Other};
 
 pub fn is_card(cause: u8) -> bool
@@ -40,10 +40,10 @@ fn is_protocol(cause: u8) -> bool
     or(cause == 95, or(cause == 96, last))
 }
 
-fn card_row(bare: bool, below: bool) -> Row
-    ensures { λ r. ⌜ r ≡ cond bare (cond below CardBelow CardLimit) CardProtected ⌝ }
+fn card_row(unprotected: bool, below: bool) -> Row
+    ensures { λ r. ⌜ r ≡ cond unprotected (cond below CardBelow CardLimit) CardProtected ⌝ }
 {
-    if bare {
+    if unprotected {
         if below {
             Row::CardBelow
         } else {
@@ -54,11 +54,11 @@ fn card_row(bare: bool, below: bool) -> Row
     }
 }
 
-fn network_row(home: bool, bare: bool) -> Row
-    ensures { λ r. ⌜ r ≡ cond home (cond bare Home Other) Away ⌝ }
+fn network_row(home: bool, unprotected: bool) -> Row
+    ensures { λ r. ⌜ r ≡ cond home (cond unprotected Home Other) Away ⌝ }
 {
     if home {
-        if bare { Row::Home } else { Row::Other }
+        if unprotected { Row::Home } else { Row::Other }
     } else {
         Row::Away
     }
@@ -93,11 +93,11 @@ fn further(w: u8, cause: u8) -> Row
     further_row(area, is_n1_no(w, cause), is_protocol(cause))
 }
 
-pub fn row_of(w: u8, bare: bool, home: bool, below: bool, cause: u8) -> Row
-    ensures { λ r. ⌜ r ≡ rowOf w bare home below cause ⌝ }
+pub fn row_of(w: u8, unprotected: bool, home: bool, below: bool, cause: u8) -> Row
+    ensures { λ r. ⌜ r ≡ rowOf w unprotected home below cause ⌝ }
 {
-    let card = card_row(bare, below);
-    let network = network_row(home, bare);
+    let card = card_row(unprotected, below);
+    let network = network_row(home, unprotected);
     let rest = further(w, cause);
     chosen(is_card(cause), card, is_network_no(cause), network, rest)
 }
@@ -141,8 +141,8 @@ pub fn to_roaming(w: u8, cause: u8, row: Row) -> bool
     }
 }
 
-pub fn to_regional(cause: u8, row: Row) -> bool
-    ensures { λ r. ⌜ r ≡ toRegional cause row ⌝ }
+pub fn to_regional(w: u8, cause: u8, row: Row) -> bool
+    ensures { λ r. ⌜ r ≡ toRegional w cause row ⌝ }
 {
     match row {
         Row::CardBelow => false,

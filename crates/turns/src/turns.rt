@@ -1,8 +1,15 @@
 // What a taken event makes of an access: numbers and timers, in document 01's words and order.
-use crate::Order;
 use crate::Orders;
 use crate::Row;
 use crate::Turn;
+use crate::given::answered;
+use crate::given::halted;
+use crate::given::quiet;
+use crate::given::resting;
+use crate::given::retrying;
+use crate::given::starting;
+use crate::given::t3502_stops;
+use crate::given::t3511_stops;
 use entries::one_more;
 use record::Access;
 use record::U1;
@@ -19,21 +26,16 @@ use record::pending;
 use record::pick;
 use record::taught;
 ghost use mathlib.Core.Path.{_≡_};
-ghost use Rattle.turns.specs.declared.Order.the-variants.{Leave, Stop, Run};
+ghost use mathlib.Core.Bool.{false};
+ghost use Rattle.turns.specs.declared.Row.the-variants.{CardBelow, CardLimit, CardProtected, Away, Home, Area, N1};
 ghost use Rattle.record.specs.New.{u2, u3};
 ghost use Rattle.record.specs.Setters as sets;
-ghost use Rattle.turns.specs.Timers.{ordersOf};
+ghost use Rattle.turns.specs.Timers as timers;
 ghost use Rattle.turns.specs.Turns as events;
 
-// An access and the orders to its timers, T3510 first.
-fn timed(a: Access, t3510: Order, t3511: Order, t3502: Order) -> Turn
-    ensures { λ r. ⌜ r ≡ events.turnOf a (ordersOf t3510 t3511 t3502) ⌝ }
+fn timed(a: Access, orders: Orders) -> Turn
+    ensures { λ r. ⌜ r ≡ events.turnOf a orders ⌝ }
 {
-    let orders = Orders {
-        t3510: t3510,
-        t3511: t3511,
-        t3502: t3502,
-    };
     Turn {
         access: a,
         orders: orders,
@@ -44,14 +46,16 @@ fn timed(a: Access, t3510: Order, t3511: Order, t3502: Order) -> Turn
 pub fn still(a: Access) -> Turn
     ensures { λ r. ⌜ r ≡ events.still a ⌝ }
 {
-    timed(a, Order::Leave, Order::Leave, Order::Leave)
+    timed(a, quiet())
 }
 
 pub fn started(net: u32, code: u32, a: Access) -> Turn
     ensures { λ r. ⌜ r ≡ events.started net code a ⌝ }
 {
-    let b = pending(net, code, moved(4, a.status, a.attempts, a));
-    timed(b, Order::Run(15), Order::Stop, Order::Stop)
+    timed(
+        pending(net, code, moved(4, a.status, a.attempts, a)),
+        starting(),
+    )
 }
 
 // Stored as ngKSI.
@@ -61,33 +65,32 @@ pub fn key_set(set: u8, a: Access) -> Turn
     still(keyed(set, a))
 }
 
-pub fn accepted(given: bool, count: u8, wait: u16, a: Access) -> Turn
-    ensures { λ r. ⌜ r ≡ events.accepted given count wait a ⌝ }
+pub fn accepted(given: bool, count: u8, t3502length: u16, a: Access) -> Turn
+    ensures { λ r. ⌜ r ≡ events.accepted given count t3502length a ⌝ }
 {
-    let b = taught(given, count, wait, moved(5, U1, 0, a));
-    timed(b, Order::Stop, Order::Leave, Order::Leave)
+    let b = taught(given, count, t3502length, moved(5, U1, 0, a));
+    timed(b, answered())
 }
 
 // Below 5, T3511 starts.
 fn again(n: u8, a: Access) -> Turn
-    ensures { λ r. ⌜ r ≡ events.turnOf (sets.moved 3 (a .status) n a) (ordersOf Stop (Run 10) Leave) ⌝ }
+    ensures { λ r. ⌜ r ≡ events.turnOf (sets.withAttempts n (sets.withStatus (a .status) (sets.inState 3 a))) timers.retrying ⌝ }
 {
-    let b = moved(3, a.status, n, a);
-    timed(b, Order::Stop, Order::Run(10), Order::Leave)
+    timed(moved(3, a.status, n, a), retrying())
 }
 
-fn seconds(wait: u16) -> u32
-    ensures { λ r. ⌜ r ≡ wait ⌝ }
+fn seconds(t3502length: u16) -> u32
+    ensures { λ r. ⌜ r ≡ t3502length ⌝ }
 {
-    wait as u32
+    t3502length as u32
 }
 
 // At 5, T3502 starts with the stored length.
 fn spent(n: u8, a: Access) -> Turn
-    ensures { λ r. ⌜ r ≡ events.turnOf (sets.emptied (sets.forgotten (sets.moved 3 u2 n a))) (ordersOf Stop Leave (Run (a .wait))) ⌝ }
+    ensures { λ r. ⌜ r ≡ events.turnOf (sets.emptied (sets.forgotten (sets.withAttempts n (sets.withStatus u2 (sets.inState 3 a))))) (timers.resting (a .t3502length)) ⌝ }
 {
     let b = emptied(forgotten(moved(3, U2, n, a)));
-    timed(b, Order::Stop, Order::Leave, Order::Run(seconds(a.wait)))
+    timed(b, resting(seconds(a.t3502length)))
 }
 
 // T3510 out, with the attempt counter now n.
@@ -106,14 +109,13 @@ pub fn t3510_out(a: Access) -> Turn
 pub fn t3511_out(a: Access) -> Turn
     ensures { λ r. ⌜ r ≡ events.t3511Out a ⌝ }
 {
-    timed(a, Order::Leave, Order::Stop, Order::Leave)
+    timed(a, t3511_stops())
 }
 
 pub fn t3502_out(a: Access) -> Turn
     ensures { λ r. ⌜ r ≡ events.t3502Out a ⌝ }
 {
-    let b = moved(a.state, a.status, 0, a);
-    timed(b, Order::Leave, Order::Leave, Order::Stop)
+    timed(moved(a.state, a.status, 0, a), t3502_stops())
 }
 
 // Power cycle.
@@ -121,46 +123,47 @@ pub fn cycled(card: u8, a: Access) -> Turn
     ensures { λ r. ⌜ r ≡ events.cycled card a ⌝ }
 {
     let b = moved(pick(card == 0, 0, 1), a.status, 0, a);
-    timed(b, Order::Stop, Order::Stop, Order::Stop)
+    timed(b, halted())
 }
 
 // Card change.
 pub fn renewed() -> Turn
     ensures { λ r. ⌜ r ≡ events.renewed ⌝ }
 {
-    timed(new_access(1), Order::Stop, Order::Stop, Order::Stop)
+    timed(new_access(1), halted())
 }
 
 // Every taken reject stops T3510.
 fn rejected(a: Access) -> Turn
-    ensures { λ r. ⌜ r ≡ events.rejected a ⌝ }
+    ensures { λ r. ⌜ r ≡ events.turnOf a timers.answered ⌝ }
 {
-    timed(a, Order::Stop, Order::Leave, Order::Leave)
+    timed(a, answered())
 }
 
 // "5U3, clear identity": how the rows with a cause of their own begin.
-fn barred(state: u8, attempts: u8, a: Access) -> Access
-    ensures { λ r. ⌜ r ≡ sets.forgotten (sets.moved state u3 attempts a) ⌝ }
+fn refused(state: u8, attempts: u8, a: Access) -> Access
+    ensures { λ r. ⌜ r ≡ sets.forgotten (sets.withAttempts attempts (sets.withStatus u3 (sets.inState state a))) ⌝ }
 {
     forgotten(moved(state, U3, attempts, a))
 }
 
 fn card_first(n: u8, a: Access) -> Turn
-    ensures { λ r. ⌜ r ≡ events.rejected (sets.emptied (sets.counted n (sets.forgotten (sets.moved 2 u3 0 a)))) ⌝ }
+    ensures { λ r. ⌜ r ≡ events.turnOf (sets.emptied (sets.counted n (sets.forgotten (sets.withAttempts 0 (sets.withStatus u3 (sets.inState 2 a)))))) timers.answered ⌝ }
 {
-    rejected(emptied(counted(n, barred(2, 0, a))))
+    rejected(emptied(counted(n, refused(2, 0, a))))
 }
 
 fn card_second(n: u8, a: Access) -> Turn
-    ensures { λ r. ⌜ r ≡ events.rejected (sets.counted n (sets.forgotten (sets.moved 2 u3 (a .attempts) a))) ⌝ }
+    ensures { λ r. ⌜ r ≡ events.turnOf (sets.counted n (sets.forgotten (sets.withAttempts (a .attempts) (sets.withStatus u3 (sets.inState 2 a))))) timers.answered ⌝ }
 {
-    rejected(counted(n, barred(2, a.attempts, a)))
+    rejected(counted(n, refused(2, a.attempts, a)))
 }
 
+// The rows by their texts. A row that does not go by the access, the limit, the cause or the entry is stated with 0 and false for it.
 fn card_below(w: u8, limit: u8, a: Access) -> Turn
-    ensures { λ r. ⌜ r ≡ events.cardBelow w limit a ⌝ }
+    ensures { λ r. ⌜ r ≡ events.rowTurn CardBelow w limit 0 false a ⌝ }
 {
-    let n = one_more(limit, a.cards);
+    let n = one_more(limit, a.cardcounter);
     if w == 0 {
         card_first(n, a)
     } else {
@@ -169,34 +172,34 @@ fn card_below(w: u8, limit: u8, a: Access) -> Turn
 }
 
 fn card_limit(a: Access) -> Turn
-    ensures { λ r. ⌜ r ≡ events.cardLimit a ⌝ }
+    ensures { λ r. ⌜ r ≡ events.rowTurn CardLimit 0 0 0 false a ⌝ }
 {
-    rejected(emptied(barred(0, a.attempts, a)))
+    rejected(emptied(refused(0, a.attempts, a)))
 }
 
 fn card_protected(limit: u8, a: Access) -> Turn
-    ensures { λ r. ⌜ r ≡ events.cardProtected limit a ⌝ }
+    ensures { λ r. ⌜ r ≡ events.rowTurn CardProtected 0 limit 0 false a ⌝ }
 {
-    rejected(counted(limit, emptied(barred(0, a.attempts, a))))
+    rejected(counted(limit, emptied(refused(0, a.attempts, a))))
 }
 
 fn away(w: u8, found: bool, a: Access) -> Turn
-    ensures { λ r. ⌜ r ≡ events.away w found a ⌝ }
+    ensures { λ r. ⌜ r ≡ events.rowTurn Away w 0 0 found a ⌝ }
 {
-    let b = barred(pick(w == 0, 6, 2), 0, a);
+    let b = refused(pick(w == 0, 6, 2), 0, a);
     rejected(entered(found, emptied(b)))
 }
 
 fn home(a: Access) -> Turn
-    ensures { λ r. ⌜ r ≡ events.home a ⌝ }
+    ensures { λ r. ⌜ r ≡ events.rowTurn Home 0 0 0 false a ⌝ }
 {
-    rejected(emptied(barred(2, 0, a)))
+    rejected(emptied(refused(2, 0, a)))
 }
 
 fn area(cause: u8, a: Access) -> Turn
-    ensures { λ r. ⌜ r ≡ events.area cause a ⌝ }
+    ensures { λ r. ⌜ r ≡ events.rowTurn Area 0 0 cause false a ⌝ }
 {
-    let b = barred(2, 0, a);
+    let b = refused(2, 0, a);
     if cause == 13 {
         rejected(emptied(b))
     } else {
@@ -205,9 +208,9 @@ fn area(cause: u8, a: Access) -> Turn
 }
 
 fn n1(found: bool, a: Access) -> Turn
-    ensures { λ r. ⌜ r ≡ events.n1 found a ⌝ }
+    ensures { λ r. ⌜ r ≡ events.rowTurn N1 0 0 0 found a ⌝ }
 {
-    rejected(entered(found, barred(2, 0, a)))
+    rejected(entered(found, refused(2, 0, a)))
 }
 
 // The receiving access.

@@ -12,7 +12,8 @@ use lib.Seq.{getD-set-same, getD-set-other, getD-drop, getD-append-seam}
 use borrow.Author.Tests.{leb-true, le-leb, ltb-true, ltb-false, lt-ltb, eqb-true, eqb-false}
 use Rattle.laws.specs.Upto.{seekTo}
 use Rattle.areas.specs.declared.Task.{Task}
-use Rattle.areas.specs.Areas.{kept, areaOf, isProtected, sameArea, sizeOf, placeIn, listedIn, marked, remarked, placed, placedCount, stayed, sweptList, listAfter, countAfter}
+use Rattle.areas.specs.declared.Task.the-variants as task
+use Rattle.areas.specs.Areas.{kept, areaOf, isProtected, sameArea, areasHeld, areaPlace, listedIn, marked, remarked, placed, placedCount, stayed, sweptList, listAfter, countAfter}
 use Rattle.record.specs.Tests.{upTo, isShort}
 use Rattle.ranges.specs.Valid.{isItem, halved}
 use Rattle.validity.proofs.Bools.{most-is}
@@ -20,26 +21,26 @@ use Rattle.validity.proofs.Arrays.{seek-found, seek-before, set-reads}
 use Rattle.validity.proofs.Good.{Listing}
 use Rattle.validity.proofs.Filter.{kept-le, kept-all, kept-once}
 
-size-is : (n : ℕ) → upTo 40 n ≡ true → sizeOf n ≡ n
-unfolding sizeOf
+size-is : (n : ℕ) → upTo 40 n ≡ true → areasHeld n ≡ n
+unfolding areasHeld
 size-is n e = most-is 40 n e
 
 -- an element is read back as its area
-half-marked : (area sure : ℕ) → halved (marked area sure) ≡ area
-half-marked area sure = elim (eqb sure 0) as (λ b. (area * 2 + cond b 0 1) / 2 ≡ area) [ true ↦ omega arith | false ↦ omega arith ]
+half-marked : (area protected : ℕ) → halved (marked area protected) ≡ area
+half-marked area protected = elim (eqb protected 0) as (λ b. (area * 2 + cond b 0 1) / 2 ≡ area) [ true ↦ omega arith | false ↦ omega arith ]
 
-half-remarked : (area sure x : ℕ) → halved x ≡ area → halved (remarked area sure x) ≡ area
-half-remarked area sure x e = elim (eqb sure 0) as (λ b. cond b x (area * 2 + 1) / 2 ≡ area) [ true ↦ e | false ↦ omega arith ]
+half-remarked : (area protected x : ℕ) → halved x ≡ area → halved (remarked area protected x) ≡ area
+half-remarked area protected x e = elim (eqb protected 0) as (λ b. cond b x (area * 2 + 1) / 2 ≡ area) [ true ↦ e | false ↦ omega arith ]
 
 module _ (area : ℕ) (small : area < 281474976710656) where
-  item-marked : (sure : ℕ) → isItem (marked area sure) ≡ true
-  item-marked sure = elim (eqb sure 0) as (λ b. isItem (area * 2 + cond b 0 1) ≡ true) [
+  item-marked : (protected : ℕ) → isItem (marked area protected) ≡ true
+  item-marked protected = elim (eqb protected 0) as (λ b. isItem (area * 2 + cond b 0 1) ≡ true) [
     | true ↦ lt-ltb (area * 2 + 0) 562949953421312 (omega arith)
     | false ↦ lt-ltb (area * 2 + 1) 562949953421312 (omega arith)
   ]
 
-  item-remarked : (sure x : ℕ) → isItem x ≡ true → isItem (remarked area sure x) ≡ true
-  item-remarked sure x e = elim (eqb sure 0) as (λ b. isItem (cond b x (area * 2 + 1)) ≡ true) [ true ↦ e | false ↦ lt-ltb (area * 2 + 1) 562949953421312 (omega arith) ]
+  item-remarked : (protected x : ℕ) → isItem x ≡ true → isItem (remarked area protected x) ≡ true
+  item-remarked protected x e = elim (eqb protected 0) as (λ b. isItem (cond b x (area * 2 + 1)) ≡ true) [ true ↦ e | false ↦ lt-ltb (area * 2 + 1) 562949953421312 (omega arith) ]
 
 module _ (n : ℕ) (xs : List ℕ) (len : length xs ≡ 40) (g : Listing n xs) where
   bound : n ≤ 40
@@ -105,28 +106,28 @@ module _ (n : ℕ) (xs : List ℕ) (len : length xs ≡ 40) (g : Listing n xs) w
         apart i j l m false w e = f (1 + i) (omega (arith, bound)) (ap halved (sym (early i (omega (arith, bound)))) ∙ e ∙ ap halved (last j m (ltb-false j 39 w)))
 
   -- a reject puts an area there
-  placed-listing : (area sure : ℕ) → area < 281474976710656 → Listing (placedCount area n xs) (placed area sure n xs)
-  unfolding placedCount placed listedIn placeIn
-  placed-listing area sure small = rw (size-is n (g .count)) (go (ltb (seekTo (sameArea area) n xs) n) refl)
+  placed-listing : (area protected : ℕ) → area < 281474976710656 → Listing (placedCount area n xs) (placed area protected n xs)
+  unfolding placedCount placed listedIn areaPlace
+  placed-listing area protected small = rw (size-is n (g .count)) (go (ltb (seekTo (sameArea area) n xs) n) refl)
     where
       at : ℕ
       at = seekTo (sameArea area) n xs
 
-      fresh : n ≤ at → (k : ℕ) → k < n → halved (getD xs k 0) ≢ halved (marked area sure)
-      fresh h k l e = eqb-false (halved (getD xs k 0)) area (seek-before (sameArea area) n xs k (omega arith)) (e ∙ half-marked area sure)
+      fresh : n ≤ at → (k : ℕ) → k < n → halved (getD xs k 0) ≢ halved (marked area protected)
+      fresh h k l e = eqb-false (halved (getD xs k 0)) area (seek-before (sameArea area) n xs k (omega arith)) (e ∙ half-marked area protected)
 
       full : (b : Bool) → ltb n 40 ≡ b → n ≤ at
-          → Listing (cond (ltb n 40) (n + 1) n) (cond (ltb n 40) (set xs n (marked area sure)) (drop 1 xs ++ (marked area sure ∷ [])))
-      full true w h = rw w (added (marked area sure) (item-marked area small sure) (fresh h) (ltb-true n 40 w))
-      full false w h = rw w (shifted (marked area sure) (item-marked area small sure) (fresh h) (ltb-false n 40 w))
+          → Listing (cond (ltb n 40) (n + 1) n) (cond (ltb n 40) (set xs n (marked area protected)) (drop 1 xs ++ (marked area protected ∷ [])))
+      full true w h = rw w (added (marked area protected) (item-marked area small protected) (fresh h) (ltb-true n 40 w))
+      full false w h = rw w (shifted (marked area protected) (item-marked area small protected) (fresh h) (ltb-false n 40 w))
 
       go : (b : Bool) → ltb at n ≡ b
           → Listing (cond (ltb at n) n (cond (ltb n 40) (n + 1) n))
-          (cond (ltb at n) (set xs at (remarked area sure (getD xs at 0))) (cond (ltb n 40) (set xs n (marked area sure)) (drop 1 xs ++ (marked area sure ∷ []))))
+          (cond (ltb at n) (set xs at (remarked area protected (getD xs at 0))) (cond (ltb n 40) (set xs n (marked area protected)) (drop 1 xs ++ (marked area protected ∷ []))))
       go true w =
           let h : at < n = ltb-true at n w in
           let e : halved (getD xs at 0) ≡ area = eqb-true (halved (getD xs at 0)) area (seek-found (sameArea area) n xs h) in
-          rw w (changed at (remarked area sure (getD xs at 0)) h (half-remarked area sure (getD xs at 0) e ∙ sym e) (item-remarked area small sure (getD xs at 0) (g .items at h)))
+          rw w (changed at (remarked area protected (getD xs at 0)) h (half-remarked area protected (getD xs at 0) e ∙ sym e) (item-remarked area small protected (getD xs at 0) (g .items at h)))
       go false w = rw w (full (ltb n 40) refl (ltb-false at n w))
 
   -- T3247 out
@@ -146,17 +147,16 @@ none-listing xs = record { count = refl; items = λ k h. absurd (omega arith); o
 area-small : (net code : ℕ) → isShort net ≡ true → isShort code ≡ true → areaOf net code < 281474976710656
 area-small net code p q = omega (arith, ltb-true net 16777216 p, ltb-true code 16777216 q)
 
--- every task; only a put looks at the area
-pub list-kept : (t : Task) (n : ℕ) (xs : List ℕ) → length xs ≡ 40 → Listing n xs → (eqb (t .kind) 1 ≡ true → (isShort (t .net) ≡ true) × (isShort (t .code) ≡ true)) → Listing (countAfter t n xs) (listAfter t n xs)
-unfolding listAfter countAfter
-list-kept t n xs len g f = go (eqb (t .kind) 1) refl
-  where
-    other : Listing (cond (eqb (t .kind) 2) (length (stayed n xs)) (cond (eqb (t .kind) 3) 0 n)) (cond (eqb (t .kind) 2) (sweptList n xs) (cond (eqb (t .kind) 3) (replicate 40 0) xs))
-    other = elim (eqb (t .kind) 2) as (λ b. Listing (cond b (length (stayed n xs)) (cond (eqb (t .kind) 3) 0 n)) (cond b (sweptList n xs) (cond (eqb (t .kind) 3) (replicate 40 0) xs))) [
-      | true ↦ swept-listing n xs len g
-      | false ↦ elim (eqb (t .kind) 3) as (λ b. Listing (cond b 0 n) (cond b (replicate 40 0) xs)) [ true ↦ none-listing (replicate 40 0) | false ↦ g ]
-    ]
+-- an area that a task puts there is of three octets and three octets
+abbrev pub Short : Task → Type 0
+Short task.Nothing = Unit {0}
+Short (task.Put net code protected) = (isShort net ≡ true) × (isShort code ≡ true)
+Short task.Sweep = Unit {0}
+Short task.Clear = Unit {0}
 
-    go : (b : Bool) → eqb (t .kind) 1 ≡ b → Listing (countAfter t n xs) (listAfter t n xs)
-    go true w = rw w (placed-listing n xs len g (areaOf (t .net) (t .code)) (t .sure) (area-small (t .net) (t .code) (f w .0) (f w .1)))
-    go false w = rw w other
+pub list-kept : (t : Task) (n : ℕ) (xs : List ℕ) → length xs ≡ 40 → Listing n xs → Short t → Listing (countAfter t n xs) (listAfter t n xs)
+unfolding listAfter countAfter
+list-kept task.Nothing n xs len g f = g
+list-kept (task.Put net code protected) n xs len g f = placed-listing n xs len g (areaOf net code) protected (area-small net code (f .0) (f .1))
+list-kept task.Sweep n xs len g f = swept-listing n xs len g
+list-kept task.Clear n xs len g f = none-listing (replicate 40 0)

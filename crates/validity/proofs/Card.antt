@@ -13,8 +13,8 @@ use Rattle.turns.specs.Turns.{renewed}
 use Rattle.rules.specs.declared.Event.the-variants.{Card}
 use Rattle.record.specs.Sides.{hotOf}
 use Rattle.effects.specs.Effects.{ticked, carded, cardEffect}
-use Rattle.rules.specs.Plan.{askOf, effectOf, hotAfter, takenPlan, mineOf, deedOf}
-use Rattle.events.specs.Parts.{tableAfter, listed, doneOf, carriedOut, gutiAfter, equivalentsAfter, suciAfter, keptAfter}
+use Rattle.rules.specs.Plan.{accessIn, effectOf, hotAfter, takenPlan, deedOn, deedOf}
+use Rattle.events.specs.Parts.{tableAfter, withCounts, doneOf, carriedOut, gutiAfter, equivalentsAfter, suciAfter, keptAfter}
 use Rattle.events.specs.Step.{together, joinedOf, advanceOf}
 use Rattle.validity.specs.Answered.{answeredBy}
 use Rattle.validity.specs.Card.{cardRecord}
@@ -22,5 +22,5 @@ use Rattle.validity.proofs.Refusal.{taken-plan}
 
 pub card-is-new : (r : Record) (home : ℕ) (suci : List ℕ) → isTaken (answeredBy r (Card home) suci) ≡ true
     → advanceOf r (Card home) suci .next ≡ cardRecord r home suci
-unfolding cardRecord emptyRecord newDevice newAccess carded ticked joinedOf together carriedOut doneOf listed takenPlan hotAfter hotOf effectOf cardEffect renewed clocked flagAfter askOf tableAfter deedOf mineOf entriesAfter listAfter countAfter keptAfter gutiAfter equivalentsAfter suciAfter
+unfolding cardRecord emptyRecord newDevice newAccess carded ticked joinedOf together carriedOut doneOf withCounts takenPlan hotAfter hotOf effectOf cardEffect renewed clocked flagAfter accessIn tableAfter deedOf deedOn entriesAfter listAfter countAfter keptAfter gutiAfter equivalentsAfter suciAfter
 card-is-new r home suci taken = rw (taken-plan r (Card home) suci taken) refl

@@ -1,16 +1,15 @@
 -- The events of both accesses keep the record good: T3247 out, a power cycle, a card change. Assumes nothing.
 use Prim.Native.Nat.{ℕ, zero, suc, _<_}
 use mathlib.Core.Path.{_≡_, refl}
-use mathlib.Core.Bool.{Bool, true, false≢true}
+use mathlib.Core.Bool.{true}
 use mathlib.Core.List.{List, [], _∷_}
 use native.Mathlib.Omega.{arith}
 use lib.Dec.{eqb}
 use lib.ListN.{length, getD}
 use borrow.Author.Tests.{le-leb}
 use Rattle.laws.specs.Upto.{upto, copied}
-use Rattle.entries.specs.declared.Seen.{Seen}
-use Rattle.entries.specs.Entries.{swept, cycled, none, entriesAfter}
-use Rattle.messages.specs.declared.Reading.{Reading}
+use Rattle.entries.specs.Entries.{swept, powered, none, entriesAfter}
+use Rattle.areas.specs.declared.Task.the-variants as task
 use Rattle.record.specs.declared.Record.{Record}
 use Rattle.record.specs.Tests.{within, isShort}
 use Rattle.record.specs.Network.{isNetwork}
@@ -21,8 +20,8 @@ use Rattle.turns.specs.Timers.{flagAfter}
 use Rattle.turns.specs.Turns as turns
 use Rattle.record.specs.Sides.{accessOf, otherOf, hotOf}
 use Rattle.effects.specs.Effects.{ticked, carded, cardEffect, t3247Effect, powerEffect}
-use Rattle.rules.specs.Plan.{askAt, hotAfter, takenPlan, mineOf, deedOf}
-use Rattle.events.specs.Parts.{tableAfter, taskOf, equivalentsAfter, suciAfter}
+use Rattle.rules.specs.Plan.{hotAfter, takenPlan, deedOn, deedOf}
+use Rattle.events.specs.Parts.{tableAfter, equivalentsAfter, suciAfter}
 use Rattle.validity.specs.Sized.{Sized}
 use Rattle.record.proofs.Bounds.{most, least}
 use Rattle.validity.proofs.Bools.{most-is}
@@ -45,10 +44,10 @@ copied-first (suc n) (x ∷ xs) (y ∷ ys) h l = refl
 none-short : (xs : List ℕ) → All isShort 0 xs
 none-short xs k h = absurd (omega arith)
 
-module _ (r : Record) (g : Good r) (z : Sized r) (octets : List ℕ) (net code : ℕ) (area : Bool) (sure : ℕ) (s : Seen) (m : Reading) where
+module _ (r : Record) (g : Good r) (z : Sized r) (octets : List ℕ) where
   -- T3247 out: marks clear by their counters, and areas marked unprotected leave their lists
-  pub t3247-good : Good (carry r octets (takenPlan (r .hot) (askAt 0 net code area sure) s m (t3247Effect (r .hot) 0)) .next)
-  unfolding takenPlan t3247Effect accessOf otherOf hotAfter hotOf ticked tableAfter entriesAfter deedOf mineOf equivalentsAfter suciAfter suciOf
+  pub t3247-good : Good (carry r octets (takenPlan (r .hot) 0 (t3247Effect (r .hot) 0)) .next)
+  unfolding takenPlan t3247Effect accessOf otherOf hotAfter hotOf ticked tableAfter entriesAfter deedOf deedOn equivalentsAfter suciAfter suciOf
   t3247-good =
       let a = half-turned (r .hot .dev) (r .hot .a0 .equivalents) (r .hot .a0 .entries) (after (turns.still (r .hot .a0))) (r .equivalents0)
       (swept (r .hot .a0 .entries) (r .hot .dev .banlimit) (r .hot .dev .n1limit) (r .e0))
@@ -58,40 +57,40 @@ module _ (r : Record) (g : Good r) (z : Sized r) (octets : List ℕ) (net code :
       (swept (r .hot .a1 .entries) (r .hot .dev .banlimit) (r .hot .dev .n1limit) (r .e1))
       (still-turned (r .hot .dev .card) (r .hot .dev .cardlimit) (r .hot .a1) (g .half1 .fit) (g .half1 .timely) (g .half1 .carded)) (g .half1 .equals)
       (swept-held (r .hot .dev .banlimit) (r .hot .dev .n1limit) (r .hot .a1 .entries) (r .e1) (z .e1) (g .half1 .held) (g .half1 .fit .entries)) in
-      good-next r octets (takenPlan (r .hot) (askAt 0 net code area sure) s m (t3247Effect (r .hot) 0)) (ticked-fair (r .hot .dev) Stop (g .fair))
+      good-next r octets (takenPlan (r .hot) 0 (t3247Effect (r .hot) 0)) (ticked-fair (r .hot .dev) Stop (g .fair))
       (record { fit = a .fit; timely = a .timely; carded = a .carded; equals = a .equals; held = a .held })
       (record { fit = b .fit; timely = b .timely; carded = b .carded; equals = b .equals; held = b .held })
-      (list-kept (taskOf 2 (askAt 0 net code area sure)) (r .hot .dev .roaming) (r .roaming) (z .roaming) (g .roaming) (λ e. absurd (false≢true e)))
-      (list-kept (taskOf 2 (askAt 0 net code area sure)) (r .hot .dev .regional) (r .regional) (z .regional) (g .regional) (λ e. absurd (false≢true e)))
+      (list-kept task.Sweep (r .hot .dev .roaming) (r .roaming) (z .roaming) (g .roaming) tt)
+      (list-kept task.Sweep (r .hot .dev .regional) (r .regional) (z .regional) (g .regional) tt)
       (g .suci)
 
   -- power cycle: forbidden marks clear by the same test, N1 marks and areas clear
-  pub power-good : Good (carry r octets (takenPlan (r .hot) (askAt 0 net code area sure) s m (powerEffect (r .hot))) .next)
-  unfolding takenPlan powerEffect hotAfter hotOf ticked tableAfter entriesAfter deedOf mineOf equivalentsAfter suciAfter suciOf
+  pub power-good : Good (carry r octets (takenPlan (r .hot) 0 (powerEffect (r .hot))) .next)
+  unfolding takenPlan powerEffect hotAfter hotOf ticked tableAfter entriesAfter deedOf deedOn equivalentsAfter suciAfter suciOf
   power-good =
       let a = half-turned (r .hot .dev) (r .hot .a0 .equivalents) (r .hot .a0 .entries) (after (turns.cycled (r .hot .dev .card) (r .hot .a0))) (r .equivalents0)
-      (cycled (r .hot .a0 .entries) (r .hot .dev .banlimit) (r .e0))
+      (powered (r .hot .a0 .entries) (r .hot .dev .banlimit) (r .e0))
       (cycled-turned (r .hot .dev .card) (r .hot .dev .cardlimit) (r .hot .a0) (g .half0 .fit) (g .fair .card)) (g .half0 .equals)
       (cycled-held (r .hot .dev .banlimit) (r .hot .dev .n1limit) (r .hot .a0 .entries) (r .e0) (z .e0) (g .half0 .held) (g .half0 .fit .entries)) in
       let b = half-turned (r .hot .dev) (r .hot .a1 .equivalents) (r .hot .a1 .entries) (after (turns.cycled (r .hot .dev .card) (r .hot .a1))) (r .equivalents1)
-      (cycled (r .hot .a1 .entries) (r .hot .dev .banlimit) (r .e1))
+      (powered (r .hot .a1 .entries) (r .hot .dev .banlimit) (r .e1))
       (cycled-turned (r .hot .dev .card) (r .hot .dev .cardlimit) (r .hot .a1) (g .half1 .fit) (g .fair .card)) (g .half1 .equals)
       (cycled-held (r .hot .dev .banlimit) (r .hot .dev .n1limit) (r .hot .a1 .entries) (r .e1) (z .e1) (g .half1 .held) (g .half1 .fit .entries)) in
-      good-next r octets (takenPlan (r .hot) (askAt 0 net code area sure) s m (powerEffect (r .hot))) (ticked-fair (r .hot .dev) Stop (g .fair))
+      good-next r octets (takenPlan (r .hot) 0 (powerEffect (r .hot))) (ticked-fair (r .hot .dev) Stop (g .fair))
       (record { fit = a .fit; timely = a .timely; carded = a .carded; equals = a .equals; held = a .held })
       (record { fit = b .fit; timely = b .timely; carded = b .carded; equals = b .equals; held = b .held })
-      (list-kept (taskOf 3 (askAt 0 net code area sure)) (r .hot .dev .roaming) (r .roaming) (z .roaming) (g .roaming) (λ e. absurd (false≢true e)))
-      (list-kept (taskOf 3 (askAt 0 net code area sure)) (r .hot .dev .regional) (r .regional) (z .regional) (g .regional) (λ e. absurd (false≢true e)))
+      (list-kept task.Clear (r .hot .dev .roaming) (r .roaming) (z .roaming) (g .roaming) tt)
+      (list-kept task.Clear (r .hot .dev .regional) (r .regional) (z .regional) (g .regional) tt)
       (g .suci)
 
   -- card change: a new record's, with this card
   pub card-good : (home : ℕ) → isNetwork home ≡ true → within 9 64 (length octets) ≡ true → eqb (getD octets 0 0) 1 ≡ true
-      → Good (carry r octets (takenPlan (r .hot) (askAt 0 net code area sure) s m (cardEffect (r .hot) home (length octets))) .next)
-  unfolding takenPlan cardEffect carded hotAfter hotOf ticked flagAfter tableAfter entriesAfter deedOf mineOf equivalentsAfter suciAfter suciOf
+      → Good (carry r octets (takenPlan (r .hot) 0 (cardEffect (r .hot) home (length octets))) .next)
+  unfolding takenPlan cardEffect carded hotAfter hotOf ticked flagAfter tableAfter entriesAfter deedOf deedOn equivalentsAfter suciAfter suciOf
   card-good home p q o =
       let a = renewed-turned (r .hot .dev .cardlimit) in
       let b : 0 < length octets = let l = least 9 64 (length octets) q in omega arith in
-      good-next r octets (takenPlan (r .hot) (askAt 0 net code area sure) s m (cardEffect (r .hot) home (length octets)))
+      good-next r octets (takenPlan (r .hot) 0 (cardEffect (r .hot) home (length octets)))
       (record {
         card = refl;
         suci = q;
@@ -105,6 +104,6 @@ module _ (r : Record) (g : Good r) (z : Sized r) (octets : List ℕ) (net code :
       })
       (half-turned (ticked 0 (carded home (length octets) (r .hot .dev))) 0 0 (after turns.renewed) (zeros 15) none a (none-short (zeros 15)) (none-held (r .hot .dev .banlimit) (r .hot .dev .n1limit) none))
       (half-turned (ticked 0 (carded home (length octets) (r .hot .dev))) 0 0 (after turns.renewed) (zeros 15) none a (none-short (zeros 15)) (none-held (r .hot .dev .banlimit) (r .hot .dev .n1limit) none))
-      (list-kept (taskOf 3 (askAt 0 net code area sure)) (r .hot .dev .roaming) (r .roaming) (z .roaming) (g .roaming) (λ e. absurd (false≢true e)))
-      (list-kept (taskOf 3 (askAt 0 net code area sure)) (r .hot .dev .regional) (r .regional) (z .regional) (g .regional) (λ e. absurd (false≢true e)))
+      (list-kept task.Clear (r .hot .dev .roaming) (r .roaming) (z .roaming) (g .roaming) tt)
+      (list-kept task.Clear (r .hot .dev .regional) (r .regional) (z .regional) (g .regional) tt)
       (rw (most-is 64 (length octets) (le-leb (length octets) 64 (most 9 64 (length octets) q)), copied-first (length octets) octets (zeros 64) b (omega arith)) o)

@@ -6,14 +6,14 @@ use mathlib.Core.Bool.{Bool, true, false, cond}
 use mathlib.Core.List.{List}
 use mathlib.Core.Logic.{_≢_}
 use native.Mathlib.Omega.{arith}
-use lib.Dec.{ltb, eqb}
+use lib.Dec.{leb, ltb, eqb}
 use lib.ListN.{length, getD, set, getD-replicate}
 use lib.Seq.{getD-set-same, getD-set-other}
-use borrow.Author.Tests.{leb-true, le-leb, ltb-true, ltb-false, lt-ltb, eqb-true, eqb-false}
+use borrow.Author.Tests.{leb-true, leb-false, le-leb, ltb-true, ltb-false, lt-ltb, eqb-true, eqb-false}
 use Rattle.laws.specs.Upto.{upto, seekTo}
 use Rattle.entries.specs.declared.Entries.{Entries}
-use Rattle.entries.specs.declared.Deed.{Deed}
-use Rattle.entries.specs.Entries.{sameNet, sizeOf, placeIn, seenIn, liftMark, bumped, putAt, clearUnless, raised, banned, barredBy, accepted, swept, cycled}
+use Rattle.entries.specs.declared.Seat.{Seat}
+use Rattle.entries.specs.Entries.{sameNet, entriesHeld, placeIn, hasEntry, liftMark, bumped, putAt, clearUnless, raised, banned, barredBy, unforbidden, swept, powered}
 use Rattle.record.specs.Tests.{upTo, isFlag}
 use Rattle.record.specs.Network.{isNetwork}
 use Rattle.ranges.specs.Valid.{itself}
@@ -31,26 +31,32 @@ pub record Sought (n net at : ℕ) (found : Bool) (nets : List ℕ) : Type 0 whe
   pub hit : at < n → getD nets at 0 ≡ net
   pub miss : (k : ℕ) → k < at → getD nets k 0 ≢ net
 
-size-is : (n : ℕ) → upTo 16 n ≡ true → sizeOf n ≡ n
-unfolding sizeOf
+size-is : (n : ℕ) → upTo 16 n ≡ true → entriesHeld n ≡ n
+unfolding entriesHeld
 size-is n e = most-is 16 n e
 
--- what a search sees, where there is room
-pub sought : (n net : ℕ) (nets forbidden barred : List ℕ) → upTo 16 n ≡ true → ltb (seenIn n net nets forbidden barred .at) 16 ≡ true
-    → Sought n net (seenIn n net nets forbidden barred .at) (seenIn n net nets forbidden barred .found) nets
-unfolding seenIn placeIn
-sought n net nets forbidden barred e r = rw (size-is n e) (record {
+-- a search, where the network has an entry or there is a free one
+pub sought : (n net : ℕ) (nets : List ℕ) → upTo 16 n ≡ true → (hasEntry n net nets ≡ false → leb 16 n ≡ false) → Sought n net (placeIn n net nets) (hasEntry n net nets) nets
+unfolding placeIn hasEntry
+sought n net nets e r = rw (size-is n e) (record {
   inside = seek-le (sameNet net) n nets;
-  room = ltb-true (seekTo (sameNet net) n nets) 16 (rw (size-is n e) at r);
+  room = go (ltb (seekTo (sameNet net) n nets) n) refl;
   is = refl;
   hit = λ h. eqb-true (getD nets (seekTo (sameNet net) n nets) 0) net (seek-found (sameNet net) n nets h);
   miss = λ k h. eqb-false (getD nets k 0) net (seek-before (sameNet net) n nets k h);
 })
+  where
+    free : ltb (seekTo (sameNet net) n nets) n ≡ false → leb 16 n ≡ false
+    free = rw (size-is n e) at r
 
-bump-fits : (limit sure n : ℕ) → upTo limit n ≡ true → upTo limit (bumped limit sure n) ≡ true
+    go : (b : Bool) → ltb (seekTo (sameNet net) n nets) n ≡ b → seekTo (sameNet net) n nets < 16
+    go true q = omega (arith, ltb-true (seekTo (sameNet net) n nets) n q, leb-true n 16 e)
+    go false q = omega (arith, seek-le (sameNet net) n nets, leb-false 16 n (free q))
+
+bump-fits : (limit protected n : ℕ) → upTo limit n ≡ true → upTo limit (bumped limit protected n) ≡ true
 unfolding bumped
-bump-fits limit sure n e =
-    elim (eqb sure 0) as (λ b. upTo limit (cond b (cond (ltb n limit) (n + 1) n) limit) ≡ true) [ true ↦ more-fits limit n e | false ↦ le-leb limit limit (omega arith) ]
+bump-fits limit protected n e =
+    elim (eqb protected 0) as (λ b. upTo limit (cond b (cond (ltb n limit) (n + 1) n) limit) ≡ true) [ true ↦ more-fits limit n e | false ↦ le-leb limit limit (omega arith) ]
 
 lift-fits : (limit n mark : ℕ) → isFlag mark ≡ true → isFlag (liftMark limit n mark) ≡ true
 unfolding liftMark
@@ -86,9 +92,9 @@ module _ (n net at : ℕ) (found : Bool) (nets : List ℕ) (s : Sought n net at 
       go true q = rw q (f k (rw q at h))
       go false q = rw q (put-all p xs 0 len e f k h)
 
-  raised-all : (limit sure : ℕ) (xs : List ℕ) → length xs ≡ 16 → All (upTo limit) n xs → All (upTo limit) (grown found n) (raised xs at found limit sure)
+  raised-all : (limit protected : ℕ) (xs : List ℕ) → length xs ≡ 16 → All (upTo limit) n xs → All (upTo limit) (grown found n) (raised xs at found limit protected)
   unfolding raised
-  raised-all limit sure xs len f = put-all (upTo limit) xs (bumped limit sure (cond found (getD xs at 0) 0)) len (bump-fits limit sure (cond found (getD xs at 0) 0) (go found refl)) f
+  raised-all limit protected xs len f = put-all (upTo limit) xs (bumped limit protected (cond found (getD xs at 0) 0)) len (bump-fits limit protected (cond found (getD xs at 0) 0) (go found refl)) f
     where
       go : (b : Bool) → found ≡ b → upTo limit (cond found (getD xs at 0) 0) ≡ true
       go true q = rw q (f at (ltb-true at n (sym (s .is) ∙ q)))
@@ -113,12 +119,12 @@ module _ (n net at : ℕ) (found : Bool) (nets : List ℕ) (s : Sought n net at 
       go false false p q e = f i j l (below j h (eqb-false j at q)) (sym (getD-set-other nets at i net 0 (eqb-false i at p)) ∙ e ∙ getD-set-other nets at j net 0 (eqb-false j at q))
 
 module _ (banlimit n1limit n : ℕ) (t : Entries) (w : Columns t) (g : Held banlimit n1limit n t) where
-  module _ (k : Deed) (s : Sought n (k .net) (k .at) (k .found) (t .nets)) (net : isNetwork (k .net) ≡ true) where
+  module _ (k : Seat) (s : Sought n (k .net) (k .at) (k .found) (t .nets)) (net : isNetwork (k .net) ≡ true) where
     pub banned-held : Held banlimit n1limit (grown (k .found) n) (banned k banlimit t)
     unfolding banned
     banned-held = record {
       nets = put-all n (k .net) (k .at) (k .found) (t .nets) s isNetwork (t .nets) (k .net) (w .nets) net (g .nets);
-      bans = raised-all n (k .net) (k .at) (k .found) (t .nets) s banlimit (k .sure) (t .bans) (w .bans) (g .bans);
+      bans = raised-all n (k .net) (k .at) (k .found) (t .nets) s banlimit (k .protected) (t .bans) (w .bans) (g .bans);
       n1s = clear-all n (k .net) (k .at) (k .found) (t .nets) s (upTo n1limit) (t .n1s) (w .n1s) (le-leb 0 n1limit (omega arith)) (g .n1s);
       forbidden = put-all n (k .net) (k .at) (k .found) (t .nets) s isFlag (t .forbidden) 1 (w .forbidden) refl (g .forbidden);
       barred = clear-all n (k .net) (k .at) (k .found) (t .nets) s isFlag (t .barred) (w .barred) refl (g .barred);
@@ -130,14 +136,14 @@ module _ (banlimit n1limit n : ℕ) (t : Entries) (w : Columns t) (g : Held banl
     barred-held = record {
       nets = put-all n (k .net) (k .at) (k .found) (t .nets) s isNetwork (t .nets) (k .net) (w .nets) net (g .nets);
       bans = clear-all n (k .net) (k .at) (k .found) (t .nets) s (upTo banlimit) (t .bans) (w .bans) (le-leb 0 banlimit (omega arith)) (g .bans);
-      n1s = raised-all n (k .net) (k .at) (k .found) (t .nets) s n1limit (k .sure) (t .n1s) (w .n1s) (g .n1s);
+      n1s = raised-all n (k .net) (k .at) (k .found) (t .nets) s n1limit (k .protected) (t .n1s) (w .n1s) (g .n1s);
       forbidden = clear-all n (k .net) (k .at) (k .found) (t .nets) s isFlag (t .forbidden) (w .forbidden) refl (g .forbidden);
       barred = put-all n (k .net) (k .at) (k .found) (t .nets) s isFlag (t .barred) 1 (w .barred) refl (g .barred);
       once = put-once n (k .net) (k .at) (k .found) (t .nets) s (w .nets) (g .once);
     }
 
-  pub accepted-held : (k : Deed) → Held banlimit n1limit n (accepted k t)
-  unfolding accepted putAt
+  pub accepted-held : (k : Seat) → Held banlimit n1limit n (unforbidden k t)
+  unfolding unforbidden putAt
   accepted-held k = record {
     nets = g .nets;
     bans = g .bans;
@@ -153,7 +159,7 @@ module _ (banlimit n1limit n : ℕ) (t : Entries) (w : Columns t) (g : Held banl
     once = g .once;
   }
 
-  lifted : (limit : ℕ) (counters marks : List ℕ) → upTo 16 n ≡ true → All isFlag n marks → All isFlag n (upto (liftMark limit) (sizeOf n) counters marks)
+  lifted : (limit : ℕ) (counters marks : List ℕ) → upTo 16 n ≡ true → All isFlag n marks → All isFlag n (upto (liftMark limit) (entriesHeld n) counters marks)
   lifted limit counters marks e f i h =
       rw (size-is n e) (upto-reads (liftMark limit) n counters marks i (λ x. isFlag x ≡ true) h (lift-fits limit (getD counters i 0) (getD marks i 0) (f i h)) (λ _. refl))
 
@@ -168,8 +174,8 @@ module _ (banlimit n1limit n : ℕ) (t : Entries) (w : Columns t) (g : Held banl
     once = g .once;
   }
 
-  pub cycled-held : upTo 16 n ≡ true → Held banlimit n1limit n (cycled n banlimit t)
-  unfolding cycled
+  pub cycled-held : upTo 16 n ≡ true → Held banlimit n1limit n (powered n banlimit t)
+  unfolding powered
   cycled-held e = record {
     nets = g .nets;
     bans = g .bans;

@@ -45,10 +45,10 @@ Known a =
 pub record Fit (limit : ℕ) (a : Access) : Type 0 where
   pub mode : Mode a
   pub flags : Flags a
-  pub wait : upTo 11160 (a .wait) ≡ true
+  pub t3502length : upTo 11160 (a .t3502length) ≡ true
   pub pending : Pending a
   pub known : Known a
-  pub cards : upTo limit (a .cards) ≡ true
+  pub cardcounter : upTo limit (a .cardcounter) ≡ true
   pub equivalents : upTo 15 (a .equivalents) ≡ true
   pub entries : upTo 16 (a .entries) ≡ true
 

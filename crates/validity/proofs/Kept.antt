@@ -4,26 +4,26 @@ use mathlib.Core.Path.{_≡_, refl}
 use mathlib.Core.Bool.{Bool, true, false, cond, false≢true}
 use mathlib.Core.List.{List}
 use native.Mathlib.Omega.{arith}
-use lib.Dec.{ltb, eqb}
+use lib.Dec.{eqb}
 use borrow.Author.Tests.{eqb-true, le-leb, leb-true}
-use Rattle.entries.specs.declared.Seen.{Seen}
 use Rattle.messages.specs.declared.Reading.{Reading}
 use Rattle.messages.specs.declared.Reading.the-variants as reading
 use Rattle.messages.specs.Message.{readingOf}
 use Rattle.record.specs.declared.Record.{Record}
 use Rattle.record.specs.Answers.{isTaken}
-use Rattle.record.specs.Tests.{either, isFlag}
+use Rattle.record.specs.Tests.{either, flip, isFlag}
 use Rattle.ranges.specs.Valid.{validOf}
+use Rattle.turns.specs.Timers.{isDeviceTimer, runsOn}
 use Rattle.turns.specs.Turns.{started, keySet, t3510Out, t3511Out, t3502Out}
 use Rattle.rules.specs.declared.Event.{Event}
 use Rattle.rules.specs.declared.Event.the-variants.{Card, Start, Message, Timer, Power, Key, Unknown}
 use Rattle.record.specs.Sides.{accessOf}
 use Rattle.checks.specs.Answers.{rowNow, readAnswer, runs}
 use Rattle.effects.specs.Effects.{plain, startEffect, keyEffect, clockEffect, timerEffect}
-use Rattle.rules.specs.Plan.{askAt, heardOf, askOf, answerOf, messageEffect, effectOf, takenPlan}
+use Rattle.rules.specs.Plan.{askOf, accessIn, answerOf, messageEffect, effectOf, takenPlan}
 use Rattle.events.specs.Step.{advanceOf, stepOf}
 use Rattle.validity.specs.Sized.{Sized}
-use Rattle.validity.specs.Answered.{askIn, seenAt, listedAt, answeredBy}
+use Rattle.validity.specs.Answered.{seenAt, listedAt, answeredBy}
 use Rattle.validity.specs.Run.{Octets}
 use Rattle.validity.proofs.Bools.{either-second, either-left}
 use Rattle.validity.proofs.Good.{Good}
@@ -32,7 +32,7 @@ use Rattle.validity.proofs.Turns.{started-turned, key-turned, t3510-tur
 use Rattle.validity.proofs.Messages.{Mild, reading-mild}
 use Rattle.validity.proofs.Taken.{start-passed, message-passed, reject-passed, timer-passed, key-passed, card-passed}
 use Rattle.validity.proofs.Refusal.{carry, effectIn, taken-plan, refused}
-use Rattle.validity.proofs.Own.{access-fit, access-timely, access-carded, plain-good, accept-good, pendingAsk, pendingSeen, reject-good}
+use Rattle.validity.proofs.Own.{access-fit, access-timely, access-carded, plain-good, accept-good, pendingSeen, reject-good}
 use Rattle.validity.proofs.Common.{t3247-good, power-good, card-good}
 
 module _ (r : Record) (g : Good r) (z : Sized r) (octets : List ℕ) where
@@ -42,21 +42,21 @@ module _ (r : Record) (g : Good r) (z : Sized r) (octets : List ℕ) where
       either-left (eqb (r .hot .dev .card) 1) (eqb (accessOf (r .hot) w .state) 0) (access-carded r g w) (rw (eqb-true (accessOf (r .hot) w .state) 4 e))
 
   -- a message, by its reading
-  message-good : (w sure draw : ℕ) (m : Reading) → Mild m → Octets octets → isFlag w ≡ true → eqb (r .hot .dev .card) 1 ≡ true
-      → isTaken (readAnswer (r .hot) w sure m (pendingSeen r sure w)) ≡ true
-      → Good (carry r octets (takenPlan (r .hot) (pendingAsk r sure w) (pendingSeen r sure w) m (messageEffect (r .hot) w sure draw m (pendingSeen r sure w))) .next)
+  message-good : (w protected draw : ℕ) (m : Reading) → Mild m → Octets octets → isFlag w ≡ true → eqb (r .hot .dev .card) 1 ≡ true
+      → isTaken (readAnswer (r .hot) w protected m (pendingSeen r w)) ≡ true
+      → Good (carry r octets (takenPlan (r .hot) w (messageEffect (r .hot) w protected draw m (pendingSeen r w))) .next)
   unfolding messageEffect readAnswer isTaken
-  message-good w sure draw (reading.Accept a) mild o h c q =
-      accept-good r g z octets (accessOf (r .hot) w .net) (accessOf (r .hot) w .code) false sure (pendingSeen r sure w) w h a (mild .0) (mild .1) o c
-  message-good w sure draw (reading.Reject cause) mild o h c q =
-      reject-good r g z octets sure draw cause (rowNow (r .hot) w sure cause) c w h (reject-passed (r .hot) w sure cause (pendingSeen r sure w) q)
-  message-good w sure draw (reading.Bad f at) mild o h c q = absurd (false≢true q)
+  message-good w protected draw (reading.Accept a) mild o h c q =
+      accept-good r g z octets w h a (pendingSeen r w) (mild .0) (mild .1) o c
+  message-good w protected draw (reading.Reject cause) mild o h c q =
+      reject-good r g z octets protected draw cause (rowNow (r .hot) w protected cause) c w h (reject-passed (r .hot) w protected cause (pendingSeen r w) q)
+  message-good w protected draw (reading.Bad f at) mild o h c q = absurd (false≢true q)
 
   -- T3511 out and T3502 out, and T3510 out, which runs in state 4 only
-  clock-good : (number w : ℕ) → isFlag w ≡ true → eqb number 4 ≡ false → eqb (runs (r .hot) number w) 0 ≡ false → (s : Seen) (m : Reading)
-      → Good (carry r octets (takenPlan (r .hot) (askAt w 0 0 false 0) s m (clockEffect (r .hot) number w)) .next)
-  unfolding clockEffect runs
-  clock-good number w h n q s m = go (eqb number 1) refl
+  clock-good : (number w : ℕ) → isFlag w ≡ true → isDeviceTimer number ≡ false → eqb (runs (r .hot) number w) 0 ≡ false
+      → Good (carry r octets (takenPlan (r .hot) w (clockEffect (r .hot) number w)) .next)
+  unfolding clockEffect runs runsOn
+  clock-good number w h n q = go (eqb number 1) refl
     where
       card : ℕ
       card = r .hot .dev .card
@@ -65,54 +65,53 @@ module _ (r : Record) (g : Good r) (z : Sized r) (octets : List ℕ) where
       limit = r .hot .dev .cardlimit
 
       running : eqb number 1 ≡ true → eqb (accessOf (r .hot) w .t3510) 0 ≡ false
-      running e = rw e at q
+      running e = rw (n, e) at q
 
-      other : Good (carry r octets (takenPlan (r .hot) (askAt w 0 0 false 0) s m (cond (eqb number 2) (plain (r .hot) w (t3511Out (accessOf (r .hot) w)) true) (plain (r .hot) w (t3502Out (accessOf (r .hot) w)) true))) .next)
-      other = elim (eqb number 2) as (λ b. Good (carry r octets (takenPlan (r .hot) (askAt w 0 0 false 0) s m (cond b (plain (r .hot) w (t3511Out (accessOf (r .hot) w)) true) (plain (r .hot) w (t3502Out (accessOf (r .hot) w)) true))) .next)) [
-        | true ↦ plain-good r g z octets 0 0 false 0 s m w h (t3511Out (accessOf (r .hot) w)) true (t3511-turned card limit (accessOf (r .hot) w) (access-fit r g w) (access-timely r g w) (access-carded r g w))
-        | false ↦ plain-good r g z octets 0 0 false 0 s m w h (t3502Out (accessOf (r .hot) w)) true (t3502-turned card limit (accessOf (r .hot) w) (access-fit r g w) (access-timely r g w) (access-carded r g w))
+      other : Good (carry r octets (takenPlan (r .hot) w (cond (eqb number 2) (plain (r .hot) w (t3511Out (accessOf (r .hot) w)) true) (plain (r .hot) w (t3502Out (accessOf (r .hot) w)) true))) .next)
+      other = elim (eqb number 2) as (λ b. Good (carry r octets (takenPlan (r .hot) w (cond b (plain (r .hot) w (t3511Out (accessOf (r .hot) w)) true) (plain (r .hot) w (t3502Out (accessOf (r .hot) w)) true))) .next)) [
+        | true ↦ plain-good r g z octets w h (t3511Out (accessOf (r .hot) w)) true (t3511-turned card limit (accessOf (r .hot) w) (access-fit r g w) (access-timely r g w) (access-carded r g w))
+        | false ↦ plain-good r g z octets w h (t3502Out (accessOf (r .hot) w)) true (t3502-turned card limit (accessOf (r .hot) w) (access-fit r g w) (access-timely r g w) (access-carded r g w))
       ]
 
-      go : (b : Bool) → eqb number 1 ≡ b → Good (carry r octets (takenPlan (r .hot) (askAt w 0 0 false 0) s m (clockEffect (r .hot) number w)) .next)
+      go : (b : Bool) → eqb number 1 ≡ b → Good (carry r octets (takenPlan (r .hot) w (clockEffect (r .hot) number w)) .next)
       go true e =
-          rw e (plain-good r g z octets 0 0 false 0 s m w h (t3510Out (accessOf (r .hot) w)) false
+          rw e (plain-good r g z octets w h (t3510Out (accessOf (r .hot) w)) false
           (t3510-turned card limit (accessOf (r .hot) w) (access-fit r g w)
           (state-card w (either-second (eqb (accessOf (r .hot) w .t3510) 0) (eqb (accessOf (r .hot) w .state) 4) (access-timely r g w) (running e)))))
       go false e = rw e other
 
-  timer-good : (number w : ℕ) → isFlag w ≡ true → either (ltb number 4) (eqb w 0) ≡ true → eqb (runs (r .hot) number w) 0 ≡ false → (s : Seen) (m : Reading)
-      → Good (carry r octets (takenPlan (r .hot) (askAt w 0 0 false 0) s m (timerEffect (r .hot) number w)) .next)
+  timer-good : (number w : ℕ) → isFlag w ≡ true → either (flip (isDeviceTimer number)) (eqb w 0) ≡ true → eqb (runs (r .hot) number w) 0 ≡ false
+      → Good (carry r octets (takenPlan (r .hot) w (timerEffect (r .hot) number w)) .next)
   unfolding timerEffect
-  timer-good number w h p q s m = go (eqb number 4) refl
+  timer-good number w h p q = go (isDeviceTimer number) refl
     where
-      go : (b : Bool) → eqb number 4 ≡ b → Good (carry r octets (takenPlan (r .hot) (askAt w 0 0 false 0) s m (timerEffect (r .hot) number w)) .next)
+      go : (b : Bool) → isDeviceTimer number ≡ b → Good (carry r octets (takenPlan (r .hot) w (timerEffect (r .hot) number w)) .next)
       go true e =
-          let t : ltb number 4 ≡ false = rw (eqb-true number 4 e) in
-          let f : w ≡ 0 = eqb-true w 0 (either-second (ltb number 4) (eqb w 0) p t) in
-          rw (e, f) (t3247-good r g z octets 0 0 false 0 s m)
-      go false e = rw e (clock-good number w h e q s m)
+          let f : w ≡ 0 = eqb-true w 0 (either-second (flip (isDeviceTimer number)) (eqb w 0) p (rw e)) in
+          rw (e, f) (t3247-good r g z octets)
+      go false e = rw e (clock-good number w h e q)
 
   taken-good : (e : Event) → Octets octets → isTaken (answeredBy r e octets) ≡ true
-      → Good (carry r octets (takenPlan (r .hot) (askIn r e) (seenAt r e) (heardOf e octets) (effectIn r e octets)) .next)
-  unfolding answeredBy answerOf askOf effectOf heardOf startEffect keyEffect isTaken
+      → Good (carry r octets (takenPlan (r .hot) (accessIn e) (effectIn r e octets)) .next)
+  unfolding answeredBy answerOf askOf accessIn effectOf startEffect keyEffect isTaken
   taken-good (Card home) o q =
       let p = card-passed home octets q in
-      card-good r g z octets 0 0 false 0 (seenAt r (Card home)) (heardOf (Card home) octets) home (p .0) (p .1) (p .2)
+      card-good r g z octets home (p .0) (p .1) (p .2)
   taken-good (Start w manual net code) o q =
       let p = start-passed (r .hot) w manual net code (seenAt r (Start w manual net code)) (listedAt r (Start w manual net code)) q in
-      plain-good r g z octets net code (eqb w 0) 0 (seenAt r (Start w manual net code)) (heardOf (Start w manual net code) octets) w (p .0) (started net code (accessOf (r .hot) w)) false
+      plain-good r g z octets w (p .0) (started net code (accessOf (r .hot) w)) false
       (started-turned (r .hot .dev .card) (r .hot .dev .cardlimit) (accessOf (r .hot) w) (access-fit r g w)
       (either-left (eqb (r .hot .dev .card) 1) (eqb (accessOf (r .hot) w .state) 0) (access-carded r g w) (p .3)) net code (p .1) (p .2))
-  taken-good (Message w sure draw) o q =
-      let p = message-passed (r .hot) w sure draw (readingOf octets) (pendingSeen r sure w) q in
-      message-good w sure draw (readingOf octets) (reading-mild octets) o (p .0) (state-card w (p .1)) (p .2)
+  taken-good (Message w protected draw) o q =
+      let p = message-passed (r .hot) w protected draw (readingOf octets) (pendingSeen r w) q in
+      message-good w protected draw (readingOf octets) (reading-mild octets) o (p .0) (state-card w (p .1)) (p .2)
   taken-good (Timer number w) o q =
       let p = timer-passed (r .hot) number w q in
-      timer-good number w (p .0) (p .1) (p .2) (seenAt r (Timer number w)) (heardOf (Timer number w) octets)
-  taken-good Power o q = power-good r g z octets 0 0 false 0 (seenAt r Power) (heardOf Power octets)
+      timer-good number w (p .0) (p .1) (p .2)
+  taken-good Power o q = power-good r g z octets
   taken-good (Key w set) o q =
       let p = key-passed (r .hot) w set q in
-      plain-good r g z octets 0 0 false 0 (seenAt r (Key w set)) (heardOf (Key w set) octets) w (p .0) (keySet set (accessOf (r .hot) w)) false
+      plain-good r g z octets w (p .0) (keySet set (accessOf (r .hot) w)) false
       (key-turned (r .hot .dev .card) (r .hot .dev .cardlimit) (accessOf (r .hot) w) (access-fit r g w) (access-timely r g w) (access-carded r g w) set (le-leb set 7 (let l = leb-true set 6 (p .1) in omega arith)))
   taken-good Unknown o q = absurd (false≢true q)
 

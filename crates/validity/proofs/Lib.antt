@@ -18,3 +18,4 @@ pub mod Taken
 pub mod Kept
 pub mod Runs
 pub mod Card
+pub mod Reject

@@ -13,14 +13,14 @@ use Rattle.laws.specs.Upto.{first, copied}
 use Rattle.octets.specs.declared.Fault.{Fault}
 use Rattle.octets.specs.declared.Fault.the-variants.{Cut, First, Second, Kind}
 use Rattle.octets.specs.declared.Part.{Part}
-use Rattle.octets.specs.declared.Gathered.{Gathered}
-use Rattle.octets.specs.declared.Gathered.the-variants.{Broken, Whole}
-use Rattle.octets.specs.Element.{gatherOf}
+use Rattle.octets.specs.declared.Ending.{Ending}
+use Rattle.octets.specs.declared.Ending.the-variants.{Broken, Whole}
+use Rattle.octets.specs.Element.{Elements, elementsFrom, firstOf, endOf}
 use Rattle.timers.specs.declared.Span.the-variants.{Off, Seconds}
 use Rattle.timers.specs.Timer.{unitOf, spanOf}
 use Rattle.messages.specs.declared.Reading.{Reading}
 use Rattle.messages.specs.declared.Reading.the-variants as reading
-use Rattle.messages.specs.Message.{countOf, waitOf, secondsOf, acceptOf, acceptedOf, acceptReading, rejectedOf, rejectReading, typeReading, openedBy, readingOf}
+use Rattle.messages.specs.Message.{countOf, t3502Of, secondsOf, acceptOf, acceptedOf, acceptReading, rejectReading, typeReading, endedBy, openedBy, readingOf}
 use Rattle.record.specs.Tests.{upTo, isShort}
 use Rattle.record.specs.Network.{networkOf}
 use Rattle.events.specs.Parts.{networksOf}
@@ -30,7 +30,7 @@ use Rattle.validity.proofs.Arrays.{All, upto-reads}
 
 -- a reading whose numbers fit an access
 abbrev pub Mild : Reading → Type 0
-Mild (reading.Accept g) = (upTo 15 (g .count) ≡ true) × (upTo 11160 (g .wait) ≡ true)
+Mild (reading.Accept g) = (upTo 15 (g .count) ≡ true) × (upTo 11160 (g .t3502length) ≡ true)
 Mild (reading.Reject cause) = Unit {0}
 Mild (reading.Bad f at) = Unit {0}
 
@@ -51,9 +51,9 @@ span-fits octet = elim (eqb (octet / 32) 7) as (λ b. secondsOf (cond b Off (Sec
   | false ↦ unit-fits (octet % 32) (octet / 32) (omega arith)
 ]
 
-wait-fits : (s : List ℕ) (p : Part) → secondsOf (waitOf s p) ≤ 11160
-unfolding waitOf
-wait-fits s p = elim (p .held) as (λ b. secondsOf (cond b (cond (eqb (p .len) 0) Off (spanOf (getD s (p .start) 0))) Off) ≤ 11160) [
+length-fits : (s : List ℕ) (p : Part) → secondsOf (t3502Of s p) ≤ 11160
+unfolding t3502Of
+length-fits s p = elim (p .held) as (λ b. secondsOf (cond b (cond (eqb (p .len) 0) Off (spanOf (getD s (p .start) 0))) Off) ≤ 11160) [
   | true ↦ elim (eqb (p .len) 0) as (λ b. secondsOf (cond b Off (spanOf (getD s (p .start) 0))) ≤ 11160) [ true ↦ omega arith | false ↦ span-fits (getD s (p .start) 0) ]
   | false ↦ omega arith
 ]
@@ -62,15 +62,15 @@ count-fits : (p : Part) → countOf p ≤ 15
 unfolding countOf
 count-fits p = elim (p .held) as (λ b. cond b (cond (ltb (p .len / 3) 15) (p .len / 3) 15) 0 ≤ 15) [ true ↦ most-fits 15 (p .len / 3) | false ↦ omega arith ]
 
-accepted-mild : (s : List ℕ) (g : Gathered) → Mild (acceptedOf s g)
-unfolding acceptedOf acceptOf
-accepted-mild s (Broken f at) = tt
-accepted-mild s (Whole p q t) = (le-leb (countOf q) 15 (count-fits q), le-leb (secondsOf (waitOf s t)) 11160 (wait-fits s t))
+ended-mild : (e : Ending) (m : Reading) → Mild m → Mild (endedBy reading.Bad e m)
+unfolding endedBy
+ended-mild (Broken f at) m h = tt
+ended-mild Whole m h = h
 
-rejected-mild : (cause : ℕ) (g : Gathered) → Mild (rejectedOf cause g)
-unfolding rejectedOf
-rejected-mild cause (Broken f at) = tt
-rejected-mild cause (Whole p q t) = tt
+accepted-mild : (s : List ℕ) (l : Elements) → Mild (acceptedOf s l)
+unfolding acceptedOf acceptOf
+accepted-mild s l =
+    ended-mild (endOf l) (reading.Accept (acceptOf s l)) (le-leb (countOf (firstOf 0x4A l)) 15 (count-fits (firstOf 0x4A l)), le-leb (secondsOf (t3502Of s (firstOf 0x16 l))) 11160 (length-fits s (firstOf 0x16 l)))
 
 cond-mild : (b : Bool) (m n : Reading) → Mild m → Mild n → Mild (cond b m n)
 cond-mild true m n p q = p
@@ -81,17 +81,17 @@ unfolding acceptReading
 accept-mild s =
     cond-mild (ltb 3 (length s)) (cond (eqb (getD s 3 0) 0) (reading.Bad Cut 3) read) (reading.Bad Cut 3)
     (cond-mild (eqb (getD s 3 0) 0) (reading.Bad Cut 3) read tt
-    (cond-mild (ltb (length s) (4 + getD s 3 0)) (reading.Bad Cut (length s)) (acceptedOf s (gatherOf false s (4 + getD s 3 0) 0x77 0x4A 0x16)) tt
-    (accepted-mild s (gatherOf false s (4 + getD s 3 0) 0x77 0x4A 0x16))))
+    (cond-mild (ltb (length s) (4 + getD s 3 0)) (reading.Bad Cut (length s)) (acceptedOf s (elementsFrom false s (4 + getD s 3 0))) tt
+    (accepted-mild s (elementsFrom false s (4 + getD s 3 0)))))
     tt
   where
     read : Reading
-    read = cond (ltb (length s) (4 + getD s 3 0)) (reading.Bad Cut (length s)) (acceptedOf s (gatherOf false s (4 + getD s 3 0) 0x77 0x4A 0x16))
+    read = cond (ltb (length s) (4 + getD s 3 0)) (reading.Bad Cut (length s)) (acceptedOf s (elementsFrom false s (4 + getD s 3 0)))
 
 reject-mild : (s : List ℕ) → Mild (rejectReading s)
 unfolding rejectReading
 reject-mild s =
-    cond-mild (ltb 3 (length s)) (rejectedOf (getD s 3 0) (gatherOf false s 4 0x00 0x00 0x00)) (reading.Bad Cut 3) (rejected-mild (getD s 3 0) (gatherOf false s 4 0x00 0x00 0x00)) tt
+    cond-mild (ltb 3 (length s)) (endedBy reading.Bad (endOf (elementsFrom false s 4)) (reading.Reject (getD s 3 0))) (reading.Bad Cut 3) (ended-mild (endOf (elementsFrom false s 4)) (reading.Reject (getD s 3 0)) tt) tt
 
 type-mild : (s : List ℕ) → Mild (typeReading s)
 unfolding typeReading
@@ -101,14 +101,14 @@ type-mild s =
     (cond-mild (eqb (getD s 2 0) 0x44) (rejectReading s) (reading.Bad Kind 2) (reject-mild s) tt))
     tt
 
-opened-mild : (s : List ℕ) (at octet : ℕ) (f : Fault) (m : Reading) → Mild m → Mild (openedBy s at octet f m)
+opened-mild : (s : List ℕ) (at octet : ℕ) (f : Fault) (m : Reading) → Mild m → Mild (openedBy reading.Bad s at octet f m)
 unfolding openedBy
 opened-mild s at octet f m h =
     cond-mild (ltb at (length s)) (cond (eqb (getD s at 0) octet) m (reading.Bad f at)) (reading.Bad Cut at) (cond-mild (eqb (getD s at 0) octet) m (reading.Bad f at) h tt) tt
 
 pub reading-mild : (s : List ℕ) → Mild (readingOf s)
 unfolding readingOf
-reading-mild s = opened-mild s 0 0x7E First (openedBy s 1 0x00 Second (typeReading s)) (opened-mild s 1 0x00 Second (typeReading s) (type-mild s))
+reading-mild s = opened-mild s 0 0x7E First (openedBy reading.Bad s 1 0x00 Second (typeReading s)) (opened-mild s 1 0x00 Second (typeReading s) (type-mild s))
 
 pub drop-octets : (n : ℕ) (s : List ℕ) → Octets s → Octets (drop n s)
 drop-octets n s h k = rw (getD-drop n s k 0) (h (n + k))

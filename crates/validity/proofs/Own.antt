@@ -1,48 +1,52 @@
 -- A taken event of one access keeps the record good: one that touches no array, an accept, a reject by its row. Assumes nothing.
 use Prim.Native.Nat.{ℕ, zero, suc}
 use mathlib.Core.Path.{_≡_, refl}
-use mathlib.Core.Bool.{Bool, true, false, cond, false≢true}
+use mathlib.Core.Bool.{Bool, true, false, cond}
 use mathlib.Core.List.{List}
 use native.Mathlib.Omega.{arith}
-use lib.Dec.{leb, ltb, eqb}
+use lib.Dec.{leb, eqb}
 use lib.ListN.{drop}
 use borrow.Author.Tests.{leb-true}
 use Rattle.laws.specs.Bounds.{atMost}
 use Rattle.laws.specs.Upto.{copied}
 use Rattle.entries.specs.declared.Entries.{Entries}
 use Rattle.entries.specs.declared.Seen.{Seen}
-use Rattle.entries.specs.declared.Deed.{Deed}
-use Rattle.entries.specs.Entries.{banned, barredBy, entriesAfter}
+use Rattle.entries.specs.declared.Seat.{Seat}
+use Rattle.entries.specs.declared.Deed.the-variants as deed
+use Rattle.entries.specs.Entries.{placeIn, hasEntry, seenIn, seatOf, unforbidden, entriesAfter}
+use Rattle.areas.specs.declared.Task.{Task}
+use Rattle.areas.specs.declared.Task.the-variants as task
 use Rattle.messages.specs.declared.Accept.{Accept}
-use Rattle.messages.specs.declared.Reading.{Reading}
-use Rattle.messages.specs.declared.Reading.the-variants as reading
+use Rattle.record.specs.declared.Access.{Access}
 use Rattle.record.specs.declared.Record.{Record}
 use Rattle.record.specs.Tests.{upTo, isFlag}
 use Rattle.record.specs.Network.{isNetwork}
 use Rattle.turns.specs.declared.Order.the-variants.{Leave}
 use Rattle.turns.specs.declared.Turn.{Turn}
 use Rattle.turns.specs.declared.Row.{Row}
-use Rattle.turns.specs.declared.Row.the-variants.{CardBelow, CardLimit, CardProtected, Away, Home, Area, N1, Protocol, Other}
-use Rattle.turns.specs.Rows.{needsEntry, toRoaming, toRegional}
+use Rattle.turns.specs.Words.{Mark, noMark, forbiddenAndCounted, n1NotAllowedAndCounted, isMark, markIn}
+use Rattle.turns.specs.Rejects.{rejectT3247, rowText, needsEntry, toRoaming, toRegional}
 use Rattle.turns.specs.Turns.{still, accepted, rowTurn, otherTurn}
-use Rattle.rules.specs.declared.Ask.{Ask}
+use Rattle.rules.specs.declared.Ask.the-variants as ask
 use Rattle.rules.specs.declared.Plan.{Plan}
 use Rattle.record.specs.Sides.{accessOf, otherOf}
-use Rattle.effects.specs.Effects.{plain, acceptEffect, rejectT3247, rowDeed, rowWork, rejectEffect}
-use Rattle.rules.specs.Plan.{askAt, giftOf, takenPlan, mineOf, deedOf}
-use Rattle.events.specs.Parts.{seenBy, seenOf, tableAfter, networksOf, equivalentsAfter}
+use Rattle.effects.specs.declared.Keep.the-variants as keep
+use Rattle.effects.specs.Effects.{plain, acceptEffect, markDeed, rowDeed, rowWork, rejectEffect}
+use Rattle.rules.specs.Plan.{takenPlan, deedOn, deedOf}
+use Rattle.events.specs.Parts.{sightOf, seenBy, seenOf, tableAfter, networksOf, equivalentsAfter}
 use Rattle.validity.specs.Sized.{Columns, Sized}
 use Rattle.validity.specs.Run.{Octets}
 use Rattle.validity.proofs.Good.{Fit, Timely, Carded, Held, Good}
 use Rattle.validity.proofs.Setters.{grown, network-short}
+use Rattle.validity.proofs.Areas.{Short}
 use Rattle.validity.proofs.Turns.{after, Turned, still-turned, accepted-turned, row-turned, other-turned}
-use Rattle.validity.proofs.Entries.{Sought, sought, banned-held, barred-held, accepted-held}
+use Rattle.validity.proofs.Entries.{sought, banned-held, barred-held, accepted-held}
 use Rattle.validity.proofs.Messages.{copied-short}
 use Rattle.validity.proofs.Refusal.{carry, table-idle}
-use Rattle.validity.proofs.Next.{half-turned, mine-is, equivalents-stay, own-first, own-second}
+use Rattle.validity.proofs.Next.{half-turned, own-first, own-second}
 
 -- no access but 0 and 1
-no-third : (w : ℕ) → isFlag (suc (suc w)) ≡ true → ⊥
+pub no-third : (w : ℕ) → isFlag (suc (suc w)) ≡ true → ⊥
 no-third w e = absurd (omega (arith, leb-true (suc (suc w)) 1 e))
 
 module _ (r : Record) (g : Good r) where
@@ -66,132 +70,102 @@ module _ (r : Record) (g : Good r) where
   second-still : Turned (r .hot .dev .card) (r .hot .dev .cardlimit) (r .hot .a1 .equivalents) (r .hot .a1 .entries) (after (still (r .hot .a1)))
   second-still = still-turned (r .hot .dev .card) (r .hot .dev .cardlimit) (r .hot .a1) (g .half1 .fit) (g .half1 .timely) (g .half1 .carded)
 
-  module _ (z : Sized r) (octets : List ℕ) (net code : ℕ) (area : Bool) (sure : ℕ) (s : Seen) where
+  module _ (z : Sized r) (octets : List ℕ) where
     -- an event that touches no array
-    pub plain-good : (m : Reading) (w : ℕ) → isFlag w ≡ true → (t : Turn) (restart : Bool)
+    pub plain-good : (w : ℕ) → isFlag w ≡ true → (t : Turn) (restart : Bool)
         → Turned (r .hot .dev .card) (r .hot .dev .cardlimit) (accessOf (r .hot) w .equivalents) (accessOf (r .hot) w .entries) (after t)
-        → Good (carry r octets (takenPlan (r .hot) (askAt w net code area sure) s m (plain (r .hot) w t restart)) .next)
-    unfolding accessOf otherOf takenPlan
-    plain-good m zero h t restart u =
-        own-first r g z octets net code area sure s m t (still (r .hot .a1)) Leave 0 0 0 0 restart refl refl (λ e. absurd (false≢true e)) (λ e. absurd (false≢true e))
-        (rw (
-          table-idle (takenPlan (r .hot) (askAt 0 net code area sure) s m (plain (r .hot) 0 t restart)) 0 (r .hot .a0 .entries) (r .hot) (r .e0) (mine-is 0 0 0 refl),
-          equivalents-stay (takenPlan (r .hot) (askAt 0 net code area sure) s m (plain (r .hot) 0 t restart)) 0 octets (r .equivalents0) refl refl,
-        )
+        → Good (carry r octets (takenPlan (r .hot) w (plain (r .hot) w t restart)) .next)
+    unfolding accessOf otherOf takenPlan deedOf deedOn equivalentsAfter
+    plain-good zero h t restart u =
+        own-first r g z octets t (still (r .hot .a1)) Leave deed.Nothing task.Nothing task.Nothing keep.Nothing restart tt tt tt
+        (rw (table-idle (takenPlan (r .hot) 0 (plain (r .hot) 0 t restart)) 0 (r .hot .a0 .entries) (r .hot) (r .e0) refl)
         (half-turned (r .hot .dev) (r .hot .a0 .equivalents) (r .hot .a0 .entries) (after t) (r .equivalents0) (r .e0) u (g .half0 .equals) (g .half0 .held)))
         second-still
-    plain-good m (suc zero) h t restart u =
-        own-second r g z octets net code area sure s m t (still (r .hot .a0)) Leave 0 0 0 0 restart refl refl (λ e. absurd (false≢true e)) (λ e. absurd (false≢true e))
-        (rw (
-          table-idle (takenPlan (r .hot) (askAt 1 net code area sure) s m (plain (r .hot) 1 t restart)) 1 (r .hot .a1 .entries) (r .hot) (r .e1) (mine-is 0 1 1 refl),
-          equivalents-stay (takenPlan (r .hot) (askAt 1 net code area sure) s m (plain (r .hot) 1 t restart)) 1 octets (r .equivalents1) refl refl,
-        )
+    plain-good (suc zero) h t restart u =
+        own-second r g z octets t (still (r .hot .a0)) Leave deed.Nothing task.Nothing task.Nothing keep.Nothing restart tt tt tt
+        (rw (table-idle (takenPlan (r .hot) 1 (plain (r .hot) 1 t restart)) 1 (r .hot .a1 .entries) (r .hot) (r .e1) refl)
         (half-turned (r .hot .dev) (r .hot .a1 .equivalents) (r .hot .a1 .entries) (after t) (r .equivalents1) (r .e1) u (g .half1 .equals) (g .half1 .held)))
         first-still
-    plain-good m (suc (suc w)) h t restart u = absurd (no-third w h)
+    plain-good (suc (suc w)) h t restart u = absurd (no-third w h)
+
+    -- T3502's length that an accept leaves
+    abbrev lengthOf : Accept → ℕ
+    lengthOf a = cond (a .timed) (a .t3502length) 720
+
+    length-fits : (a : Accept) → upTo 11160 (a .t3502length) ≡ true → upTo 11160 (lengthOf a) ≡ true
+    length-fits a q = elim (a .timed) as (λ b. upTo 11160 (cond b (a .t3502length) 720) ≡ true) [ true ↦ q | false ↦ refl ]
 
     -- an accept: its equivalents are the message's, and its mark clears
-    pub accept-good : (w : ℕ) → isFlag w ≡ true → (a : Accept) → upTo 15 (a .count) ≡ true → upTo 11160 (a .wait) ≡ true → Octets octets → eqb (r .hot .dev .card) 1 ≡ true
-        → Good (carry r octets (takenPlan (r .hot) (askAt w net code area sure) s (reading.Accept a) (acceptEffect (r .hot) w a)) .next)
-    unfolding accessOf otherOf takenPlan acceptEffect giftOf tableAfter entriesAfter deedOf mineOf equivalentsAfter
-    accept-good zero h a p q o c =
-        own-first r g z octets net code area sure s (reading.Accept a) (accepted (a .given) (a .count) (cond (a .timed) (a .wait) 720) (r .hot .a0)) (still (r .hot .a1)) Leave 3 0 0 1 false
-        refl refl (λ e. absurd (false≢true e)) (λ e. absurd (false≢true e))
-        (half-turned (r .hot .dev) (a .count) (r .hot .a0 .entries) (after (accepted (a .given) (a .count) (cond (a .timed) (a .wait) 720) (r .hot .a0)))
-        (copied (atMost 15 (a .count)) (networksOf (atMost 15 (a .count)) (drop (a .triplets) octets)) (r .equivalents0)) (Rattle.entries.specs.Entries.accepted (deed 0) (r .e0))
-        (accepted-turned (r .hot .dev .card) (r .hot .dev .cardlimit) (r .hot .a0) (g .half0 .fit) c (a .given) (a .count) (cond (a .timed) (a .wait) 720) p wait)
+    pub accept-good : (w : ℕ) → isFlag w ≡ true → (a : Accept) (s : Seen) → upTo 15 (a .count) ≡ true → upTo 11160 (a .t3502length) ≡ true → Octets octets → eqb (r .hot .dev .card) 1 ≡ true
+        → Good (carry r octets (takenPlan (r .hot) w (acceptEffect (r .hot) w a s)) .next)
+    unfolding accessOf otherOf takenPlan acceptEffect tableAfter entriesAfter deedOf deedOn equivalentsAfter
+    accept-good zero h a s p q o c =
+        own-first r g z octets (accepted (a .given) (a .count) (lengthOf a) (r .hot .a0)) (still (r .hot .a1)) Leave (deed.Accept (seatOf s (r .hot .a0 .net) 1)) task.Nothing task.Nothing (keep.Gift a) false tt tt tt
+        (half-turned (r .hot .dev) (a .count) (r .hot .a0 .entries) (after (accepted (a .given) (a .count) (lengthOf a) (r .hot .a0)))
+        (copied (atMost 15 (a .count)) (networksOf (atMost 15 (a .count)) (drop (a .triplets) octets)) (r .equivalents0)) (unforbidden (seatOf s (r .hot .a0 .net) 1) (r .e0))
+        (accepted-turned (r .hot .dev .card) (r .hot .dev .cardlimit) (r .hot .a0) (g .half0 .fit) c (a .given) (a .count) (lengthOf a) p (length-fits a q))
         (copied-short (a .count) (a .triplets) octets (r .equivalents0) p o)
-        (accepted-held (r .hot .dev .banlimit) (r .hot .dev .n1limit) (r .hot .a0 .entries) (r .e0) (z .e0) (g .half0 .held) (deed 0)))
+        (accepted-held (r .hot .dev .banlimit) (r .hot .dev .n1limit) (r .hot .a0 .entries) (r .e0) (z .e0) (g .half0 .held) (seatOf s (r .hot .a0 .net) 1)))
         second-still
-      where
-        deed : ℕ → Deed
-        deed me = deedOf (takenPlan (r .hot) (askAt 0 net code area sure) s (reading.Accept a) (acceptEffect (r .hot) 0 a)) me
-
-        wait : upTo 11160 (cond (a .timed) (a .wait) 720) ≡ true
-        wait = elim (a .timed) as (λ b. upTo 11160 (cond b (a .wait) 720) ≡ true) [ true ↦ q | false ↦ refl ]
-    accept-good (suc zero) h a p q o c =
-        own-second r g z octets net code area sure s (reading.Accept a) (accepted (a .given) (a .count) (cond (a .timed) (a .wait) 720) (r .hot .a1)) (still (r .hot .a0)) Leave 3 0 0 1 false
-        refl refl (λ e. absurd (false≢true e)) (λ e. absurd (false≢true e))
-        (half-turned (r .hot .dev) (a .count) (r .hot .a1 .entries) (after (accepted (a .given) (a .count) (cond (a .timed) (a .wait) 720) (r .hot .a1)))
-        (copied (atMost 15 (a .count)) (networksOf (atMost 15 (a .count)) (drop (a .triplets) octets)) (r .equivalents1)) (Rattle.entries.specs.Entries.accepted (deed 1) (r .e1))
-        (accepted-turned (r .hot .dev .card) (r .hot .dev .cardlimit) (r .hot .a1) (g .half1 .fit) c (a .given) (a .count) (cond (a .timed) (a .wait) 720) p wait)
+    accept-good (suc zero) h a s p q o c =
+        own-second r g z octets (accepted (a .given) (a .count) (lengthOf a) (r .hot .a1)) (still (r .hot .a0)) Leave (deed.Accept (seatOf s (r .hot .a1 .net) 1)) task.Nothing task.Nothing (keep.Gift a) false tt tt tt
+        (half-turned (r .hot .dev) (a .count) (r .hot .a1 .entries) (after (accepted (a .given) (a .count) (lengthOf a) (r .hot .a1)))
+        (copied (atMost 15 (a .count)) (networksOf (atMost 15 (a .count)) (drop (a .triplets) octets)) (r .equivalents1)) (unforbidden (seatOf s (r .hot .a1 .net) 1) (r .e1))
+        (accepted-turned (r .hot .dev .card) (r .hot .dev .cardlimit) (r .hot .a1) (g .half1 .fit) c (a .given) (a .count) (lengthOf a) p (length-fits a q))
         (copied-short (a .count) (a .triplets) octets (r .equivalents1) p o)
-        (accepted-held (r .hot .dev .banlimit) (r .hot .dev .n1limit) (r .hot .a1 .entries) (r .e1) (z .e1) (g .half1 .held) (deed 1)))
+        (accepted-held (r .hot .dev .banlimit) (r .hot .dev .n1limit) (r .hot .a1 .entries) (r .e1) (z .e1) (g .half1 .held) (seatOf s (r .hot .a1 .net) 1)))
         first-still
-      where
-        deed : ℕ → Deed
-        deed me = deedOf (takenPlan (r .hot) (askAt 1 net code area sure) s (reading.Accept a) (acceptEffect (r .hot) 1 a)) me
+    accept-good (suc (suc w)) h a s p q o c = absurd (no-third w h)
 
-        wait : upTo 11160 (cond (a .timed) (a .wait) 720) ≡ true
-        wait = elim (a .timed) as (λ b. upTo 11160 (cond b (a .wait) 720) ≡ true) [ true ↦ q | false ↦ refl ]
-    accept-good (suc (suc w)) h a p q o c = absurd (no-third w h)
+-- the seat of a network in these entries
+abbrev pub seatIn : ℕ → ℕ → ℕ → List ℕ → Seat
+seatIn n net protected nets = record { at = placeIn n net nets; found = hasEntry n net nets; net = net; protected = protected }
 
--- the entries by the row: a ban, a bar, or nothing
-row-held : (banlimit n1limit n : ℕ) (t : Entries) → Columns t → Held banlimit n1limit n t → (row : Row) (k : Deed) → k .kind ≡ rowDeed row
-    → (needsEntry row ≡ true → Sought n (k .net) (k .at) (k .found) (t .nets)) → isNetwork (k .net) ≡ true
-    → Held banlimit n1limit (cond (needsEntry row) (grown (k .found) n) n) (entriesAfter k n banlimit n1limit t)
-unfolding entriesAfter rowDeed needsEntry banned barredBy
-row-held banlimit n1limit n t w g CardBelow k e f net = rw e g
-row-held banlimit n1limit n t w g CardLimit k e f net = rw e g
-row-held banlimit n1limit n t w g CardProtected k e f net = rw e g
-row-held banlimit n1limit n t w g Away k e f net = rw e (banned-held banlimit n1limit n t w g k (f refl) net)
-row-held banlimit n1limit n t w g Home k e f net = rw e g
-row-held banlimit n1limit n t w g Area k e f net = rw e g
-row-held banlimit n1limit n t w g N1 k e f net = rw e (barred-held banlimit n1limit n t w g k (f refl) net)
-row-held banlimit n1limit n t w g Protocol k e f net = rw e g
-row-held banlimit n1limit n t w g Other k e f net = rw e g
+-- the entries by the row's mark: a ban, a bar, or nothing
+row-held : (banlimit n1limit n : ℕ) (t : Entries) → Columns t → Held banlimit n1limit n t → upTo 16 n ≡ true → (m : Mark) (net protected : ℕ)
+    → (isMark m ≡ true → hasEntry n net (t .nets) ≡ false → leb 16 n ≡ false) → isNetwork net ≡ true
+    → Held banlimit n1limit (cond (isMark m) (grown (hasEntry n net (t .nets)) n) n) (entriesAfter (markDeed m (seatIn n net protected (t .nets))) n banlimit n1limit t)
+unfolding entriesAfter markDeed isMark
+row-held banlimit n1limit n t w g e noMark net protected f i = g
+row-held banlimit n1limit n t w g e forbiddenAndCounted net protected f i = banned-held banlimit n1limit n t w g (seatIn n net protected (t .nets)) (sought n net (t .nets) e (f refl)) i
+row-held banlimit n1limit n t w g e n1NotAllowedAndCounted net protected f i = barred-held banlimit n1limit n t w g (seatIn n net protected (t .nets)) (sought n net (t .nets) e (f refl)) i
 
--- no row goes over both accesses' entries
-pub row-early : (row : Row) → leb 4 (rowDeed row) ≡ false
-unfolding rowDeed
-row-early CardBelow = refl
-row-early CardLimit = refl
-row-early CardProtected = refl
-row-early Away = refl
-row-early Home = refl
-row-early Area = refl
-row-early N1 = refl
-row-early Protocol = refl
-row-early Other = refl
+-- a reject asks about the pending network
+abbrev pub pendingSeen : Record → ℕ → Seen
+pendingSeen r w = seenOf (ask.Network w (accessOf (r .hot) w .net)) (r .hot) (r .e0) (r .e1)
 
--- a reject asks about the pending network and area
-abbrev pub pendingAsk : Record → ℕ → ℕ → Ask
-pendingAsk r sure w = askAt w (accessOf (r .hot) w .net) (accessOf (r .hot) w .code) false sure
-
-abbrev pub pendingSeen : Record → ℕ → ℕ → Seen
-pendingSeen r sure w = seenOf (pendingAsk r sure w) (r .hot) (r .e0) (r .e1)
-
-module _ (r : Record) (g : Good r) (z : Sized r) (octets : List ℕ) (sure draw cause : ℕ) (row : Row) (c : eqb (r .hot .dev .card) 1 ≡ true) where
+module _ (r : Record) (g : Good r) (z : Sized r) (octets : List ℕ) (protected draw cause : ℕ) (row : Row) (c : eqb (r .hot .dev .card) 1 ≡ true) where
   abbrev rejectPlan : ℕ → Plan
-  rejectPlan w = takenPlan (r .hot) (pendingAsk r sure w) (pendingSeen r sure w) (reading.Reject cause) (rejectEffect (r .hot) w sure draw (pendingSeen r sure w .found) cause row)
+  rejectPlan w = takenPlan (r .hot) w (rejectEffect (r .hot) w protected draw (pendingSeen r w) cause row)
 
-  -- a reject, by its row, where an entry that it needs has room
-  pub reject-good : (w : ℕ) → isFlag w ≡ true → (needsEntry row ≡ true → ltb (pendingSeen r sure w .at) 16 ≡ true) → Good (carry r octets (rejectPlan w) .next)
-  unfolding accessOf otherOf takenPlan rejectEffect rowWork tableAfter deedOf seenOf seenBy
+  abbrev task-if : Bool → Access → Task
+  task-if b a = cond b (task.Put (a .net) (a .code) protected) task.Nothing
+
+  put-short : (b : Bool) (a : Access) → Fit (r .hot .dev .cardlimit) a → Short (task-if b a)
+  put-short true a f = (network-short (a .net) (f .pending .0), f .pending .1)
+  put-short false a f = tt
+
+  -- a reject, by its row, where an entry that it needs is there or free
+  pub reject-good : (w : ℕ) → isFlag w ≡ true → (needsEntry row ≡ true → pendingSeen r w .found ≡ false → leb 16 (accessOf (r .hot) w .entries) ≡ false) → Good (carry r octets (rejectPlan w) .next)
+  unfolding accessOf otherOf takenPlan rejectEffect rowWork rowDeed needsEntry tableAfter deedOf deedOn seenOf seenBy sightOf seenIn equivalentsAfter
   reject-good zero h f =
-      own-first r g z octets (r .hot .a0 .net) (r .hot .a0 .code) false sure (pendingSeen r sure 0) (reading.Reject cause)
-      (rowTurn row 0 (r .hot .dev .cardlimit) cause (pendingSeen r sure 0 .found) (r .hot .a0)) (otherTurn row (r .hot .dev .cardlimit) (r .hot .a1)) (rejectT3247 (r .hot .dev .t3247) sure cause draw)
-      (rowDeed row) (cond (toRoaming 0 cause row) 1 0) (cond (toRegional cause row) 1 0) 0 false (row-early row) refl
-      (λ _. (network-short (r .hot .a0 .net) (g .half0 .fit .pending .0), g .half0 .fit .pending .1)) (λ _. (network-short (r .hot .a0 .net) (g .half0 .fit .pending .0), g .half0 .fit .pending .1))
-      (rw (equivalents-stay (rejectPlan 0) 0 octets (r .equivalents0) refl refl)
-      (half-turned (r .hot .dev) (r .hot .a0 .equivalents) (cond (needsEntry row) (grown (pendingSeen r sure 0 .found) (r .hot .a0 .entries)) (r .hot .a0 .entries))
-      (after (rowTurn row 0 (r .hot .dev .cardlimit) cause (pendingSeen r sure 0 .found) (r .hot .a0))) (r .equivalents0) (tableAfter (rejectPlan 0) 0 (r .hot .a0 .entries) (r .hot) (r .e0))
-      (row-turned (r .hot .dev .card) (r .hot .dev .cardlimit) (r .hot .a0) (g .half0 .fit) c row 0 cause (pendingSeen r sure 0 .found))
+      own-first r g z octets (rowTurn row 0 (r .hot .dev .cardlimit) cause (pendingSeen r 0 .found) (r .hot .a0)) (otherTurn row (r .hot .dev .cardlimit) (r .hot .a1))
+      (rejectT3247 (r .hot .dev .t3247) protected cause draw) (rowDeed row (seatOf (pendingSeen r 0) (r .hot .a0 .net) protected)) (task-if (toRoaming 0 cause row) (r .hot .a0)) (task-if (toRegional 0 cause row) (r .hot .a0)) keep.Nothing false tt
+      (put-short (toRoaming 0 cause row) (r .hot .a0) (g .half0 .fit)) (put-short (toRegional 0 cause row) (r .hot .a0) (g .half0 .fit))
+      (half-turned (r .hot .dev) (r .hot .a0 .equivalents) (cond (needsEntry row) (grown (pendingSeen r 0 .found) (r .hot .a0 .entries)) (r .hot .a0 .entries))
+      (after (rowTurn row 0 (r .hot .dev .cardlimit) cause (pendingSeen r 0 .found) (r .hot .a0))) (r .equivalents0) (tableAfter (rejectPlan 0) 0 (r .hot .a0 .entries) (r .hot) (r .e0))
+      (row-turned (r .hot .dev .card) (r .hot .dev .cardlimit) (r .hot .a0) (g .half0 .fit) c row 0 cause (pendingSeen r 0 .found))
       (g .half0 .equals)
-      (row-held (r .hot .dev .banlimit) (r .hot .dev .n1limit) (r .hot .a0 .entries) (r .e0) (z .e0) (g .half0 .held) row (deedOf (rejectPlan 0) 0) (mine-is (rowDeed row) 0 0 refl)
-      (λ e. sought (r .hot .a0 .entries) (r .hot .a0 .net) (r .e0 .nets) (r .e0 .forbidden) (r .e0 .barred) (g .half0 .fit .entries) (f e)) (g .half0 .fit .pending .0))))
+      (row-held (r .hot .dev .banlimit) (r .hot .dev .n1limit) (r .hot .a0 .entries) (r .e0) (z .e0) (g .half0 .held) (g .half0 .fit .entries) (markIn (rowText row)) (r .hot .a0 .net) protected f (g .half0 .fit .pending .0)))
       (other-turned (r .hot .dev .card) (r .hot .dev .cardlimit) (r .hot .a1) (g .half1 .fit) (g .half1 .timely) (g .half1 .carded) row)
   reject-good (suc zero) h f =
-      own-second r g z octets (r .hot .a1 .net) (r .hot .a1 .code) false sure (pendingSeen r sure 1) (reading.Reject cause)
-      (rowTurn row 1 (r .hot .dev .cardlimit) cause (pendingSeen r sure 1 .found) (r .hot .a1)) (otherTurn row (r .hot .dev .cardlimit) (r .hot .a0)) (rejectT3247 (r .hot .dev .t3247) sure cause draw)
-      (rowDeed row) (cond (toRoaming 1 cause row) 1 0) (cond (toRegional cause row) 1 0) 0 false (row-early row) refl
-      (λ _. (network-short (r .hot .a1 .net) (g .half1 .fit .pending .0), g .half1 .fit .pending .1)) (λ _. (network-short (r .hot .a1 .net) (g .half1 .fit .pending .0), g .half1 .fit .pending .1))
-      (rw (equivalents-stay (rejectPlan 1) 1 octets (r .equivalents1) refl refl)
-      (half-turned (r .hot .dev) (r .hot .a1 .equivalents) (cond (needsEntry row) (grown (pendingSeen r sure 1 .found) (r .hot .a1 .entries)) (r .hot .a1 .entries))
-      (after (rowTurn row 1 (r .hot .dev .cardlimit) cause (pendingSeen r sure 1 .found) (r .hot .a1))) (r .equivalents1) (tableAfter (rejectPlan 1) 1 (r .hot .a1 .entries) (r .hot) (r .e1))
-      (row-turned (r .hot .dev .card) (r .hot .dev .cardlimit) (r .hot .a1) (g .half1 .fit) c row 1 cause (pendingSeen r sure 1 .found))
+      own-second r g z octets (rowTurn row 1 (r .hot .dev .cardlimit) cause (pendingSeen r 1 .found) (r .hot .a1)) (otherTurn row (r .hot .dev .cardlimit) (r .hot .a0))
+      (rejectT3247 (r .hot .dev .t3247) protected cause draw) (rowDeed row (seatOf (pendingSeen r 1) (r .hot .a1 .net) protected)) (task-if (toRoaming 1 cause row) (r .hot .a1)) (task-if (toRegional 1 cause row) (r .hot .a1)) keep.Nothing false tt
+      (put-short (toRoaming 1 cause row) (r .hot .a1) (g .half1 .fit)) (put-short (toRegional 1 cause row) (r .hot .a1) (g .half1 .fit))
+      (half-turned (r .hot .dev) (r .hot .a1 .equivalents) (cond (needsEntry row) (grown (pendingSeen r 1 .found) (r .hot .a1 .entries)) (r .hot .a1 .entries))
+      (after (rowTurn row 1 (r .hot .dev .cardlimit) cause (pendingSeen r 1 .found) (r .hot .a1))) (r .equivalents1) (tableAfter (rejectPlan 1) 1 (r .hot .a1 .entries) (r .hot) (r .e1))
+      (row-turned (r .hot .dev .card) (r .hot .dev .cardlimit) (r .hot .a1) (g .half1 .fit) c row 1 cause (pendingSeen r 1 .found))
       (g .half1 .equals)
-      (row-held (r .hot .dev .banlimit) (r .hot .dev .n1limit) (r .hot .a1 .entries) (r .e1) (z .e1) (g .half1 .held) row (deedOf (rejectPlan 1) 1) (mine-is (rowDeed row) 1 1 refl)
-      (λ e. sought (r .hot .a1 .entries) (r .hot .a1 .net) (r .e1 .nets) (r .e1 .forbidden) (r .e1 .barred) (g .half1 .fit .entries) (f e)) (g .half1 .fit .pending .0))))
+      (row-held (r .hot .dev .banlimit) (r .hot .dev .n1limit) (r .hot .a1 .entries) (r .e1) (z .e1) (g .half1 .held) (g .half1 .fit .entries) (markIn (rowText row)) (r .hot .a1 .net) protected f (g .half1 .fit .pending .0)))
       (other-turned (r .hot .dev .card) (r .hot .dev .cardlimit) (r .hot .a0) (g .half0 .fit) (g .half0 .timely) (g .half0 .carded) row)
   reject-good (suc (suc w)) h f = absurd (no-third w h)

@@ -5,25 +5,24 @@ use mathlib.Core.Bool.{Bool, true, false, cond, false≢true}
 use mathlib.Core.List.{List}
 use lib.Dec.{eqb}
 use Rattle.entries.specs.declared.Entries.{Entries}
-use Rattle.entries.specs.declared.Seen.{Seen}
+use Rattle.entries.specs.declared.Deed.{Deed}
+use Rattle.entries.specs.declared.Deed.the-variants as deed
 use Rattle.entries.specs.Entries.{entriesAfter}
 use Rattle.areas.specs.Areas.{listAfter, countAfter}
-use Rattle.messages.specs.declared.Reading.{Reading}
 use Rattle.record.specs.declared.Hot.{Hot}
 use Rattle.record.specs.declared.Record.{Record}
 use Rattle.record.specs.declared.Answer.{Answer}
-use Rattle.record.specs.declared.Answer.the-variants.{Taken, Range, Ignored, Malformed, Full, NoCard, State, Same, Listed, Area, Bare, Idle, Short}
+use Rattle.record.specs.declared.Answer.the-variants.{Taken, Range, Ignored, Malformed, Full, StateZero, State, Same, Listed, Area, Unprotected, Idle, Short}
 use Rattle.record.specs.Answers.{isTaken}
 use Rattle.ranges.specs.Valid.{validOf}
-use Rattle.rules.specs.declared.Ask.{Ask}
 use Rattle.effects.specs.Effects.{Effect}
 use Rattle.rules.specs.declared.Event.{Event}
 use Rattle.rules.specs.declared.Plan.{Plan}
-use Rattle.rules.specs.Plan.{heardOf, askOf, effectOf, takenReply, refusedReply, takenPlan, refusedPlan, decidedBy, planOf, mineOf, deedOf}
+use Rattle.rules.specs.Plan.{accessIn, effectOf, takenReply, refusedReply, takenPlan, refusedPlan, decidedBy, planOf, deedOn, deedOf}
 use Rattle.events.specs.declared.Outcome.{Outcome}
-use Rattle.events.specs.Parts.{plannedOf, plannedBy, tableAfter, listed, doneOf, carriedOut, partsAfter, gutiAfter, equivalentsAfter, suciAfter, keptAfter}
+use Rattle.events.specs.Parts.{plannedOf, tableAfter, withCounts, doneOf, carriedOut, partsAfter, gutiAfter, equivalentsAfter, suciAfter, keptAfter}
 use Rattle.events.specs.Step.{together, joinedOf, advanceOf, stepOf}
-use Rattle.validity.specs.Answered.{askIn, seenAt, answeredBy}
+use Rattle.validity.specs.Answered.{seenAt, answeredBy}
 
 -- carrying out a plan on a record
 abbrev pub carry : Record → List ℕ → Plan → Outcome
@@ -31,39 +30,38 @@ carry r octets p = joinedOf r octets (carriedOut p (r .hot) (r .e0) (r .e1) (r .
 
 -- the effect that a taken event has
 abbrev pub effectIn : Record → Event → List ℕ → Effect
-effectIn r e octets = effectOf (r .hot) e (seenAt r e) (heardOf e octets) octets
+effectIn r e octets = effectOf (r .hot) e (seenAt r e) octets
 
 pub taken-plan : (r : Record) (e : Event) (octets : List ℕ) → isTaken (answeredBy r e octets) ≡ true
-    → advanceOf r e octets ≡ carry r octets (takenPlan (r .hot) (askIn r e) (seenAt r e) (heardOf e octets) (effectIn r e octets))
-unfolding advanceOf partsAfter plannedOf plannedBy planOf decidedBy answeredBy
+    → advanceOf r e octets ≡ carry r octets (takenPlan (r .hot) (accessIn e) (effectIn r e octets))
+unfolding advanceOf partsAfter plannedOf planOf decidedBy answeredBy
 taken-plan r e octets q = rw q
 
--- a deed of kind 0 leaves the entries as they are
-pub table-idle : (p : Plan) (me count : ℕ) (h : Hot) (t : Entries) → mineOf (p .work .deed) (p .ask .access) me ≡ 0 → tableAfter p me count h t ≡ t
-unfolding tableAfter entriesAfter deedOf
+-- no deed leaves the entries as they are
+pub table-idle : (p : Plan) (me count : ℕ) (h : Hot) (t : Entries) → deedOf p me ≡ deed.Nothing → tableAfter p me count h t ≡ t
+unfolding tableAfter entriesAfter
 table-idle p me count h t e = rw e
 
-pub idle-mine : (w me : ℕ) → mineOf 0 w me ≡ 0
-unfolding mineOf
-idle-mine w me = elim (eqb w me) as (λ b. cond {A = ℕ} b 0 0 ≡ 0) [ true ↦ refl | false ↦ refl ]
+idle-deed : (w me : ℕ) → cond {A = Deed} (eqb w me) deed.Nothing deed.Nothing ≡ deed.Nothing
+idle-deed w me = elim (eqb w me) as (λ b. cond {A = Deed} b deed.Nothing deed.Nothing ≡ deed.Nothing) [ true ↦ refl | false ↦ refl ]
 
-module _ (r : Record) (q : Ask) (s : Seen) (m : Reading) (n : Answer) where
+module _ (r : Record) (w : ℕ) (n : Answer) where
   abbrev p : Plan
-  p = refusedPlan (r .hot) q s m n
+  p = refusedPlan (r .hot) w n
 
   table-stays : (me count : ℕ) (t : Entries) → tableAfter p me count (r .hot) t ≡ t
-  unfolding refusedPlan
-  table-stays me count t = table-idle p me count (r .hot) t (idle-mine (q .access) me)
+  unfolding refusedPlan deedOf deedOn
+  table-stays me count t = table-idle p me count (r .hot) t (idle-deed w me)
 
-  refused-carry : (octets : List ℕ) → carry r octets p ≡ record { reply = refusedReply n (q .access); next = r }
-  unfolding joinedOf together carriedOut doneOf listed refusedPlan keptAfter gutiAfter equivalentsAfter suciAfter listAfter countAfter
+  refused-carry : (octets : List ℕ) → carry r octets p ≡ record { reply = refusedReply n w; next = r }
+  unfolding joinedOf together carriedOut doneOf withCounts refusedPlan keptAfter gutiAfter equivalentsAfter suciAfter listAfter countAfter
   refused-carry octets = rw (table-stays 0 (r .hot .a0 .entries) (r .e0), table-stays 1 (r .hot .a1 .entries) (r .e1))
 
 -- the whole outcome of an event that is not taken
 pub refused : (r : Record) (e : Event) (octets : List ℕ) → isTaken (answeredBy r e octets) ≡ false
-    → advanceOf r e octets ≡ record { reply = refusedReply (answeredBy r e octets) (askOf (r .hot) e .access); next = r }
-unfolding advanceOf partsAfter plannedOf plannedBy planOf decidedBy answeredBy
-refused r e octets q = rw q (refused-carry r (askIn r e) (seenAt r e) (heardOf e octets) (answeredBy r e octets) octets)
+    → advanceOf r e octets ≡ record { reply = refusedReply (answeredBy r e octets) (accessIn e); next = r }
+unfolding advanceOf partsAfter plannedOf planOf decidedBy answeredBy
+refused r e octets q = rw q (refused-carry r (accessIn e) (answeredBy r e octets) octets)
 
 taken-is : (n : Answer) → isTaken n ≡ true → Taken ≡ n
 unfolding isTaken
@@ -72,12 +70,12 @@ taken-is Range e = absurd (false≢true e)
 taken-is Ignored e = absurd (false≢true e)
 taken-is (Malformed f at) e = absurd (false≢true e)
 taken-is Full e = absurd (false≢true e)
-taken-is NoCard e = absurd (false≢true e)
+taken-is StateZero e = absurd (false≢true e)
 taken-is State e = absurd (false≢true e)
 taken-is Same e = absurd (false≢true e)
 taken-is Listed e = absurd (false≢true e)
 taken-is Area e = absurd (false≢true e)
-taken-is Bare e = absurd (false≢true e)
+taken-is Unprotected e = absurd (false≢true e)
 taken-is Idle e = absurd (false≢true e)
 taken-is Short e = absurd (false≢true e)
 

@@ -11,7 +11,7 @@ use Rattle.turns.specs.declared.Order.{Order}
 use Rattle.turns.specs.declared.Order.the-variants.{Leave, Stop, Run}
 use Rattle.turns.specs.declared.Orders.{Orders}
 use Rattle.turns.specs.Timers.{flagAfter, clocked}
-use Rattle.record.specs.Setters.{moved, forgotten, emptied, counted, pending, keyed, taught, entered}
+use Rattle.record.specs.Setters.{inState, withStatus, withAttempts, forgotten, emptied, counted, pending, keyed, taught}
 use Rattle.record.proofs.Bounds.{one}
 use Rattle.validity.proofs.Bools.{both-true, more-fits}
 use Rattle.validity.proofs.Good.{Fit}
@@ -20,7 +20,7 @@ use Rattle.validity.proofs.Good.{Fit}
 abbrev pub grown : Bool → ℕ → ℕ
 grown found n = cond found n (oneMore 16 n)
 
-grown-fits : (found : Bool) (n : ℕ) → upTo 16 n ≡ true → upTo 16 (grown found n) ≡ true
+pub grown-fits : (found : Bool) (n : ℕ) → upTo 16 n ≡ true → upTo 16 (grown found n) ≡ true
 grown-fits true n e = e
 grown-fits false n e = more-fits 16 n e
 
@@ -43,42 +43,52 @@ flag-after Stop n e = refl
 flag-after (Run s) n e = refl
 
 module _ (limit : ℕ) (a : Access) (g : Fit limit a) where
-  pub fit-moved : (state status attempts : ℕ) → upTo 6 state ≡ true → within 1 3 status ≡ true → upTo 5 attempts ≡ true → Fit limit (moved state status attempts a)
-  unfolding moved
-  fit-moved state status attempts p q s =
-      record { mode = (p, q, s); flags = g .flags; wait = g .wait; pending = g .pending; known = g .known; cards = g .cards; equivalents = g .equivalents; entries = g .entries }
+  pub fit-state : (state : ℕ) → upTo 6 state ≡ true → Fit limit (inState state a)
+  unfolding inState
+  fit-state state p =
+      record { mode = (p, g .mode .1, g .mode .2); flags = g .flags; t3502length = g .t3502length; pending = g .pending; known = g .known; cardcounter = g .cardcounter; equivalents = g .equivalents; entries = g .entries }
+
+  pub fit-status : (status : ℕ) → within 1 3 status ≡ true → Fit limit (withStatus status a)
+  unfolding withStatus
+  fit-status status p =
+      record { mode = (g .mode .0, p, g .mode .2); flags = g .flags; t3502length = g .t3502length; pending = g .pending; known = g .known; cardcounter = g .cardcounter; equivalents = g .equivalents; entries = g .entries }
+
+  pub fit-attempts : (attempts : ℕ) → upTo 5 attempts ≡ true → Fit limit (withAttempts attempts a)
+  unfolding withAttempts
+  fit-attempts attempts p =
+      record { mode = (g .mode .0, g .mode .1, p); flags = g .flags; t3502length = g .t3502length; pending = g .pending; known = g .known; cardcounter = g .cardcounter; equivalents = g .equivalents; entries = g .entries }
 
   pub fit-forgotten : Fit limit (forgotten a)
   unfolding forgotten
   fit-forgotten =
-      record { mode = g .mode; flags = g .flags; wait = g .wait; pending = g .pending; known = (refl, refl, refl, refl); cards = g .cards; equivalents = g .equivalents; entries = g .entries }
+      record { mode = g .mode; flags = g .flags; t3502length = g .t3502length; pending = g .pending; known = (refl, refl, refl, refl); cardcounter = g .cardcounter; equivalents = g .equivalents; entries = g .entries }
 
   pub fit-emptied : Fit limit (emptied a)
   unfolding emptied
   fit-emptied =
-      record { mode = g .mode; flags = g .flags; wait = g .wait; pending = g .pending; known = g .known; cards = g .cards; equivalents = refl; entries = g .entries }
+      record { mode = g .mode; flags = g .flags; t3502length = g .t3502length; pending = g .pending; known = g .known; cardcounter = g .cardcounter; equivalents = refl; entries = g .entries }
 
   pub fit-counted : (n : ℕ) → upTo limit n ≡ true → Fit limit (counted n a)
   unfolding counted
   fit-counted n p =
-      record { mode = g .mode; flags = g .flags; wait = g .wait; pending = g .pending; known = g .known; cards = p; equivalents = g .equivalents; entries = g .entries }
+      record { mode = g .mode; flags = g .flags; t3502length = g .t3502length; pending = g .pending; known = g .known; cardcounter = p; equivalents = g .equivalents; entries = g .entries }
 
   pub fit-pending : (net code : ℕ) → isNetwork net ≡ true → isShort code ≡ true → Fit limit (pending net code a)
   unfolding pending
   fit-pending net code p q =
-      record { mode = g .mode; flags = g .flags; wait = g .wait; pending = (p, q); known = g .known; cards = g .cards; equivalents = g .equivalents; entries = g .entries }
+      record { mode = g .mode; flags = g .flags; t3502length = g .t3502length; pending = (p, q); known = g .known; cardcounter = g .cardcounter; equivalents = g .equivalents; entries = g .entries }
 
   pub fit-keyed : (set : ℕ) → upTo 7 set ≡ true → Fit limit (keyed set a)
   unfolding keyed
   fit-keyed set p =
-      record { mode = g .mode; flags = g .flags; wait = g .wait; pending = g .pending; known = (g .known .0, g .known .1, g .known .2, p); cards = g .cards; equivalents = g .equivalents; entries = g .entries }
+      record { mode = g .mode; flags = g .flags; t3502length = g .t3502length; pending = g .pending; known = (g .known .0, g .known .1, g .known .2, p); cardcounter = g .cardcounter; equivalents = g .equivalents; entries = g .entries }
 
-  pub fit-taught : (given : Bool) (count wait : ℕ) → upTo 15 count ≡ true → upTo 11160 wait ≡ true → Fit limit (taught given count wait a)
+  pub fit-taught : (given : Bool) (count t3502length : ℕ) → upTo 15 count ≡ true → upTo 11160 t3502length ≡ true → Fit limit (taught given count t3502length a)
   unfolding taught
-  fit-taught given count wait p q = record {
+  fit-taught given count t3502length p q = record {
     mode = g .mode;
     flags = g .flags;
-    wait = q;
+    t3502length = q;
     pending = g .pending;
     known = (
       elim given as (λ b. isFlag (cond b 1 (a .guti)) ≡ true) [ true ↦ refl | false ↦ g .known .0 ],
@@ -86,25 +96,20 @@ module _ (limit : ℕ) (a : Access) (g : Fit limit a) where
       both-true (isShort (a .net)) (isShort (a .code)) (network-short (a .net) (g .pending .0)) (g .pending .1),
       g .known .3,
     );
-    cards = g .cards;
+    cardcounter = g .cardcounter;
     equivalents = p;
     entries = g .entries;
   }
-
-  pub fit-entered : (found : Bool) → Fit limit (entered found a)
-  unfolding entered
-  fit-entered found =
-      record { mode = g .mode; flags = g .flags; wait = g .wait; pending = g .pending; known = g .known; cards = g .cards; equivalents = g .equivalents; entries = grown-fits found (a .entries) (g .entries) }
 
   pub fit-clocked : (o : Orders) → Fit limit (clocked o a)
   unfolding clocked
   fit-clocked o = record {
     mode = g .mode;
     flags = (flag-after (o .t3510) (a .t3510) (g .flags .0), flag-after (o .t3511) (a .t3511) (g .flags .1), flag-after (o .t3502) (a .t3502) (g .flags .2));
-    wait = g .wait;
+    t3502length = g .t3502length;
     pending = g .pending;
     known = g .known;
-    cards = g .cards;
+    cardcounter = g .cardcounter;
     equivalents = g .equivalents;
     entries = g .entries;
   }

@@ -5,15 +5,20 @@ use mathlib.Core.Bool.{Bool, true, false, cond}
 use mathlib.Core.List.{List, [], _∷_, _++_}
 use native.Mathlib.Omega.{arith}
 use lib.Dec.{ltb, eqb}
-use lib.ListN.{length, getD, set, drop, replicate, length-set, length-replicate, length-append, length-drop}
+use lib.ListN.{length, getD, set, drop, length-set, length-replicate, length-append, length-drop}
 use Rattle.laws.specs.Bounds.{atMost}
 use Rattle.laws.specs.Upto.{first, copied}
 use Rattle.entries.specs.declared.Entries.{Entries}
+use Rattle.entries.specs.declared.Seat.{Seat}
 use Rattle.entries.specs.declared.Deed.{Deed}
-use Rattle.entries.specs.Entries.{isBan, isBar, isAccept, isSweep, isPower, isFresh, sizeOf, liftMark, bumped, putAt, clearUnless, raised, banned, barredBy, accepted, swept, cycled, none, entriesAfter}
+use Rattle.entries.specs.declared.Deed.the-variants as deed
+use Rattle.entries.specs.Entries.{entriesHeld, liftMark, bumped, putAt, clearUnless, raised, banned, barredBy, unforbidden, swept, powered, none, entriesAfter}
 use Rattle.areas.specs.declared.Task.{Task}
-use Rattle.areas.specs.Areas.{areaOf, isProtected, placeIn, listedIn, marked, remarked, placed, stayed, sweptList, listAfter}
+use Rattle.areas.specs.declared.Task.the-variants as task
+use Rattle.areas.specs.Areas.{areaOf, isProtected, areaPlace, listedIn, marked, remarked, placed, stayed, sweptList, listAfter}
 use Rattle.record.specs.Tests.{both}
+use Rattle.effects.specs.declared.Keep.{Keep}
+use Rattle.effects.specs.declared.Keep.the-variants as keep
 use Rattle.record.specs.New.{zeros, emptyRecord, newRecord, mayMake, madeOf}
 use Rattle.ranges.specs.Valid.{validOf}
 use Rattle.record.specs.declared.Record.{Record}
@@ -23,7 +28,7 @@ use Rattle.rules.specs.declared.Event.{Event}
 use Rattle.rules.specs.declared.Plan.{Plan}
 use Rattle.rules.specs.Plan.{refusedReply, deedOf}
 use Rattle.events.specs.declared.Outcome.{Outcome}
-use Rattle.events.specs.Parts.{taskOf, tableAfter, doneOf, carriedOut, plannedOf, partsAfter, isAccepted, isCarded, networksOf, gutiAfter, equivalentsAfter, suciAfter, keptAfter}
+use Rattle.events.specs.Parts.{tableAfter, doneOf, carriedOut, plannedOf, partsAfter, networksOf, gutiAfter, equivalentsAfter, suciAfter, keptAfter}
 use Rattle.events.specs.Step.{together, joinedOf, advanceOf, stepOf}
 use Rattle.validity.specs.Sized.{Columns, Sized}
 use Rattle.validity.proofs.Arrays.{upto-length}
@@ -46,9 +51,9 @@ clear-length : (found : Bool) (xs : List ℕ) (at n : ℕ) → length xs ≡ n �
 unfolding clearUnless
 clear-length found xs at n e = cond-length found xs (putAt xs at 0) n e (put-length xs at 0 n e)
 
-raised-length : (xs : List ℕ) (at : ℕ) (found : Bool) (limit sure n : ℕ) → length xs ≡ n → length (raised xs at found limit sure) ≡ n
+raised-length : (xs : List ℕ) (at : ℕ) (found : Bool) (limit protected n : ℕ) → length xs ≡ n → length (raised xs at found limit protected) ≡ n
 unfolding raised
-raised-length xs at found limit sure n e = put-length xs at (bumped limit sure (cond found (getD xs at 0) 0)) n e
+raised-length xs at found limit protected n e = put-length xs at (bumped limit protected (cond found (getD xs at 0) 0)) n e
 
 none-columns : Columns none
 unfolding none
@@ -61,28 +66,28 @@ none-columns = record {
 }
 
 module _ (t : Entries) (w : Columns t) where
-  banned-columns : (k : Deed) (limit : ℕ) → Columns (banned k limit t)
+  banned-columns : (k : Seat) (limit : ℕ) → Columns (banned k limit t)
   unfolding banned
   banned-columns k limit = record {
     nets = put-length (t .nets) (k .at) (k .net) 16 (w .nets);
-    bans = raised-length (t .bans) (k .at) (k .found) limit (k .sure) 16 (w .bans);
+    bans = raised-length (t .bans) (k .at) (k .found) limit (k .protected) 16 (w .bans);
     n1s = clear-length (k .found) (t .n1s) (k .at) 16 (w .n1s);
     forbidden = put-length (t .forbidden) (k .at) 1 16 (w .forbidden);
     barred = clear-length (k .found) (t .barred) (k .at) 16 (w .barred);
   }
 
-  barred-columns : (k : Deed) (limit : ℕ) → Columns (barredBy k limit t)
+  barred-columns : (k : Seat) (limit : ℕ) → Columns (barredBy k limit t)
   unfolding barredBy
   barred-columns k limit = record {
     nets = put-length (t .nets) (k .at) (k .net) 16 (w .nets);
     bans = clear-length (k .found) (t .bans) (k .at) 16 (w .bans);
-    n1s = raised-length (t .n1s) (k .at) (k .found) limit (k .sure) 16 (w .n1s);
+    n1s = raised-length (t .n1s) (k .at) (k .found) limit (k .protected) 16 (w .n1s);
     forbidden = clear-length (k .found) (t .forbidden) (k .at) 16 (w .forbidden);
     barred = put-length (t .barred) (k .at) 1 16 (w .barred);
   }
 
-  accepted-columns : (k : Deed) → Columns (accepted k t)
-  unfolding accepted
+  accepted-columns : (k : Seat) → Columns (unforbidden k t)
+  unfolding unforbidden
   accepted-columns k = record {
     nets = w .nets;
     bans = w .bans;
@@ -97,108 +102,88 @@ module _ (t : Entries) (w : Columns t) where
     nets = w .nets;
     bans = w .bans;
     n1s = w .n1s;
-    forbidden = upto-length (liftMark banlimit) (sizeOf count) (t .bans) (t .forbidden) ∙ w .forbidden;
-    barred = upto-length (liftMark n1limit) (sizeOf count) (t .n1s) (t .barred) ∙ w .barred;
+    forbidden = upto-length (liftMark banlimit) (entriesHeld count) (t .bans) (t .forbidden) ∙ w .forbidden;
+    barred = upto-length (liftMark n1limit) (entriesHeld count) (t .n1s) (t .barred) ∙ w .barred;
   }
 
-  cycled-columns : (count banlimit : ℕ) → Columns (cycled count banlimit t)
-  unfolding cycled
+  cycled-columns : (count banlimit : ℕ) → Columns (powered count banlimit t)
+  unfolding powered
   cycled-columns count banlimit = record {
     nets = w .nets;
     bans = w .bans;
     n1s = w .n1s;
-    forbidden = upto-length (liftMark banlimit) (sizeOf count) (t .bans) (t .forbidden) ∙ w .forbidden;
+    forbidden = upto-length (liftMark banlimit) (entriesHeld count) (t .bans) (t .forbidden) ∙ w .forbidden;
     barred = length-replicate {A = ℕ} 16 0;
   }
 
-cond-columns : (b : Bool) (t s : Entries) → Columns t → Columns s → Columns (cond b t s)
-cond-columns true t s p q = p
-cond-columns false t s p q = q
-
 entries-columns : (k : Deed) (count banlimit n1limit : ℕ) (t : Entries) → Columns t → Columns (entriesAfter k count banlimit n1limit t)
 unfolding entriesAfter
-entries-columns k count banlimit n1limit t w =
-    cond-columns (isBan (k .kind)) (banned k banlimit t) others (banned-columns t w k banlimit)
-    (cond-columns (isBar (k .kind)) (barredBy k n1limit t) rest (barred-columns t w k n1limit)
-    (cond-columns (isAccept (k .kind)) (accepted k t) timed (accepted-columns t w k)
-    (cond-columns (isSweep (k .kind)) (swept count banlimit n1limit t) power (swept-columns t w count banlimit n1limit)
-    (cond-columns (isPower (k .kind)) (cycled count banlimit t) fresh (cycled-columns t w count banlimit)
-    (cond-columns (isFresh (k .kind)) none t none-columns w)))))
-  where
-    fresh : Entries
-    fresh = cond (isFresh (k .kind)) none t
-
-    power : Entries
-    power = cond (isPower (k .kind)) (cycled count banlimit t) fresh
-
-    timed : Entries
-    timed = cond (isSweep (k .kind)) (swept count banlimit n1limit t) power
-
-    rest : Entries
-    rest = cond (isAccept (k .kind)) (accepted k t) timed
-
-    others : Entries
-    others = cond (isBar (k .kind)) (barredBy k n1limit t) rest
+entries-columns deed.Nothing count banlimit n1limit t w = w
+entries-columns (deed.Ban s) count banlimit n1limit t w = banned-columns t w s banlimit
+entries-columns (deed.Bar s) count banlimit n1limit t w = barred-columns t w s n1limit
+entries-columns (deed.Accept s) count banlimit n1limit t w = accepted-columns t w s
+entries-columns deed.Sweep count banlimit n1limit t w = swept-columns t w count banlimit n1limit
+entries-columns deed.Power count banlimit n1limit t w = cycled-columns t w count banlimit
+entries-columns deed.Fresh count banlimit n1limit t w = none-columns
 
 -- those that stay, and as many behind them as before
 swept-length : (count : ℕ) (xs : List ℕ) → length (sweptList count xs) ≡ length xs
 unfolding sweptList stayed
 swept-length count xs =
     length-append (stayed count xs) (drop (length (stayed count xs)) xs) ∙ ap (λ (n : ℕ). length (stayed count xs) + n) (length-drop (length (stayed count xs)) xs)
-    ∙ omega (arith, kept-inside isProtected (Rattle.areas.specs.Areas.sizeOf count) xs)
+    ∙ omega (arith, kept-inside isProtected (Rattle.areas.specs.Areas.areasHeld count) xs)
 
 shifted-length : (xs : List ℕ) (v : ℕ) → length xs ≡ 40 → length (drop 1 xs ++ (v ∷ [])) ≡ 40
 shifted-length xs v e = length-append (drop 1 xs) (v ∷ []) ∙ omega (arith, length-drop 1 xs)
 
-placed-length : (area sure count : ℕ) (xs : List ℕ) → length xs ≡ 40 → length (placed area sure count xs) ≡ 40
+placed-length : (area protected count : ℕ) (xs : List ℕ) → length xs ≡ 40 → length (placed area protected count xs) ≡ 40
 unfolding placed
-placed-length area sure count xs e =
-    cond-length (listedIn area count xs) (set xs (placeIn area count xs) (remarked area sure (getD xs (placeIn area count xs) 0)))
-    (cond (ltb count 40) (set xs count (marked area sure)) (drop 1 xs ++ (marked area sure ∷ []))) 40
-    (length-set xs (placeIn area count xs) (remarked area sure (getD xs (placeIn area count xs) 0)) ∙ e)
-    (cond-length (ltb count 40) (set xs count (marked area sure)) (drop 1 xs ++ (marked area sure ∷ [])) 40 (length-set xs count (marked area sure) ∙ e) (shifted-length xs (marked area sure) e))
+placed-length area protected count xs e =
+    cond-length (listedIn area count xs) (set xs (areaPlace area count xs) (remarked area protected (getD xs (areaPlace area count xs) 0)))
+    (cond (ltb count 40) (set xs count (marked area protected)) (drop 1 xs ++ (marked area protected ∷ []))) 40
+    (length-set xs (areaPlace area count xs) (remarked area protected (getD xs (areaPlace area count xs) 0)) ∙ e)
+    (cond-length (ltb count 40) (set xs count (marked area protected)) (drop 1 xs ++ (marked area protected ∷ [])) 40 (length-set xs count (marked area protected) ∙ e) (shifted-length xs (marked area protected) e))
 
 list-length : (t : Task) (count : ℕ) (xs : List ℕ) → length xs ≡ 40 → length (listAfter t count xs) ≡ 40
 unfolding listAfter
-list-length t count xs e =
-    cond-length (eqb (t .kind) 1) (placed (areaOf (t .net) (t .code)) (t .sure) count xs) (cond (eqb (t .kind) 2) (sweptList count xs) (cond (eqb (t .kind) 3) (replicate 40 0) xs)) 40
-    (placed-length (areaOf (t .net) (t .code)) (t .sure) count xs e)
-    (cond-length (eqb (t .kind) 2) (sweptList count xs) (cond (eqb (t .kind) 3) (replicate 40 0) xs) 40 (swept-length count xs ∙ e)
-    (cond-length (eqb (t .kind) 3) (replicate 40 0) xs 40 (length-replicate {A = ℕ} 40 0) e))
+list-length task.Nothing count xs e = e
+list-length (task.Put net code protected) count xs e = placed-length (areaOf net code) protected count xs e
+list-length task.Sweep count xs e = swept-length count xs ∙ e
+list-length task.Clear count xs e = length-replicate {A = ℕ} 40 0
 
-abbrev most : Plan → ℕ
-most p = atMost 15 (p .gift .count)
-
-module _ (p : Plan) (octets : List ℕ) where
-  guti-length : (me : ℕ) (guti : List ℕ) → length guti ≡ 10 → length (gutiAfter p me octets guti) ≡ 10
+module _ (own : Bool) (octets : List ℕ) where
+  guti-length : (k : Keep) (guti : List ℕ) → length guti ≡ 10 → length (gutiAfter k own octets guti) ≡ 10
   unfolding gutiAfter
-  guti-length me guti e =
-      cond-length (isCarded p) (zeros 10) (cond (both (isAccepted p me) (p .gift .given)) (copied 10 (drop (p .gift .guti) octets) guti) guti) 10 (length-replicate {A = ℕ} 10 0)
-      (cond-length (both (isAccepted p me) (p .gift .given)) (copied 10 (drop (p .gift .guti) octets) guti) guti 10 (copied-length 10 (drop (p .gift .guti) octets) guti ∙ e) e)
+  guti-length keep.Nothing guti e = e
+  guti-length (keep.Gift g) guti e = cond-length (both own (g .given)) (copied 10 (drop (g .guti) octets) guti) guti 10 (copied-length 10 (drop (g .guti) octets) guti ∙ e) e
+  guti-length keep.Card guti e = length-replicate {A = ℕ} 10 0
 
-  equivalents-length : (me : ℕ) (xs : List ℕ) → length xs ≡ 15 → length (equivalentsAfter p me octets xs) ≡ 15
+  equivalents-length : (k : Keep) (xs : List ℕ) → length xs ≡ 15 → length (equivalentsAfter k own octets xs) ≡ 15
   unfolding equivalentsAfter
-  equivalents-length me xs e =
-      cond-length (isCarded p) (zeros 15) (cond (isAccepted p me) (copied (most p) (networksOf (most p) (drop (p .gift .triplets) octets)) xs) xs) 15 (length-replicate {A = ℕ} 15 0)
-      (cond-length (isAccepted p me) (copied (most p) (networksOf (most p) (drop (p .gift .triplets) octets)) xs) xs 15 (copied-length (most p) (networksOf (most p) (drop (p .gift .triplets) octets)) xs ∙ e) e)
+  equivalents-length keep.Nothing xs e = e
+  equivalents-length (keep.Gift g) xs e =
+      cond-length own (copied (atMost 15 (g .count)) (networksOf (atMost 15 (g .count)) (drop (g .triplets) octets)) xs) xs 15
+      (copied-length (atMost 15 (g .count)) (networksOf (atMost 15 (g .count)) (drop (g .triplets) octets)) xs ∙ e) e
+  equivalents-length keep.Card xs e = length-replicate {A = ℕ} 15 0
 
-  suci-length : (suci : List ℕ) → length suci ≡ 64 → length (suciAfter p octets suci) ≡ 64
-  unfolding suciAfter
-  suci-length suci e =
-      cond-length (isCarded p) (copied (atMost 64 (length octets)) octets (zeros 64)) suci 64 (copied-length (atMost 64 (length octets)) octets (zeros 64) ∙ length-replicate {A = ℕ} 64 0) e
+suci-length : (octets : List ℕ) (k : Keep) (suci : List ℕ) → length suci ≡ 64 → length (suciAfter k octets suci) ≡ 64
+unfolding suciAfter
+suci-length octets keep.Nothing suci e = e
+suci-length octets (keep.Gift g) suci e = e
+suci-length octets keep.Card suci e = copied-length (atMost 64 (length octets)) octets (zeros 64) ∙ length-replicate {A = ℕ} 64 0
 
 pub advance-sized : (r : Record) (e : Event) (octets : List ℕ) → Sized r → Sized (advanceOf r e octets .next)
 unfolding advanceOf joinedOf together partsAfter carriedOut doneOf tableAfter keptAfter
 advance-sized r e octets s = record {
   e0 = entries-columns (deedOf p 0) (r .hot .a0 .entries) (r .hot .dev .banlimit) (r .hot .dev .n1limit) (r .e0) (s .e0);
   e1 = entries-columns (deedOf p 1) (r .hot .a1 .entries) (r .hot .dev .banlimit) (r .hot .dev .n1limit) (r .e1) (s .e1);
-  roaming = list-length (taskOf (p .work .roaming) (p .ask)) (r .hot .dev .roaming) (r .roaming) (s .roaming);
-  regional = list-length (taskOf (p .work .regional) (p .ask)) (r .hot .dev .regional) (r .regional) (s .regional);
-  guti0 = guti-length p octets 0 (r .guti0) (s .guti0);
-  guti1 = guti-length p octets 1 (r .guti1) (s .guti1);
-  equivalents0 = equivalents-length p octets 0 (r .equivalents0) (s .equivalents0);
-  equivalents1 = equivalents-length p octets 1 (r .equivalents1) (s .equivalents1);
-  suci = suci-length p octets (r .suci) (s .suci);
+  roaming = list-length (p .work .roaming) (r .hot .dev .roaming) (r .roaming) (s .roaming);
+  regional = list-length (p .work .regional) (r .hot .dev .regional) (r .regional) (s .regional);
+  guti0 = guti-length (eqb (p .access) 0) octets (p .work .keep) (r .guti0) (s .guti0);
+  guti1 = guti-length (eqb (p .access) 1) octets (p .work .keep) (r .guti1) (s .guti1);
+  equivalents0 = equivalents-length (eqb (p .access) 0) octets (p .work .keep) (r .equivalents0) (s .equivalents0);
+  equivalents1 = equivalents-length (eqb (p .access) 1) octets (p .work .keep) (r .equivalents1) (s .equivalents1);
+  suci = suci-length octets (p .work .keep) (r .suci) (s .suci);
   capability = s .capability;
   security = s .security;
 }

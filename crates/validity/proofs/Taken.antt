@@ -1,9 +1,9 @@
 -- What a taken event has passed: the checks before the last answer, one by one. Assumes nothing.
 use Prim.Native.Nat.{ℕ}
-use mathlib.Core.Path.{_≡_, refl}
-use mathlib.Core.Bool.{Bool, true, false}
+use mathlib.Core.Path.{_≡_, refl, sym}
+use mathlib.Core.Bool.{Bool, true, false, true≢false, false≢true}
 use mathlib.Core.List.{List}
-use lib.Dec.{leb, ltb, eqb}
+use lib.Dec.{leb, eqb}
 use lib.ListN.{length, getD}
 use Rattle.entries.specs.declared.Seen.{Seen}
 use Rattle.messages.specs.declared.Reading.{Reading}
@@ -13,9 +13,10 @@ use Rattle.record.specs.declared.Answer.the-variants as answer
 use Rattle.record.specs.Answers.{isTaken}
 use Rattle.record.specs.Tests.{both, either, flip, within, isFlag, isShort}
 use Rattle.record.specs.Network.{isNetwork}
-use Rattle.turns.specs.Rows.{needsEntry}
+use Rattle.turns.specs.Timers.{isDeviceTimer}
+use Rattle.turns.specs.Rejects.{isIgnored, needsEntry}
 use Rattle.record.specs.Sides.{accessOf, otherOf}
-use Rattle.checks.specs.Answers.{check, mayStart, isSame, isFree, startRange, startAnswer, rowNow, isIgnored, isFull, rejectAnswer, readAnswer, messageRange, messageAnswer, timerRange, runs, timerAnswer, keyAnswer, cardAnswer}
+use Rattle.checks.specs.Answers.{check, mayStart, startRange, placeAnswer, startAnswer, rowNow, isFull, rejectAnswer, readAnswer, messageRange, messageAnswer, timerRange, runs, timerAnswer, keyAnswer, cardAnswer}
 use Rattle.record.proofs.Bounds.{one, rest}
 use Rattle.validity.proofs.Bools.{flip-true, check-passed, check-rest}
 
@@ -26,17 +27,14 @@ start-passed h w manual net code s listed q = (
   one (isFlag w) (both (isFlag manual) (both (isNetwork net) (isShort code))) range,
   one (isNetwork net) (isShort code) place,
   rest (isNetwork net) (isShort code) place,
-  flip-true (eqb (accessOf h w .state) 0) (check-passed (flip (eqb (accessOf h w .state) 0)) answer.NoCard third refl (check-rest (startRange w manual net code) answer.Range second refl q)),
+  flip-true (eqb (accessOf h w .state) 0) (check-passed (flip (eqb (accessOf h w .state) 0)) answer.StateZero third refl (check-rest (startRange w manual net code) answer.Range second refl q)),
 )
   where
     third : Answer
-    third = check (mayStart (accessOf h w .state)) answer.State
-        (check (flip (isSame (otherOf h w) net)) answer.Same
-        (check (isFree manual s) answer.Listed
-        (check (flip (both (eqb w 0) listed)) answer.Area answer.Taken)))
+    third = check (mayStart (accessOf h w .state)) answer.State (placeAnswer (otherOf h w) manual net s listed)
 
     second : Answer
-    second = check (flip (eqb (accessOf h w .state) 0)) answer.NoCard third
+    second = check (flip (eqb (accessOf h w .state) 0)) answer.StateZero third
 
     range : both (isFlag w) (both (isFlag manual) (both (isNetwork net) (isShort code))) ≡ true
     range = check-passed (startRange w manual net code) answer.Range second refl q
@@ -44,46 +42,47 @@ start-passed h w manual net code s listed q = (
     place : both (isNetwork net) (isShort code) ≡ true
     place = rest (isFlag manual) (both (isNetwork net) (isShort code)) (rest (isFlag w) (both (isFlag manual) (both (isNetwork net) (isShort code))) range)
 
-pub message-passed : (h : Hot) (w sure draw : ℕ) (m : Reading) (s : Seen) → isTaken (messageAnswer h w sure draw m s) ≡ true
-    → (isFlag w ≡ true) × (eqb (accessOf h w .state) 4 ≡ true) × (isTaken (readAnswer h w sure m s) ≡ true)
+pub message-passed : (h : Hot) (w protected draw : ℕ) (m : Reading) (s : Seen) → isTaken (messageAnswer h w protected draw m s) ≡ true
+    → (isFlag w ≡ true) × (eqb (accessOf h w .state) 4 ≡ true) × (isTaken (readAnswer h w protected m s) ≡ true)
 unfolding messageAnswer messageRange isTaken
-message-passed h w sure draw m s q = (
-  one (isFlag w) (both (isFlag sure) (within 1800 3600 draw)) (check-passed (messageRange w sure draw) answer.Range second refl q),
-  check-passed (eqb (accessOf h w .state) 4) answer.State (readAnswer h w sure m s) refl (check-rest (messageRange w sure draw) answer.Range second refl q),
-  check-rest (eqb (accessOf h w .state) 4) answer.State (readAnswer h w sure m s) refl (check-rest (messageRange w sure draw) answer.Range second refl q),
+message-passed h w protected draw m s q = (
+  one (isFlag w) (both (isFlag protected) (within 1800 3600 draw)) (check-passed (messageRange w protected draw) answer.Range second refl q),
+  check-passed (eqb (accessOf h w .state) 4) answer.State (readAnswer h w protected m s) refl (check-rest (messageRange w protected draw) answer.Range second refl q),
+  check-rest (eqb (accessOf h w .state) 4) answer.State (readAnswer h w protected m s) refl (check-rest (messageRange w protected draw) answer.Range second refl q),
 )
   where
     second : Answer
-    second = check (eqb (accessOf h w .state) 4) answer.State (readAnswer h w sure m s)
+    second = check (eqb (accessOf h w .state) 4) answer.State (readAnswer h w protected m s)
 
-full-not : (a b : Bool) → flip (both a (flip b)) ≡ true → a ≡ true → b ≡ true
-full-not true true e p = refl
-full-not true false e p = e
-full-not false true e p = refl
-full-not false false e p = p
+full-not : (a found full : Bool) → flip (both a (both (flip found) full)) ≡ true → a ≡ true → found ≡ false → full ≡ false
+full-not true false false e p q = refl
+full-not true false true e p q = sym e
+full-not true true full e p q = absurd (true≢false q)
+full-not false found full e p q = absurd (false≢true p)
 
 -- an entry that the row needs has room
-pub reject-passed : (h : Hot) (w sure cause : ℕ) (s : Seen) → isTaken (rejectAnswer h w sure cause s) ≡ true → needsEntry (rowNow h w sure cause) ≡ true → ltb (s .at) 16 ≡ true
+pub reject-passed : (h : Hot) (w protected cause : ℕ) (s : Seen) → isTaken (rejectAnswer h w protected cause s) ≡ true → needsEntry (rowNow h w protected cause) ≡ true
+    → s .found ≡ false → leb 16 (accessOf h w .entries) ≡ false
 unfolding rejectAnswer isFull isTaken
-reject-passed h w sure cause s q =
-    full-not (needsEntry (rowNow h w sure cause)) (ltb (s .at) 16)
-    (check-passed (flip (isFull (rowNow h w sure cause) s)) answer.Full answer.Taken refl
-    (check-rest (flip (isIgnored sure cause (otherOf h w))) answer.Ignored (check (flip (isFull (rowNow h w sure cause) s)) answer.Full answer.Taken) refl q))
+reject-passed h w protected cause s q =
+    full-not (needsEntry (rowNow h w protected cause)) (s .found) (leb 16 (accessOf h w .entries))
+    (check-passed (flip (isFull (rowNow h w protected cause) s (accessOf h w))) answer.Full answer.Taken refl
+    (check-rest (flip (isIgnored protected cause (otherOf h w))) answer.Ignored (check (flip (isFull (rowNow h w protected cause) s (accessOf h w))) answer.Full answer.Taken) refl q))
 
 pub timer-passed : (h : Hot) (number w : ℕ) → isTaken (timerAnswer h number w) ≡ true
-    → (isFlag w ≡ true) × (either (ltb number 4) (eqb w 0) ≡ true) × (eqb (runs h number w) 0 ≡ false)
+    → (isFlag w ≡ true) × (either (flip (isDeviceTimer number)) (eqb w 0) ≡ true) × (eqb (runs h number w) 0 ≡ false)
 unfolding timerAnswer timerRange isTaken
 timer-passed h number w q = (
-  one (isFlag w) (either (ltb number 4) (eqb w 0)) range,
-  rest (isFlag w) (either (ltb number 4) (eqb w 0)) range,
+  one (isFlag w) (either (flip (isDeviceTimer number)) (eqb w 0)) range,
+  rest (isFlag w) (either (flip (isDeviceTimer number)) (eqb w 0)) range,
   flip-true (eqb (runs h number w) 0) (check-passed (flip (eqb (runs h number w) 0)) answer.Idle answer.Taken refl (check-rest (timerRange number w) answer.Range second refl q)),
 )
   where
     second : Answer
     second = check (flip (eqb (runs h number w) 0)) answer.Idle answer.Taken
 
-    range : both (isFlag w) (either (ltb number 4) (eqb w 0)) ≡ true
-    range = rest (within 1 4 number) (both (isFlag w) (either (ltb number 4) (eqb w 0))) (check-passed (timerRange number w) answer.Range second refl q)
+    range : both (isFlag w) (either (flip (isDeviceTimer number)) (eqb w 0)) ≡ true
+    range = rest (within 1 4 number) (both (isFlag w) (either (flip (isDeviceTimer number)) (eqb w 0))) (check-passed (timerRange number w) answer.Range second refl q)
 
 pub key-passed : (h : Hot) (w set : ℕ) → isTaken (keyAnswer h w set) ≡ true → (isFlag w ≡ true) × (leb set 6 ≡ true)
 unfolding keyAnswer isTaken

@@ -9,20 +9,21 @@ use mathlib.Core.Logic.{_≢_}
 use borrow.Author.Tests.{leb-true, le-leb, eqb-true, eqb-false}
 use Rattle.laws.specs.Bounds.{oneMore}
 use Rattle.record.specs.declared.Access.{Access}
-use Rattle.record.specs.Tests.{either, upTo, isFlag, isShort}
+use Rattle.record.specs.Tests.{both, either, within, upTo, isFlag, isShort}
 use Rattle.record.specs.Network.{isNetwork}
 use Rattle.record.specs.New.{newAccess}
-use Rattle.turns.specs.declared.Order.the-variants.{Leave, Stop, Run}
+use Rattle.turns.specs.declared.Order.the-variants.{Stop}
 use Rattle.turns.specs.declared.Turn.{Turn}
 use Rattle.turns.specs.declared.Row.{Row}
 use Rattle.turns.specs.declared.Row.the-variants.{CardBelow, CardLimit, CardProtected, Away, Home, Area, N1, Protocol, Other}
-use Rattle.turns.specs.Timers.{flagAfter, ordersOf, clocked}
-use Rattle.turns.specs.Rows.{needsEntry}
-use Rattle.record.specs.Setters.{moved, forgotten, emptied, counted, pending, keyed, taught, entered}
-use Rattle.turns.specs.Turns.{turnOf, rejected, still, started, keySet, accepted, failed, t3510Out, t3511Out, t3502Out, cycled, renewed, cardBelow, cardLimit, cardProtected, away, home, area, n1, rowTurn, otherTurn}
+use Rattle.turns.specs.Timers.{flagAfter, quiet, starting, answered, retrying, resting, t3511Stops, t3502Stops, halted, clocked}
+use Rattle.turns.specs.Words.{Text, says, asT3510Out, Words, Counter, kept, upByOne, toLimit, zeroed, Across, untouched, cardCounterToLimit, Timing, stopT3510, holds, counterAfter, stateAfter, ordersAfter, isMark, markIn, acrossOf, applied}
+use Rattle.turns.specs.Rejects.{rowText, needsEntry}
+use Rattle.record.specs.Setters.{inState, withStatus, withAttempts, forgotten, emptied, counted, pending, keyed, taught}
+use Rattle.turns.specs.Turns.{turnOf, still, started, keySet, accepted, failed, t3510Out, t3511Out, t3502Out, cycled, renewed, turned, rowTurn, otherTurned, otherTurn}
 use Rattle.validity.proofs.Bools.{either-first, more-fits}
 use Rattle.validity.proofs.Good.{Fit, Timely, Carded}
-use Rattle.validity.proofs.Setters.{grown, fit-moved, fit-forgotten, fit-emptied, fit-counted, fit-pending, fit-keyed, fit-taught, fit-entered, fit-clocked}
+use Rattle.validity.proofs.Setters.{grown, grown-fits, fit-state, fit-status, fit-attempts, fit-forgotten, fit-emptied, fit-counted, fit-pending, fit-keyed, fit-taught, fit-clocked}
 
 -- the access after its turn
 abbrev pub after : Turn → Access
@@ -36,24 +37,51 @@ pub record Turned (card limit m n : ℕ) (b : Access) : Type 0 where
   pub equivalents : b .equivalents ≤ m
   pub entries : b .entries ≡ n
 
+-- no word takes a counter above its limit
+counter-fits : (k : Counter) (w cause limit n : ℕ) → upTo limit n ≡ true → upTo limit (counterAfter k w cause limit n) ≡ true
+unfolding counterAfter
+counter-fits kept w cause limit n e = e
+counter-fits upByOne w cause limit n e = more-fits limit n e
+counter-fits toLimit w cause limit n e = le-leb limit limit (omega arith)
+counter-fits (zeroed x) w cause limit n e = elim (holds x w cause) as (λ b. upTo limit (cond b 0 n) ≡ true) [ true ↦ le-leb 0 limit (omega arith) | false ↦ e ]
+
+-- a text that has words of its own: a state and an update status
+data Proper (w : ℕ) : Text → Type 0 where
+  own : {t : Words} → upTo 6 (stateAfter (t .state) w) ≡ true → within 1 3 (t .status) ≡ true → Proper w (says t)
+  out : {n : Counter} → Proper w (asT3510Out n)
+
+-- "Every taken reject stops T3510."
+stops : (x : Timing) → ordersAfter x .t3510 ≡ Stop
+unfolding ordersAfter
+stops stopT3510 = refl
+
+six-or-two : (b : Bool) → upTo 6 (cond b 6 2) ≡ true
+six-or-two true = refl
+six-or-two false = refl
+
+row-proper : (r : Row) (w : ℕ) → Proper w (rowText r)
+unfolding rowText stateAfter
+row-proper CardBelow w = own refl refl
+row-proper CardLimit w = own refl refl
+row-proper CardProtected w = own refl refl
+row-proper Away w = own (six-or-two (eqb w 0)) refl
+row-proper Home w = own refl refl
+row-proper Area w = own refl refl
+row-proper N1 w = own refl refl
+row-proper Protocol w = out
+row-proper Other w = out
+
 module _ (card limit : ℕ) (a : Access) (g : Fit limit a) where
-  -- after "5U3, clear identity": the state and the attempt counter of the row
-  lost : (state attempts : ℕ) → upTo 6 state ≡ true → upTo 5 attempts ≡ true → Fit limit (forgotten (moved state 3 attempts a))
-  lost state attempts p q = fit-forgotten limit (moved state 3 attempts a) (fit-moved limit a g state 3 attempts p refl q)
-
-  lost-all : (state attempts : ℕ) → upTo 6 state ≡ true → upTo 5 attempts ≡ true → Fit limit (emptied (forgotten (moved state 3 attempts a)))
-  lost-all state attempts p q = fit-emptied limit (forgotten (moved state 3 attempts a)) (lost state attempts p q)
-
   -- the access that an event leaves alone, but for its card counter
   module _ (t : Timely a) (c : Carded card a) where
     pub still-turned : Turned card limit (a .equivalents) (a .entries) (after (still a))
     unfolding clocked flagAfter
-    still-turned = record { fit = fit-clocked limit a g (ordersOf Leave Leave Leave); timely = t; carded = c; equivalents = omega arith; entries = refl }
+    still-turned = record { fit = fit-clocked limit a g quiet; timely = t; carded = c; equivalents = omega arith; entries = refl }
 
     counted-turned : Turned card limit (a .equivalents) (a .entries) (after (still (counted limit a)))
     unfolding clocked flagAfter counted
     counted-turned = record {
-      fit = fit-clocked limit (counted limit a) (fit-counted limit a g limit (le-leb limit limit (omega arith))) (ordersOf Leave Leave Leave);
+      fit = fit-clocked limit (counted limit a) (fit-counted limit a g limit (le-leb limit limit (omega arith))) quiet;
       timely = t;
       carded = c;
       equivalents = omega arith;
@@ -63,41 +91,39 @@ module _ (card limit : ℕ) (a : Access) (g : Fit limit a) where
     pub key-turned : (set : ℕ) → upTo 7 set ≡ true → Turned card limit (a .equivalents) (a .entries) (after (keySet set a))
     unfolding keySet clocked flagAfter keyed
     key-turned set p =
-        record { fit = fit-clocked limit (keyed set a) (fit-keyed limit a g set p) (ordersOf Leave Leave Leave); timely = t; carded = c; equivalents = omega arith; entries = refl }
+        record { fit = fit-clocked limit (keyed set a) (fit-keyed limit a g set p) quiet; timely = t; carded = c; equivalents = omega arith; entries = refl }
 
     pub t3511-turned : Turned card limit (a .equivalents) (a .entries) (after (t3511Out a))
     unfolding t3511Out clocked flagAfter
-    t3511-turned = record { fit = fit-clocked limit a g (ordersOf Leave Stop Leave); timely = t; carded = c; equivalents = omega arith; entries = refl }
+    t3511-turned = record { fit = fit-clocked limit a g t3511Stops; timely = t; carded = c; equivalents = omega arith; entries = refl }
 
     pub t3502-turned : Turned card limit (a .equivalents) (a .entries) (after (t3502Out a))
-    unfolding t3502Out clocked flagAfter moved
+    unfolding t3502Out clocked flagAfter withAttempts
     t3502-turned = record {
-      fit = fit-clocked limit (moved (a .state) (a .status) 0 a) (fit-moved limit a g (a .state) (a .status) 0 (g .mode .0) (g .mode .1) refl) (ordersOf Leave Leave Stop);
+      fit = fit-clocked limit (withAttempts 0 a) (fit-attempts limit a g 0 refl) t3502Stops;
       timely = t;
       carded = c;
       equivalents = omega arith;
       entries = refl;
     }
 
+    across-turned : (o : Across) → Turned card limit (a .equivalents) (a .entries) (after (otherTurned o limit a))
+    unfolding otherTurned
+    across-turned untouched = still-turned
+    across-turned cardCounterToLimit = counted-turned
+
     pub other-turned : (r : Row) → Turned card limit (a .equivalents) (a .entries) (after (otherTurn r limit a))
     unfolding otherTurn
-    other-turned CardBelow = still-turned
-    other-turned CardLimit = still-turned
-    other-turned CardProtected = counted-turned
-    other-turned Away = still-turned
-    other-turned Home = still-turned
-    other-turned Area = still-turned
-    other-turned N1 = still-turned
-    other-turned Protocol = still-turned
-    other-turned Other = still-turned
+    other-turned r = across-turned (acrossOf (rowText r))
 
   -- state 1, and 0 with no card
   pub cycled-turned : isFlag card ≡ true → Turned card limit (a .equivalents) (a .entries) (after (cycled card a))
-  unfolding cycled clocked flagAfter moved
+  unfolding cycled clocked flagAfter withAttempts inState
   cycled-turned p = record {
-    fit = fit-clocked limit (moved (cond (eqb card 0) 0 1) (a .status) 0 a)
-        (fit-moved limit a g (cond (eqb card 0) 0 1) (a .status) 0 (elim (eqb card 0) as (λ b. upTo 6 (cond b 0 1) ≡ true) [ true ↦ refl | false ↦ refl ]) (g .mode .1) refl)
-        (ordersOf Stop Stop Stop);
+    fit = fit-clocked limit (withAttempts 0 (inState (cond (eqb card 0) 0 1) a))
+        (fit-attempts limit (inState (cond (eqb card 0) 0 1) a)
+        (fit-state limit a g (cond (eqb card 0) 0 1) (elim (eqb card 0) as (λ b. upTo 6 (cond b 0 1) ≡ true) [ true ↦ refl | false ↦ refl ])) 0 refl)
+        halted;
     timely = refl;
     carded = go (eqb card 0) refl;
     equivalents = omega arith;
@@ -111,21 +137,22 @@ module _ (card limit : ℕ) (a : Access) (g : Fit limit a) where
   -- a state above 0 wants a card
   module _ (h : eqb card 1 ≡ true) where
     pub started-turned : (net code : ℕ) → isNetwork net ≡ true → isShort code ≡ true → Turned card limit (a .equivalents) (a .entries) (after (started net code a))
-    unfolding started clocked flagAfter pending moved
+    unfolding started clocked flagAfter pending inState
     started-turned net code p q = record {
-      fit = fit-clocked limit (pending net code (moved 4 (a .status) (a .attempts) a))
-          (fit-pending limit (moved 4 (a .status) (a .attempts) a) (fit-moved limit a g 4 (a .status) (a .attempts) refl (g .mode .1) (g .mode .2)) net code p q)
-          (ordersOf (Run 15) Stop Stop);
+      fit = fit-clocked limit (pending net code (inState 4 a)) (fit-pending limit (inState 4 a) (fit-state limit a g 4 refl) net code p q) starting;
       timely = refl;
       carded = either-first (eqb card 1) false h;
       equivalents = omega arith;
       entries = refl;
     }
 
-    pub accepted-turned : (given : Bool) (count wait : ℕ) → upTo 15 count ≡ true → upTo 11160 wait ≡ true → Turned card limit count (a .entries) (after (accepted given count wait a))
-    unfolding accepted clocked flagAfter taught moved
-    accepted-turned given count wait p q = record {
-      fit = fit-clocked limit (taught given count wait (moved 5 1 0 a)) (fit-taught limit (moved 5 1 0 a) (fit-moved limit a g 5 1 0 refl refl refl) given count wait p q) (ordersOf Stop Leave Leave);
+    pub accepted-turned : (given : Bool) (count t3502length : ℕ) → upTo 15 count ≡ true → upTo 11160 t3502length ≡ true → Turned card limit count (a .entries) (after (accepted given count t3502length a))
+    unfolding accepted clocked flagAfter taught withAttempts withStatus inState
+    accepted-turned given count t3502length p q = record {
+      fit = fit-clocked limit (taught given count t3502length (withAttempts 0 (withStatus 1 (inState 5 a))))
+          (fit-taught limit (withAttempts 0 (withStatus 1 (inState 5 a)))
+          (fit-attempts limit (withStatus 1 (inState 5 a)) (fit-status limit (inState 5 a) (fit-state limit a g 5 refl) 1 refl) 0 refl) given count t3502length p q)
+          answered;
       timely = refl;
       carded = either-first (eqb card 1) false h;
       equivalents = omega arith;
@@ -133,17 +160,19 @@ module _ (card limit : ℕ) (a : Access) (g : Fit limit a) where
     }
 
     failed-turned : (n : ℕ) → upTo 5 n ≡ true → Turned card limit (a .equivalents) (a .entries) (after (failed n a))
-    unfolding failed clocked flagAfter emptied forgotten moved
+    unfolding failed clocked flagAfter emptied forgotten withStatus inState withAttempts
     failed-turned n p = elim (ltb n 5) as (λ b. Turned card limit (a .equivalents) (a .entries) (after (cond b below at))) [
       | true ↦ record {
-        fit = fit-clocked limit (moved 3 (a .status) n a) (fit-moved limit a g 3 (a .status) n refl (g .mode .1) p) (ordersOf Stop (Run 10) Leave);
+        fit = fit-clocked limit begun fits retrying;
         timely = refl;
         carded = either-first (eqb card 1) false h;
         equivalents = omega arith;
         entries = refl;
       }
       | false ↦ record {
-        fit = fit-clocked limit (emptied (forgotten (moved 3 2 n a))) (fit-emptied limit (forgotten (moved 3 2 n a)) (fit-forgotten limit (moved 3 2 n a) (fit-moved limit a g 3 2 n refl refl p))) (ordersOf Stop Leave (Run (a .wait)));
+        fit = fit-clocked limit (withStatus 2 (emptied (forgotten begun)))
+            (fit-status limit (emptied (forgotten begun)) (fit-emptied limit (forgotten begun) (fit-forgotten limit begun fits)) 2 refl)
+            (resting (a .t3502length));
         timely = refl;
         carded = either-first (eqb card 1) false h;
         equivalents = omega arith;
@@ -151,48 +180,58 @@ module _ (card limit : ℕ) (a : Access) (g : Fit limit a) where
       }
     ]
       where
+        begun : Access
+        begun = inState 3 (withAttempts n a)
+
+        fits : Fit limit begun
+        fits = fit-state limit (withAttempts n a) (fit-attempts limit a g n p) 3 refl
+
         below : Turn
-        below = turnOf (moved 3 (a .status) n a) (ordersOf Stop (Run 10) Leave)
+        below = turnOf begun retrying
 
         at : Turn
-        at = turnOf (emptied (forgotten (moved 3 2 n a))) (ordersOf Stop Leave (Run (a .wait)))
+        at = turnOf (withStatus 2 (emptied (forgotten begun))) (resting (a .t3502length))
 
     pub t3510-turned : Turned card limit (a .equivalents) (a .entries) (after (t3510Out a))
     unfolding t3510Out
     t3510-turned = failed-turned (oneMore 5 (a .attempts)) (more-fits 5 (a .attempts) (g .mode .2))
 
-    -- a taken reject stops T3510: what is left is that the access fits, has a state with this card, and its counts
-    rejected-turned : (m n : ℕ) (b : Access) → Fit limit b → b .equivalents ≤ m → b .entries ≡ n → Turned card limit m n (after (rejected b))
-    unfolding clocked flagAfter
-    rejected-turned m n b f p q =
-        record { fit = fit-clocked limit b f (ordersOf Stop Leave Leave); timely = refl; carded = either-first (eqb card 1) (eqb (b .state) 0) h; equivalents = p; entries = q }
+    -- a row's own words, where they are proper
+    words-turned : (t : Words) (w cause : ℕ) (found : Bool) → upTo 6 (stateAfter (t .state) w) ≡ true → within 1 3 (t .status) ≡ true
+        → Turned card limit (a .equivalents) (cond (isMark (t .mark)) (grown found (a .entries)) (a .entries)) (after (turnOf (applied t w cause limit found a) (ordersAfter (t .timers))))
+    unfolding applied clocked flagAfter
+    words-turned t w cause found p q = record {
+      fit = fit-clocked limit (applied t w cause limit found a) (record {
+        mode = (p, q, counter-fits (t .attemptCounter) w cause 5 (a .attempts) (g .mode .2));
+        flags = g .flags;
+        t3502length = g .t3502length;
+        pending = g .pending;
+        known = known (holds (t .clearIdentity) w cause);
+        cardcounter = counter-fits (t .cardCounter) w cause limit (a .cardcounter) (g .cardcounter);
+        equivalents = elim (holds (t .emptyEquivalents) w cause) as (λ b. upTo 15 (cond b 0 (a .equivalents)) ≡ true) [ true ↦ refl | false ↦ g .equivalents ];
+        entries = elim (isMark (t .mark)) as (λ b. upTo 16 (cond b (grown found (a .entries)) (a .entries)) ≡ true) [ true ↦ grown-fits found (a .entries) (g .entries) | false ↦ g .entries ];
+      }) (ordersAfter (t .timers));
+      timely = rw (stops (t .timers));
+      carded = either-first (eqb card 1) (eqb (stateAfter (t .state) w) 0) h;
+      equivalents = elim (holds (t .emptyEquivalents) w cause) as (λ b. cond b 0 (a .equivalents) ≤ a .equivalents) [ true ↦ omega arith | false ↦ omega arith ];
+      entries = refl;
+    }
+      where
+        known : (b : Bool)
+            → (isFlag (cond b 0 (a .guti)) ≡ true) × (isFlag (cond b 0 (a .visited)) ≡ true)
+            × (either (eqb (cond b 0 (a .visited)) 0) (both (isShort (a .lastnet)) (isShort (a .lastcode))) ≡ true) × (upTo 7 (cond b 7 (a .ksi)) ≡ true)
+        known true = (refl, refl, refl, refl)
+        known false = g .known
+
+    text-turned : (t : Text) (w cause : ℕ) (found : Bool) → Proper w t
+        → Turned card limit (a .equivalents) (cond (isMark (markIn t)) (grown found (a .entries)) (a .entries)) (after (turned t w limit cause found a))
+    unfolding turned markIn isMark
+    text-turned (says t) w cause found (own p q) = words-turned t w cause found p q
+    text-turned (asT3510Out n) w cause found out = failed-turned (counterAfter n w cause 5 (a .attempts)) (counter-fits n w cause 5 (a .attempts) (g .mode .2))
 
     pub row-turned : (r : Row) (w cause : ℕ) (found : Bool) → Turned card limit (a .equivalents) (cond (needsEntry r) (grown found (a .entries)) (a .entries)) (after (rowTurn r w limit cause found a))
-    unfolding rowTurn needsEntry cardBelow cardLimit cardProtected away home area n1 emptied forgotten moved counted entered
-    row-turned CardBelow w cause found = elim (eqb w 0) as (λ b. Turned card limit (a .equivalents) (a .entries) (after (cond b
-        (rejected (emptied (counted (oneMore limit (a .cards)) (forgotten (moved 2 3 0 a)))))
-        (rejected (counted (oneMore limit (a .cards)) (forgotten (moved 2 3 (a .attempts) a))))))) [
-          | true ↦ rejected-turned (a .equivalents) (a .entries) (emptied (counted (oneMore limit (a .cards)) (forgotten (moved 2 3 0 a))))
-              (fit-emptied limit (counted (oneMore limit (a .cards)) (forgotten (moved 2 3 0 a))) (fit-counted limit (forgotten (moved 2 3 0 a)) (lost 2 0 refl refl) (oneMore limit (a .cards)) (more-fits limit (a .cards) (g .cards)))) (omega arith) refl
-          | false ↦ rejected-turned (a .equivalents) (a .entries) (counted (oneMore limit (a .cards)) (forgotten (moved 2 3 (a .attempts) a)))
-              (fit-counted limit (forgotten (moved 2 3 (a .attempts) a)) (lost 2 (a .attempts) refl (g .mode .2)) (oneMore limit (a .cards)) (more-fits limit (a .cards) (g .cards))) (omega arith) refl
-        ]
-    row-turned CardLimit w cause found = rejected-turned (a .equivalents) (a .entries) (emptied (forgotten (moved 0 3 (a .attempts) a))) (lost-all 0 (a .attempts) refl (g .mode .2)) (omega arith) refl
-    row-turned CardProtected w cause found =
-        rejected-turned (a .equivalents) (a .entries) (counted limit (emptied (forgotten (moved 0 3 (a .attempts) a))))
-        (fit-counted limit (emptied (forgotten (moved 0 3 (a .attempts) a))) (lost-all 0 (a .attempts) refl (g .mode .2)) limit (le-leb limit limit (omega arith))) (omega arith) refl
-    row-turned Away w cause found =
-        rejected-turned (a .equivalents) (grown found (a .entries)) (entered found (emptied (forgotten (moved (cond (eqb w 0) 6 2) 3 0 a))))
-        (fit-entered limit (emptied (forgotten (moved (cond (eqb w 0) 6 2) 3 0 a)))
-        (lost-all (cond (eqb w 0) 6 2) 0 (elim (eqb w 0) as (λ b. upTo 6 (cond b 6 2) ≡ true) [ true ↦ refl | false ↦ refl ]) refl) found) (omega arith) refl
-    row-turned Home w cause found = rejected-turned (a .equivalents) (a .entries) (emptied (forgotten (moved 2 3 0 a))) (lost-all 2 0 refl refl) (omega arith) refl
-    row-turned Area w cause found = elim (eqb cause 13) as (λ b. Turned card limit (a .equivalents) (a .entries) (after (cond b (rejected (emptied (forgotten (moved 2 3 0 a)))) (rejected (forgotten (moved 2 3 0 a)))))) [
-      | true ↦ rejected-turned (a .equivalents) (a .entries) (emptied (forgotten (moved 2 3 0 a))) (lost-all 2 0 refl refl) (omega arith) refl
-      | false ↦ rejected-turned (a .equivalents) (a .entries) (forgotten (moved 2 3 0 a)) (lost 2 0 refl refl) (omega arith) refl
-    ]
-    row-turned N1 w cause found = rejected-turned (a .equivalents) (grown found (a .entries)) (entered found (forgotten (moved 2 3 0 a))) (fit-entered limit (forgotten (moved 2 3 0 a)) (lost 2 0 refl refl) found) (omega arith) refl
-    row-turned Protocol w cause found = failed-turned 5 refl
-    row-turned Other w cause found = t3510-turned
+    unfolding rowTurn needsEntry
+    row-turned r w cause found = text-turned (rowText r) w cause found (row-proper r w)
 
 -- a new record's access
 new-fits : (limit state : ℕ) → upTo 6 state ≡ true → Fit limit (newAccess state)
@@ -200,10 +239,10 @@ unfolding newAccess isNetwork
 new-fits limit state p = record {
   mode = (p, refl, refl);
   flags = (refl, refl, refl);
-  wait = refl;
+  t3502length = refl;
   pending = (refl, refl);
   known = (refl, refl, refl, refl);
-  cards = le-leb 0 limit (omega arith);
+  cardcounter = le-leb 0 limit (omega arith);
   equivalents = refl;
   entries = refl;
 }
@@ -212,4 +251,4 @@ new-fits limit state p = record {
 pub renewed-turned : (limit : ℕ) → Turned 1 limit 0 0 (after renewed)
 unfolding renewed newAccess clocked flagAfter
 renewed-turned limit =
-    record { fit = fit-clocked limit (newAccess 1) (new-fits limit 1 refl) (ordersOf Stop Stop Stop); timely = refl; carded = refl; equivalents = omega arith; entries = refl }
+    record { fit = fit-clocked limit (newAccess 1) (new-fits limit 1 refl) halted; timely = refl; carded = refl; equivalents = omega arith; entries = refl }

@@ -56,7 +56,7 @@ unfolding deviceRanges
 device-joined d e = joined (isFlag (d .card)) (deviceTests d) e
 
 abbrev modeTests : Access → List Bool
-modeTests a = within 1 3 (a .status) ∷ upTo 5 (a .attempts) ∷ isFlag (a .t3510) ∷ isFlag (a .t3511) ∷ isFlag (a .t3502) ∷ upTo 11160 (a .wait) ∷ []
+modeTests a = within 1 3 (a .status) ∷ upTo 5 (a .attempts) ∷ isFlag (a .t3510) ∷ isFlag (a .t3511) ∷ isFlag (a .t3502) ∷ upTo 11160 (a .t3502length) ∷ []
 
 abbrev identityTests : Access → List Bool
 identityTests a =
@@ -84,15 +84,15 @@ access-good d a equivalents t ranges counters carded net nets clock once =
     let m = holds (upTo 6 (a .state)) (modeTests a) (three .0) in
     let i = holds (isShort (a .code)) (identityTests a) (three .1 .0) in
     let h = holds (allTo isShort (a .equivalents) equivalents) (heldTests a t) (three .1 .1) in
-    let c = holds (upTo (d .cardlimit) (a .cards)) (counterTests d a t) counters in
+    let c = holds (upTo (d .cardlimit) (a .cardcounter)) (counterTests d a t) counters in
     record {
       fit = record {
         mode = (m .0, m .1 .0, m .1 .1 .0);
         flags = (m .1 .1 .1 .0, m .1 .1 .1 .1 .0, m .1 .1 .1 .1 .1 .0);
-        wait = m .1 .1 .1 .1 .1 .1;
+        t3502length = m .1 .1 .1 .1 .1 .1;
         pending = (net, i .0);
         known = (i .1 .0, i .1 .1 .0, i .1 .1 .1 .0, i .1 .1 .1 .1 .0);
-        cards = c .0;
+        cardcounter = c .0;
         equivalents = i .1 .1 .1 .1 .1 .0;
         entries = i .1 .1 .1 .1 .1 .1;
       };
@@ -112,7 +112,7 @@ access-good d a equivalents t ranges counters carded net nets clock once =
 access-ranges : (d : Device) (a : Access) (equivalents : List ℕ) (t : Entries) → Half d a equivalents t → accessRanges a equivalents t ≡ true
 unfolding accessRanges modeRanges identityRanges heldRanges
 access-ranges d a equivalents t g =
-    let m : Each (upTo 6 (a .state)) (modeTests a) = (g .fit .mode .0, (g .fit .mode .1, (g .fit .mode .2, (g .fit .flags .0, (g .fit .flags .1, (g .fit .flags .2, g .fit .wait)))))) in
+    let m : Each (upTo 6 (a .state)) (modeTests a) = (g .fit .mode .0, (g .fit .mode .1, (g .fit .mode .2, (g .fit .flags .0, (g .fit .flags .1, (g .fit .flags .2, g .fit .t3502length)))))) in
     let i : Each (isShort (a .code)) (identityTests a) = (g .fit .pending .1, (g .fit .known .0, (g .fit .known .1, (g .fit .known .2, (g .fit .known .3, (g .fit .equivalents, g .fit .entries)))))) in
     let h : Each (allTo isShort (a .equivalents) equivalents) (heldTests a t) = (of-all isShort (a .equivalents) equivalents (g .equals), (of-all isFlag (a .entries) (t .forbidden) (g .held .forbidden), of-all isFlag (a .entries) (t .barred) (g .held .barred))) in
     joined (modeRanges a) (identityRanges a ∷ heldRanges a equivalents t ∷ [])
@@ -121,8 +121,8 @@ access-ranges d a equivalents t g =
 access-counters : (d : Device) (a : Access) (equivalents : List ℕ) (t : Entries) → Half d a equivalents t → countersOf d a t ≡ true
 unfolding countersOf
 access-counters d a equivalents t g =
-    joined (upTo (d .cardlimit) (a .cards)) (counterTests d a t)
-    (g .fit .cards, (of-all (upTo (d .banlimit)) (a .entries) (t .bans) (g .held .bans), of-all (upTo (d .n1limit)) (a .entries) (t .n1s) (g .held .n1s)))
+    joined (upTo (d .cardlimit) (a .cardcounter)) (counterTests d a t)
+    (g .fit .cardcounter, (of-all (upTo (d .banlimit)) (a .entries) (t .bans) (g .held .bans), of-all (upTo (d .n1limit)) (a .entries) (t .n1s) (g .held .n1s)))
 
 -- "a state above 0 with no card", access by access
 card-each : (c p q : Bool) → either c (both p q) ≡ true → (either c p ≡ true) × (either c q ≡ true)

@@ -7,7 +7,7 @@ use Rattle.record.specs.declared.Answer.{Answer}
 use Rattle.record.specs.declared.Record.{Record}
 use Rattle.rules.specs.declared.Ask.{Ask}
 use Rattle.rules.specs.declared.Event.{Event}
-use Rattle.rules.specs.Plan.{heardOf, askOf, answerOf}
+use Rattle.rules.specs.Plan.{askOf, siteOf, answerOf}
 use Rattle.events.specs.Parts.{seenOf, listedOf}
 
 -- what the event asks about
@@ -19,7 +19,7 @@ abbrev pub seenAt : Record → Event → Seen
 seenAt r e = seenOf (askIn r e) (r .hot) (r .e0) (r .e1)
 
 abbrev pub listedAt : Record → Event → Bool
-listedAt r e = listedOf (askIn r e) (r .hot) (r .roaming) (r .regional)
+listedAt r e = listedOf (siteOf e) (r .hot) (r .roaming) (r .regional)
 
 unfoldable pub answeredBy : Record → Event → List ℕ → Answer
-answeredBy r e octets = answerOf (r .hot) e (seenAt r e) (listedAt r e) (heardOf e octets) octets
+answeredBy r e octets = answerOf (r .hot) e (seenAt r e) (listedAt r e) octets

@@ -3,3 +3,4 @@ pub mod Sized
 pub mod Answered
 pub mod Run
 pub mod Card
+pub mod Reject

@@ -32,7 +32,7 @@ element-write-list c = search needs
 returns : tie.Need-returns
 returns c =
     let a = c .before .before .before .before .before .before .before .args in
-    put-again (a .area) _ _ _ _ (c .before .before .before .before .before .before .size .ensures .0) (c .before .before .before .before .seek .ensures) (a .sure) _ _ (c .before .before .if1 .taken) (c .before .before .before .mark .ensures) (c .remark .ensures)
+    put-again (a .area) _ _ _ _ (c .before .before .before .before .before .before .size .ensures .0) (c .before .before .before .before .seek .ensures) (a .protected) _ _ (c .before .before .if1 .taken) (c .before .before .before .mark .ensures) (c .remark .ensures)
 
 mul-list-2 : tie.Need-mul-list-2
 mul-list-2 c = search needs
@@ -46,7 +46,7 @@ add-result c = search needs
 returns-2 : tie.Need-returns-2
 returns-2 c =
     let a = c .before .before .before .before .before .before .args in
-    put-behind (a .area) _ _ _ _ (c .before .before .before .before .before .size .ensures .0) (c .before .before .before .seek .ensures) (a .sure) _ (c .before .if1 .left) (c .if2 .taken) (c .before .before .mark .ensures)
+    put-behind (a .area) _ _ _ _ (c .before .before .before .before .before .size .ensures .0) (c .before .before .before .seek .ensures) (a .protected) _ (c .before .if1 .left) (c .if2 .taken) (c .before .before .mark .ensures)
 
 push-requires : tie.Need-push-requires
 push-requires c κs = search needs
@@ -54,7 +54,7 @@ push-requires c κs = search needs
 returns-3 : tie.Need-returns-3
 returns-3 c =
     let a = c .before .before .before .before .before .before .before .before .args in
-    put-full (a .area) _ _ _ _ (c .before .before .before .before .before .before .before .size .ensures .0) (c .before .before .before .before .before .seek .ensures) (a .sure) _ _ (c .before .before .before .if1 .left) (c .before .before .if2 .left) (c .before .before .before .before .mark .ensures) (c .push .ensures)
+    put-full (a .area) _ _ _ _ (c .before .before .before .before .before .before .before .size .ensures .0) (c .before .before .before .before .before .seek .ensures) (a .protected) _ _ (c .before .before .before .if1 .left) (c .before .before .if2 .left) (c .before .before .before .before .mark .ensures) (c .push .ensures)
 
 pub put-spec : {M : Type 1} → statement M
 put-spec =

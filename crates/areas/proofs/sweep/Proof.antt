@@ -4,7 +4,7 @@ use mathlib.Core.Path.{_≡_, sym, _∙_, refl}
 use mathlib.Core.Logic.{⊎-elim}
 use native.Mathlib.Omega.{arith}
 use borrow.Author.Needs.{needs}
-use Rattle.areas.specs.Areas.{isProtected, sizeOf, stayed, sweptList}
+use Rattle.areas.specs.Areas.{isProtected, areasHeld, stayed, sweptList}
 use Rattle.areas.proofs.Keep.{Kept, kept-none, kept-all, kept-more, kept-skip}
 use Rattle.areas.proofs.sweep.Statement.{statement}
 use Rattle.areas.proofs.sweep.Tie as tie
@@ -27,8 +27,8 @@ mul-x c = omega arith
 element-copy-out-x : tie.Need-element-copy-out-x Inv-loop μ-loop
 element-copy-out-x c = search needs
 
-protected-requires : tie.Need-protected-requires Inv-loop μ-loop
-protected-requires c κs = search needs
+is-protected-requires : tie.Need-is-protected-requires Inv-loop μ-loop
+is-protected-requires c κs = search needs
 
 mul-list : tie.Need-mul-list Inv-loop μ-loop
 mul-list c = omega arith
@@ -48,7 +48,7 @@ loop-less c = omega arith
 loop-again : tie.Need-loop-again Inv-loop μ-loop
 loop-again c =
     let l = c .before .before .before .before .loop in
-    let s = c .before .protected .ensures in
+    let s = c .before .is-protected .ensures in
     ⊎-elim
     (λ w. (search needs, omega (arith, w .2), kept-more isProtected _ (l .i) (l .j) (l .list) (l .inv .2) (l .inv .1) refl _ _ (sym s ∙ w .0 .taken) (w .2) (w .1)))
     (λ w. (search needs, omega (arith, w .2), kept-skip isProtected _ (l .i) (l .j) (l .list) (l .inv .2) (l .inv .1) _ _ (sym s ∙ w .0 .left) (w .2) (w .1)))
@@ -59,7 +59,7 @@ cast-result c = omega arith
 
 returns : tie.Need-returns Inv-loop μ-loop
 unfolding sweptList stayed
-returns c = let e : c .before .loop .i ≡ sizeOf (c .before .before .before .args .count) = omega (arith, c .before .before .size .ensures .0) in kept-all isProtected _ _ _ _ (rw e at (c .before .loop .inv .2))
+returns c = let e : c .before .loop .i ≡ areasHeld (c .before .before .before .args .count) = omega (arith, c .before .before .size .ensures .0) in kept-all isProtected _ _ _ _ (rw e at (c .before .loop .inv .2))
 
 pub sweep-spec : {M : Type 1} → statement M
 sweep-spec =
@@ -71,7 +71,7 @@ sweep-spec =
     loop-holds
     mul-x
     element-copy-out-x
-    protected-requires
+    is-protected-requires
     mul-list
     element-write-list
     add-j

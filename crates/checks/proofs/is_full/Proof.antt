@@ -13,9 +13,13 @@ not-requires c κs = search needs
 and-requires : tie.Need-and-requires
 and-requires c κs = search needs
 
+and-requires-2 : tie.Need-and-requires-2
+and-requires-2 c κs = search needs
+
 returns : tie.Need-returns
 unfolding isFull
-returns c = rw (c .and .ensures, c .before .not .ensures, c .before .before .before .needs-entry .ensures)
+returns c = rw (c .and2 .ensures, c .before .and .ensures, c .before .before .before .not .ensures, c .before .before .before .before .needs-entry .ensures)
 
 pub is-full-spec : {M : Type 1} → statement M
-is-full-spec = tie.close (tie.spec needs-entry-requires not-requires and-requires returns)
+is-full-spec =
+    tie.close (tie.spec needs-entry-requires not-requires and-requires and-requires-2 returns)

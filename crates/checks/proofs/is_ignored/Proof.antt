@@ -1,5 +1,5 @@
 -- The joins are those of the definition, in its order. Assumes nothing.
-use Rattle.checks.specs.Answers.{isIgnored}
+use Rattle.turns.specs.Rejects.{isIgnored}
 use borrow.Author.Needs.{needs}
 use Rattle.checks.proofs.is_ignored.Statement.{statement}
 use Rattle.checks.proofs.is_ignored.Tie as tie

@@ -1,10 +1,8 @@
--- Each test is what its function ensures, and the checks go in the order of the contract. Assumes nothing.
+-- Each test is what its function ensures, and the checks go in the order of the definition. Assumes nothing.
+use Rattle.checks.specs.Answers.{placeAnswer}
 use borrow.Author.Needs.{needs}
 use Rattle.checks.proofs.place_answer.Statement.{statement}
 use Rattle.checks.proofs.place_answer.Tie as tie
-
-and-requires : tie.Need-and-requires
-and-requires c κs = search needs
 
 not-requires : tie.Need-not-requires
 not-requires c κs = search needs
@@ -25,13 +23,13 @@ checks-requires : tie.Need-checks-requires
 checks-requires c κs = search needs
 
 returns : tie.Need-returns
-returns c = rw (c .checks .ensures, c .before .is-free .ensures, c .before .before .not2 .ensures, c .before .before .before .is-same .ensures, c .before .before .before .before .check .ensures, c .before .before .before .before .before .not .ensures, c .before .before .before .before .before .before .and .ensures)
+unfolding placeAnswer
+returns c = rw (c .checks .ensures, c .before .is-free .ensures, c .before .before .not2 .ensures, c .before .before .before .is-same .ensures, c .before .before .before .before .check .ensures, c .before .before .before .before .before .not .ensures)
 
 pub place-answer-spec : {M : Type 1} → statement M
 place-answer-spec =
     tie.close
     (tie.spec
-    and-requires
     not-requires
     check-requires
     is-same-requires

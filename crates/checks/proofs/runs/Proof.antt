@@ -1,4 +1,4 @@
--- Each test is what its function ensures, and the checks go in the order of the definition. Assumes nothing.
+-- The choices are those of the definition. Assumes nothing.
 use Rattle.checks.specs.Answers.{runs}
 use borrow.Author.Needs.{needs}
 use Rattle.checks.proofs.runs.Statement.{statement}
@@ -7,19 +7,20 @@ use Rattle.checks.proofs.runs.Tie as tie
 access-of-requires : tie.Need-access-of-requires
 access-of-requires c κs = search needs
 
+is-device-timer-requires : tie.Need-is-device-timer-requires
+is-device-timer-requires c κs = search needs
+
+runs-on-requires : tie.Need-runs-on-requires
+runs-on-requires c κs = search needs
+
 pick-requires : tie.Need-pick-requires
 pick-requires c κs = search needs
 
-pick-requires-2 : tie.Need-pick-requires-2
-pick-requires-2 c κs = search needs
-
-pick-requires-3 : tie.Need-pick-requires-3
-pick-requires-3 c κs = search needs
-
 returns : tie.Need-returns
 unfolding runs
-returns c = rw (c .pick3 .ensures, c .before .pick2 .ensures, c .before .before .pick .ensures, c .before .before .before .access-of .ensures)
+returns c = rw (c .pick .ensures, c .before .runs-on .ensures, c .before .before .is-device-timer .ensures, c .before .before .before .access-of .ensures)
 
 pub runs-spec : {M : Type 1} → statement M
 runs-spec =
-    tie.close (tie.spec access-of-requires pick-requires pick-requires-2 pick-requires-3 returns)
+    tie.close
+    (tie.spec access-of-requires is-device-timer-requires runs-on-requires pick-requires returns)

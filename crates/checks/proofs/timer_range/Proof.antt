@@ -4,6 +4,12 @@ use borrow.Author.Needs.{needs}
 use Rattle.checks.proofs.timer_range.Statement.{statement}
 use Rattle.checks.proofs.timer_range.Tie as tie
 
+is-device-timer-requires : tie.Need-is-device-timer-requires
+is-device-timer-requires c κs = search needs
+
+not-requires : tie.Need-not-requires
+not-requires c κs = search needs
+
 or-requires : tie.Need-or-requires
 or-requires c κs = search needs
 
@@ -18,8 +24,16 @@ and-requires-3 c κs = search needs
 
 returns : tie.Need-returns
 unfolding timerRange
-returns c = rw (c .and3 .ensures, c .before .and2 .ensures, c .before .before .and .ensures, c .before .before .before .or .ensures)
+returns c = rw (c .and3 .ensures, c .before .and2 .ensures, c .before .before .and .ensures, c .before .before .before .or .ensures, c .before .before .before .before .not .ensures, c .before .before .before .before .before .is-device-timer .ensures)
 
 pub timer-range-spec : {M : Type 1} → statement M
 timer-range-spec =
-    tie.close (tie.spec or-requires and-requires and-requires-2 and-requires-3 returns)
+    tie.close
+    (tie.spec
+    is-device-timer-requires
+    not-requires
+    or-requires
+    and-requires
+    and-requires-2
+    and-requires-3
+    returns)

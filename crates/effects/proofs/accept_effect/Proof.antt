@@ -4,11 +4,14 @@ use borrow.Author.Needs.{needs}
 use Rattle.effects.proofs.accept_effect.Statement.{statement}
 use Rattle.effects.proofs.accept_effect.Tie as tie
 
-wait-of-requires : tie.Need-wait-of-requires
-wait-of-requires c κs = search needs
-
 access-of-requires : tie.Need-access-of-requires
 access-of-requires c κs = search needs
+
+length-of-requires : tie.Need-length-of-requires
+length-of-requires c κs = search needs
+
+access-of-requires-2 : tie.Need-access-of-requires-2
+access-of-requires-2 c κs = search needs
 
 accepted-requires : tie.Need-accepted-requires
 accepted-requires c κs = search needs
@@ -19,8 +22,8 @@ other-of-requires c κs = search needs
 still-requires : tie.Need-still-requires
 still-requires c κs = search needs
 
-work-of-requires : tie.Need-work-of-requires
-work-of-requires c κs = search needs
+seat-of-requires : tie.Need-seat-of-requires
+seat-of-requires c κs = search needs
 
 side-requires : tie.Need-side-requires
 side-requires c κs = search needs
@@ -30,18 +33,19 @@ side-requires-2 c κs = search needs
 
 returns : tie.Need-returns
 unfolding sidesOf acceptEffect
-returns c = rw (c .side2 .ensures, c .before .side .ensures, c .before .before .work-of .ensures, c .before .before .before .still .ensures, c .before .before .before .before .other-of .ensures, c .before .before .before .before .before .accepted .ensures, c .before .before .before .before .before .before .access-of .ensures, c .before .before .before .before .before .before .before .wait-of .ensures)
+returns c = rw (c .side2 .ensures, c .before .side .ensures, c .before .before .seat-of .ensures, c .before .before .before .still .ensures, c .before .before .before .before .other-of .ensures, c .before .before .before .before .before .accepted .ensures, c .before .before .before .before .before .before .access-of2 .ensures, c .before .before .before .before .before .before .before .length-of .ensures, c .before .before .before .before .before .before .before .before .access-of .ensures)
 
 pub accept-effect-spec : {M : Type 1} → statement M
 accept-effect-spec =
     tie.close
     (tie.spec
-    wait-of-requires
     access-of-requires
+    length-of-requires
+    access-of-requires-2
     accepted-requires
     other-of-requires
     still-requires
-    work-of-requires
+    seat-of-requires
     side-requires
     side-requires-2
     returns)

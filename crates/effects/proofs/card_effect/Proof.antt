@@ -10,12 +10,12 @@ carded-requires c κs = search needs
 renewed-requires : tie.Need-renewed-requires
 renewed-requires c κs = search needs
 
-work-of-requires : tie.Need-work-of-requires
-work-of-requires c κs = search needs
+on-both-requires : tie.Need-on-both-requires
+on-both-requires c κs = search needs
 
 returns : tie.Need-returns
 unfolding sidesOf cardEffect
-returns c = rw (c .work-of .ensures, c .before .renewed .ensures, c .before .before .carded .ensures)
+returns c = rw (c .on-both .ensures, c .before .renewed .ensures, c .before .before .carded .ensures)
 
 pub card-effect-spec : {M : Type 1} → statement M
-card-effect-spec = tie.close (tie.spec carded-requires renewed-requires work-of-requires returns)
+card-effect-spec = tie.close (tie.spec carded-requires renewed-requires on-both-requires returns)

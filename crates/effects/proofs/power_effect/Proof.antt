@@ -10,12 +10,12 @@ cycled-requires c κs = search needs
 cycled-requires-2 : tie.Need-cycled-requires-2
 cycled-requires-2 c κs = search needs
 
-work-of-requires : tie.Need-work-of-requires
-work-of-requires c κs = search needs
+on-both-requires : tie.Need-on-both-requires
+on-both-requires c κs = search needs
 
 returns : tie.Need-returns
 unfolding sidesOf powerEffect
-returns c = rw (c .work-of .ensures, c .before .cycled2 .ensures, c .before .before .cycled .ensures)
+returns c = rw (c .on-both .ensures, c .before .cycled2 .ensures, c .before .before .cycled .ensures)
 
 pub power-effect-spec : {M : Type 1} → statement M
-power-effect-spec = tie.close (tie.spec cycled-requires cycled-requires-2 work-of-requires returns)
+power-effect-spec = tie.close (tie.spec cycled-requires cycled-requires-2 on-both-requires returns)

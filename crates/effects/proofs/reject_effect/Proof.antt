@@ -19,6 +19,9 @@ other-turn-requires c κs = search needs
 reject-t3247-requires : tie.Need-reject-t3247-requires
 reject-t3247-requires c κs = search needs
 
+access-of-requires-2 : tie.Need-access-of-requires-2
+access-of-requires-2 c κs = search needs
+
 row-work-requires : tie.Need-row-work-requires
 row-work-requires c κs = search needs
 
@@ -30,7 +33,7 @@ side-requires-2 c κs = search needs
 
 returns : tie.Need-returns
 unfolding sidesOf rejectEffect
-returns c = rw (c .side2 .ensures, c .before .side .ensures, c .before .before .row-work .ensures, c .before .before .before .reject-t3247 .ensures, c .before .before .before .before .other-turn .ensures, c .before .before .before .before .before .other-of .ensures, c .before .before .before .before .before .before .row-turn .ensures, c .before .before .before .before .before .before .before .access-of .ensures)
+returns c = rw (c .side2 .ensures, c .before .side .ensures, c .before .before .row-work .ensures, c .before .before .before .access-of2 .ensures, c .before .before .before .before .reject-t3247 .ensures, c .before .before .before .before .before .other-turn .ensures, c .before .before .before .before .before .before .other-of .ensures, c .before .before .before .before .before .before .before .row-turn .ensures, c .before .before .before .before .before .before .before .before .access-of .ensures)
 
 pub reject-effect-spec : {M : Type 1} → statement M
 reject-effect-spec =
@@ -41,6 +44,7 @@ reject-effect-spec =
     other-of-requires
     other-turn-requires
     reject-t3247-requires
+    access-of-requires-2
     row-work-requires
     side-requires
     side-requires-2

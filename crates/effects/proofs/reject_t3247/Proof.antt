@@ -1,5 +1,5 @@
 -- Each part is what its function ensures. Assumes nothing.
-use Rattle.effects.specs.Effects.{rejectT3247}
+use Rattle.turns.specs.Rejects.{rejectT3247}
 use borrow.Author.Needs.{needs}
 use Rattle.effects.proofs.reject_t3247.Statement.{statement}
 use Rattle.effects.proofs.reject_t3247.Tie as tie

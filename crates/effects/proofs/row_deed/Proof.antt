@@ -1,5 +1,7 @@
--- Row by row, as the definition. Assumes nothing.
-use Rattle.effects.specs.Effects.{rowDeed}
+-- Row by row, as its text. Assumes nothing.
+use Rattle.turns.specs.Words.{markIn}
+use Rattle.turns.specs.Rejects.{rowText}
+use Rattle.effects.specs.Effects.{markDeed, rowDeed}
 use borrow.Author.Needs.{needs}
 use Rattle.effects.proofs.row_deed.Statement.{statement}
 use Rattle.effects.proofs.row_deed.Tie as tie
@@ -32,39 +34,39 @@ enum-told-9 : tie.Need-enum-told-9
 enum-told-9 c = search needs
 
 returns : tie.Need-returns
-unfolding rowDeed
+unfolding rowDeed markDeed rowText markIn
 returns c = rw (c .enum-told .given .1)
 
 returns-2 : tie.Need-returns-2
-unfolding rowDeed
+unfolding rowDeed markDeed rowText markIn
 returns-2 c = rw (c .enum-told2 .given .1)
 
 returns-3 : tie.Need-returns-3
-unfolding rowDeed
+unfolding rowDeed markDeed rowText markIn
 returns-3 c = rw (c .enum-told3 .given .1)
 
 returns-4 : tie.Need-returns-4
-unfolding rowDeed
+unfolding rowDeed markDeed rowText markIn
 returns-4 c = rw (c .enum-told4 .given .1)
 
 returns-5 : tie.Need-returns-5
-unfolding rowDeed
+unfolding rowDeed markDeed rowText markIn
 returns-5 c = rw (c .enum-told5 .given .1)
 
 returns-6 : tie.Need-returns-6
-unfolding rowDeed
+unfolding rowDeed markDeed rowText markIn
 returns-6 c = rw (c .enum-told6 .given .1)
 
 returns-7 : tie.Need-returns-7
-unfolding rowDeed
+unfolding rowDeed markDeed rowText markIn
 returns-7 c = rw (c .enum-told7 .given .1)
 
 returns-8 : tie.Need-returns-8
-unfolding rowDeed
+unfolding rowDeed markDeed rowText markIn
 returns-8 c = rw (c .enum-told8 .given .1)
 
 returns-9 : tie.Need-returns-9
-unfolding rowDeed
+unfolding rowDeed markDeed rowText markIn
 returns-9 c = rw (c .enum-told9 .given .1)
 
 pub row-deed-spec : {M : Type 1} → statement M

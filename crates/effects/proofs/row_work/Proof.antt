@@ -4,36 +4,36 @@ use borrow.Author.Needs.{needs}
 use Rattle.effects.proofs.row_work.Statement.{statement}
 use Rattle.effects.proofs.row_work.Tie as tie
 
-to-roaming-requires : tie.Need-to-roaming-requires
-to-roaming-requires c κs = search needs
-
-pick-requires : tie.Need-pick-requires
-pick-requires c κs = search needs
-
-to-regional-requires : tie.Need-to-regional-requires
-to-regional-requires c κs = search needs
-
-pick-requires-2 : tie.Need-pick-requires-2
-pick-requires-2 c κs = search needs
+seat-of-requires : tie.Need-seat-of-requires
+seat-of-requires c κs = search needs
 
 row-deed-requires : tie.Need-row-deed-requires
 row-deed-requires c κs = search needs
 
-work-of-requires : tie.Need-work-of-requires
-work-of-requires c κs = search needs
+to-roaming-requires : tie.Need-to-roaming-requires
+to-roaming-requires c κs = search needs
+
+put-if-requires : tie.Need-put-if-requires
+put-if-requires c κs = search needs
+
+to-regional-requires : tie.Need-to-regional-requires
+to-regional-requires c κs = search needs
+
+put-if-requires-2 : tie.Need-put-if-requires-2
+put-if-requires-2 c κs = search needs
 
 returns : tie.Need-returns
 unfolding rowWork
-returns c = rw (c .work-of .ensures, c .before .row-deed .ensures, c .before .before .pick2 .ensures, c .before .before .before .to-regional .ensures, c .before .before .before .before .pick .ensures, c .before .before .before .before .before .to-roaming .ensures)
+returns c = rw (c .put-if2 .ensures, c .before .to-regional .ensures, c .before .before .put-if .ensures, c .before .before .before .to-roaming .ensures, c .before .before .before .before .row-deed .ensures, c .before .before .before .before .before .seat-of .ensures)
 
 pub row-work-spec : {M : Type 1} → statement M
 row-work-spec =
     tie.close
     (tie.spec
-    to-roaming-requires
-    pick-requires
-    to-regional-requires
-    pick-requires-2
+    seat-of-requires
     row-deed-requires
-    work-of-requires
+    to-roaming-requires
+    put-if-requires
+    to-regional-requires
+    put-if-requires-2
     returns)

@@ -16,8 +16,8 @@ other-of-requires c κs = search needs
 still-requires-2 : tie.Need-still-requires-2
 still-requires-2 c κs = search needs
 
-work-of-requires : tie.Need-work-of-requires
-work-of-requires c κs = search needs
+on-both-requires : tie.Need-on-both-requires
+on-both-requires c κs = search needs
 
 side-requires : tie.Need-side-requires
 side-requires c κs = search needs
@@ -27,7 +27,17 @@ side-requires-2 c κs = search needs
 
 returns : tie.Need-returns
 unfolding sidesOf t3247Effect
-returns c = rw (c .side2 .ensures, c .before .side .ensures, c .before .before .work-of .ensures, c .before .before .before .still2 .ensures, c .before .before .before .before .other-of .ensures, c .before .before .before .before .before .still .ensures, c .before .before .before .before .before .before .access-of .ensures)
+returns c = rw (c .side2 .ensures, c .before .side .ensures, c .before .before .on-both .ensures, c .before .before .before .still2 .ensures, c .before .before .before .before .other-of .ensures, c .before .before .before .before .before .still .ensures, c .before .before .before .before .before .before .access-of .ensures)
 
 pub t3247-effect-spec : {M : Type 1} → statement M
-t3247-effect-spec = tie.close (tie.spec access-of-requires still-requires other-of-requires still-requires-2 work-of-requires side-requires side-requires-2 returns)
+t3247-effect-spec =
+    tie.close
+    (tie.spec
+    access-of-requires
+    still-requires
+    other-of-requires
+    still-requires-2
+    on-both-requires
+    side-requires
+    side-requires-2
+    returns)

@@ -1,5 +1,5 @@
 -- `look` meets its contract: the place found, and the marks that stand there.
-use Rattle.entries.specs.Entries.{seenIn, placeIn}
+use Rattle.entries.specs.Entries.{seenIn, hasEntry, placeIn}
 use borrow.Author.Needs.{needs}
 use Rattle.entries.proofs.look.Statement.{statement}
 use Rattle.entries.proofs.look.Tie as tie
@@ -17,7 +17,7 @@ peek-requires-2 : tie.Need-peek-requires-2
 peek-requires-2 c κs = search needs
 
 returns : tie.Need-returns
-unfolding seenIn placeIn
+unfolding seenIn hasEntry placeIn
 returns c = rw (c .peek2 .ensures, c .before .peek .ensures, c .before .before .find .ensures, c .before .before .before .size .ensures .0)
 
 pub look-spec : {M : Type 1} → statement M

@@ -1,79 +1,98 @@
--- `tend` meets its contract: the kind picks the definition, and the callee's contract is that definition.
-use borrow.Author.Needs.{needs}
-use borrow.Author.Tests.{eq-eqb, ne-eqb}
-use Rattle.entries.specs.Entries.{accepted, swept, cycled, entriesAfter}
+-- `tend` meets its contract: the deed picks the definition, and the callee's contract is that definition. Assumes nothing.
+use Rattle.entries.specs.Entries.{unforbidden, swept, powered, entriesAfter}
 use Rattle.entries.proofs.Laws.{turn}
+use borrow.Author.Needs.{needs}
 use Rattle.entries.proofs.tend.Statement.{statement}
 use Rattle.entries.proofs.tend.Tie as tie
+
+enum-told : tie.Need-enum-told
+enum-told c = search needs
+
+enum-known-k : tie.Need-enum-known-k
+enum-known-k c = search needs
 
 strike-requires : tie.Need-strike-requires
 strike-requires c κs = search needs
 
-returns : tie.Need-returns
-unfolding entriesAfter
-returns c = rw (eq-eqb _ _ (c .before .before .before .before .before .before .if1 .taken)) (c .strike .ensures)
+enum-known-k-2 : tie.Need-enum-known-k-2
+enum-known-k-2 c = search needs
 
 strike-requires-2 : tie.Need-strike-requires-2
 strike-requires-2 c κs = search needs
 
-returns-2 : tie.Need-returns-2
-unfolding entriesAfter
-returns-2 c = rw (ne-eqb _ _ (c .before .before .before .before .before .before .before .before .if1 .left), eq-eqb _ _ (c .before .before .before .before .before .before .if2 .taken)) (turn _ _ _ _ (c .strike2 .ensures))
+enum-known-k-3 : tie.Need-enum-known-k-3
+enum-known-k-3 c = search needs
 
 clear-requires : tie.Need-clear-requires
 clear-requires c κs = search needs
 
-returns-3 : tie.Need-returns-3
-unfolding entriesAfter accepted
-returns-3 c = rw (c .before .before .if3 .taken, c .clear .ensures)
+enum-told-2 : tie.Need-enum-told-2
+enum-told-2 c = search needs
 
 sweep-both-requires : tie.Need-sweep-both-requires
 sweep-both-requires c κs = search needs
 
-returns-4 : tie.Need-returns-4
-unfolding entriesAfter swept
-returns-4 c = rw (c .before .before .before .before .before .if4 .taken, c .sweep-both .ensures .0, c .sweep-both .ensures .1)
+enum-told-3 : tie.Need-enum-told-3
+enum-told-3 c = search needs
 
 cycle-requires : tie.Need-cycle-requires
 cycle-requires c κs = search needs
 
-returns-5 : tie.Need-returns-5
-unfolding entriesAfter cycled
-returns-5 c = rw (c .before .before .before .before .if5 .taken, c .cycle .ensures .0, c .cycle .ensures .1)
+enum-told-4 : tie.Need-enum-told-4
+enum-told-4 c = search needs
 
 wipe-requires : tie.Need-wipe-requires
 wipe-requires c κs = search needs
 
-returns-6 : tie.Need-returns-6
+returns : tie.Need-returns
 unfolding entriesAfter
-returns-6 c = rw (c .before .before .before .before .before .before .if6 .taken) (c .wipe .ensures)
+returns c = rw (c .enum-told .given .1)
+
+returns-2 : tie.Need-returns-2
+unfolding entriesAfter
+returns-2 c = rw (c .before .before .before .before .before .before .before .k .given .1) (c .strike .ensures)
+
+returns-3 : tie.Need-returns-3
+unfolding entriesAfter
+returns-3 c = rw (c .before .before .before .before .before .before .before .k2 .given .1) (turn _ _ _ _ (c .strike2 .ensures))
+
+returns-4 : tie.Need-returns-4
+unfolding entriesAfter unforbidden
+returns-4 c = rw (c .before .before .before .k3 .given .1, c .clear .ensures)
+
+returns-5 : tie.Need-returns-5
+unfolding entriesAfter swept
+returns-5 c = rw (c .before .before .before .before .before .enum-told2 .given .1, c .sweep-both .ensures .0, c .sweep-both .ensures .1)
+
+returns-6 : tie.Need-returns-6
+unfolding entriesAfter powered
+returns-6 c = rw (c .before .before .before .before .enum-told3 .given .1, c .cycle .ensures .0, c .cycle .ensures .1)
 
 returns-7 : tie.Need-returns-7
 unfolding entriesAfter
-returns-7 c =
-    rw (
-      ne-eqb _ _ (c .before .before .before .before .before .before .before .before .before .before .if1 .left),
-      ne-eqb _ _ (c .before .before .before .before .before .before .before .before .if2 .left),
-      ne-eqb _ _ (c .before .before .before .before .before .before .if3 .left),
-      ne-eqb _ _ (c .before .before .before .before .if4 .left),
-      ne-eqb _ _ (c .before .before .if5 .left),
-      ne-eqb _ _ (c .if6 .left),
-    )
+returns-7 c = rw (c .before .before .before .before .before .before .enum-told4 .given .1) (c .wipe .ensures)
 
 pub tend-spec : {M : Type 1} → statement M
 tend-spec =
     tie.close
     (tie.spec
+    enum-told
+    enum-known-k
     strike-requires
-    returns
+    enum-known-k-2
     strike-requires-2
-    returns-2
+    enum-known-k-3
     clear-requires
-    returns-3
+    enum-told-2
     sweep-both-requires
-    returns-4
+    enum-told-3
     cycle-requires
-    returns-5
+    enum-told-4
     wipe-requires
+    returns
+    returns-2
+    returns-3
+    returns-4
+    returns-5
     returns-6
     returns-7)

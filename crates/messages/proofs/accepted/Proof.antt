@@ -10,8 +10,8 @@ guti-requires c κs = search needs
 count-requires : tie.Need-count-requires
 count-requires c κs = search needs
 
-wait-requires : tie.Need-wait-requires
-wait-requires c κs = search needs
+t3502-requires : tie.Need-t3502-requires
+t3502-requires c κs = search needs
 
 octet-requires : tie.Need-octet-requires
 octet-requires c κs = search needs
@@ -27,7 +27,7 @@ seconds-requires c κs = search needs
 
 returns : tie.Need-returns
 unfolding acceptOf tripletsOf
-returns c = cc
+returns c = λ l e f g. cc
 
 pub accepted-spec : {M : Type 1} → statement M
 accepted-spec =
@@ -35,7 +35,7 @@ accepted-spec =
     (tie.spec
     guti-requires
     count-requires
-    wait-requires
+    t3502-requires
     octet-requires
     place-requires
     timed-requires

@@ -1,7 +1,7 @@
 -- `messages::read_accept` meets its contract: each return rewrites by the tests that led to it. Assumes nothing.
 use borrow.Author.Tests.{lt-ltb, le-ltb, eq-eqb, ne-eqb}
 use borrow.Author.Needs.{needs}
-use Rattle.messages.specs.Message.{acceptReading, acceptedOf}
+use Rattle.messages.specs.Message.{acceptReading}
 use Rattle.messages.proofs.read_accept.Statement.{statement}
 use Rattle.messages.proofs.read_accept.Tie as tie
 
@@ -26,28 +26,15 @@ returns-3 : tie.Need-returns-3
 unfolding acceptReading
 returns-3 c = rw (lt-ltb _ _ (c .before .before .before .before .if1 .left), ← c .before .before .wide .ensures .0, ne-eqb _ _ (c .before .if2 .left), lt-ltb _ _ (c .if3 .taken))
 
-add-gather : tie.Need-add-gather
-add-gather c = search needs
+add-read-elements : tie.Need-add-read-elements
+add-read-elements c = search needs
 
-gather-requires : tie.Need-gather-requires
-gather-requires c κs = search needs
-
-enum-known-f : tie.Need-enum-known-f
-enum-known-f c = search needs
-
-enum-known-p : tie.Need-enum-known-p
-enum-known-p c = search needs
-
-accepted-requires : tie.Need-accepted-requires
-accepted-requires c κs = search needs
+read-elements-requires : tie.Need-read-elements-requires
+read-elements-requires c κs = search needs
 
 returns-4 : tie.Need-returns-4
-unfolding acceptReading acceptedOf
-returns-4 c = rw (lt-ltb _ _ (c .before .before .before .before .before .before .before .before .if1 .left), ← c .before .before .before .before .before .before .wide .ensures .0, ne-eqb _ _ (c .before .before .before .before .before .if2 .left), le-ltb _ _ (c .before .before .before .before .if3 .left), ← c .before .before .before .gather .ensures, c .before .f .given .1)
-
-returns-5 : tie.Need-returns-5
-unfolding acceptReading acceptedOf
-returns-5 c = rw (lt-ltb _ _ (c .before .before .before .before .before .before .before .before .before .if1 .left), ← c .before .before .before .before .before .before .before .wide .ensures .0, ne-eqb _ _ (c .before .before .before .before .before .before .if2 .left), le-ltb _ _ (c .before .before .before .before .before .if3 .left), ← c .before .before .before .before .gather .ensures, c .before .before .p .given .1, c .accepted .ensures)
+unfolding acceptReading
+returns-4 c = rw (lt-ltb _ _ (c .before .before .before .before .before .if1 .left), ← c .before .before .before .wide .ensures .0, ne-eqb _ _ (c .before .before .if2 .left), le-ltb _ _ (c .before .if3 .left)) (c .read-elements .ensures)
 
 pub read-accept-spec : {M : Type 1} → statement M
 read-accept-spec =
@@ -59,10 +46,6 @@ read-accept-spec =
     returns-2
     add-if3
     returns-3
-    add-gather
-    gather-requires
-    enum-known-f
-    enum-known-p
-    accepted-requires
-    returns-4
-    returns-5)
+    add-read-elements
+    read-elements-requires
+    returns-4)

@@ -1,13 +1,12 @@
--- `octets::contents` meets its contract: each return is the case of the definition that its tests lead to.
+-- `octets::contents` meets its contract: each return is the case of the definition that its tests lead to. Assumes nothing.
 use borrow.Author.Needs.{needs}
 use borrow.Author.Tests.{eq-eqb, ne-eqb}
-use Rattle.octets.specs.Element.{contentsOf}
+use Rattle.octets.proofs.Codes.{contents-coded}
 use Rattle.octets.proofs.contents.Statement.{statement}
 use Rattle.octets.proofs.contents.Tie as tie
 
 returns : tie.Need-returns
-unfolding contentsOf
-returns c = (λ i e. simp (← e, eq-eqb _ _ (c .if1 .taken)), search needs)
+returns c = (λ f e. simp (contents-coded, ← e, eq-eqb _ _ (c .if1 .taken)), search needs)
 
 octet-requires : tie.Need-octet-requires
 octet-requires c κs = search needs
@@ -22,20 +21,16 @@ add-result : tie.Need-add-result
 add-result c = search needs
 
 returns-2 : tie.Need-returns-2
-unfolding contentsOf
-returns-2 c = (λ i e. simp (← e, ne-eqb _ _ (c .before .before .before .if1 .left), eq-eqb _ _ (c .before .if2 .taken), ← c .before .before .octet .ensures .0, ← c .octet2 .ensures .0), search needs)
+returns-2 c = (λ f e. simp (contents-coded, ← e, ne-eqb _ _ (c .before .before .before .if1 .left), eq-eqb _ _ (c .before .if2 .taken), ← c .before .before .octet .ensures .0, ← c .octet2 .ensures .0), search needs)
 
 returns-3 : tie.Need-returns-3
-unfolding contentsOf
-returns-3 c = (λ i e. simp (← e, ne-eqb _ _ (c .before .before .before .before .if1 .left), ne-eqb _ _ (c .before .before .if2 .left), eq-eqb _ _ (c .before .if3 .taken), c .if4 .taken), search needs)
+returns-3 c = (λ f e. simp (contents-coded, ← e, ne-eqb _ _ (c .before .before .before .before .if1 .left), ne-eqb _ _ (c .before .before .if2 .left), eq-eqb _ _ (c .before .if3 .taken), c .if4 .taken), search needs)
 
 returns-4 : tie.Need-returns-4
-unfolding contentsOf
-returns-4 c = (λ i e. simp (← e, ne-eqb _ _ (c .before .before .before .before .if1 .left), ne-eqb _ _ (c .before .before .if2 .left), eq-eqb _ _ (c .before .if3 .taken), c .if4 .left, ← c .before .before .before .octet .ensures .0), search needs)
+returns-4 c = (λ f e. simp (contents-coded, ← e, ne-eqb _ _ (c .before .before .before .before .if1 .left), ne-eqb _ _ (c .before .before .if2 .left), eq-eqb _ _ (c .before .if3 .taken), c .if4 .left, ← c .before .before .before .octet .ensures .0), search needs)
 
 returns-5 : tie.Need-returns-5
-unfolding contentsOf
-returns-5 c = (λ i e. simp (← e, ne-eqb _ _ (c .before .before .before .if1 .left), ne-eqb _ _ (c .before .if2 .left), ne-eqb _ _ (c .if3 .left), ← c .before .before .octet .ensures .0), search needs)
+returns-5 c = (λ f e. simp (contents-coded, ← e, ne-eqb _ _ (c .before .before .before .if1 .left), ne-eqb _ _ (c .before .if2 .left), ne-eqb _ _ (c .if3 .left), ← c .before .before .octet .ensures .0), search needs)
 
 pub contents-spec : {M : Type 1} → statement M
 contents-spec =

@@ -1,4 +1,4 @@
--- `octets::element_at` meets its contract: one law says what the element is, and each return is its case.
+-- `octets::element_at` meets its contract: one law says what the element is, and each return is its case. Assumes nothing.
 use borrow.Author.Needs.{needs}
 use borrow.Author.Tests.{le-ltb, lt-ltb, eq-eqb, ne-eqb}
 use Rattle.octets.proofs.Elements.{found}

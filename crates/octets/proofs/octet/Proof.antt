@@ -1,4 +1,4 @@
--- `octets::octet` meets its contract: an octet of the part behind a place is that many octets further on.
+-- `octets::octet` meets its contract: an octet of the part behind a place is that many octets further on. Assumes nothing.
 use borrow.Author.Needs.{needs}
 use lib.Seq.{getD-drop}
 use Rattle.octets.proofs.Elements.{missing}

@@ -1,4 +1,4 @@
--- The place is at most the end, and what is left falls.
+-- The place is at most the end, and what is left falls. Assumes nothing.
 use Prim.Native.Nat.{_≤_, _-_}
 use lib.ListN.{length}
 use borrow.Author.Needs.{needs}

@@ -1,4 +1,4 @@
--- The octets written are as many as the length says.
+-- The octets written are as many as the length says. Assumes nothing.
 use mathlib.Core.Path.{sym}
 use lib.Seq.{length-take-le}
 use borrow.Author.Needs.{needs}

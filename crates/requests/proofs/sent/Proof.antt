@@ -1,4 +1,4 @@
--- The room is as long as it says.
+-- The room is as long as it says. Assumes nothing.
 use mathlib.Core.Path.{sym}
 use lib.Seq.{length-take-le}
 use borrow.Author.Needs.{needs}

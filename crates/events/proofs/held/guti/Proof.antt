@@ -1,42 +1,46 @@
--- A card change clears it; an accept on this access that gives a GUTI has its ten octets copied; else it stays.
-use borrow.Author.Needs.{needs}
-use borrow.Author.Tests.{eq-eqb, ne-eqb}
+-- What is kept picks the clause, and the event's own access its arm. Assumes nothing.
 use Rattle.events.specs.Parts.{gutiAfter}
+use borrow.Author.Needs.{needs}
 use Rattle.events.proofs.held.guti.Statement.{statement}
 use Rattle.events.proofs.held.guti.Tie as tie
 
+enum-told : tie.Need-enum-told
+enum-told c = search needs
+
+enum-known-k : tie.Need-enum-known-k
+enum-known-k c = search needs
+
+given-requires : tie.Need-given-requires
+given-requires c κs = search needs
+
+enum-told-2 : tie.Need-enum-told-2
+enum-told-2 c = search needs
+
 returns : tie.Need-returns
 unfolding gutiAfter
-returns c = rw (eq-eqb _ _ (c .before .if1 .taken))
-
-and-requires : tie.Need-and-requires
-and-requires c κs = search needs
-
-and-requires-2 : tie.Need-and-requires-2
-and-requires-2 c κs = search needs
-
-tail-requires : tie.Need-tail-requires
-tail-requires c κs = search needs
-
-copy-guti-requires : tie.Need-copy-guti-requires
-copy-guti-requires c κs = search needs
+returns c = rw (c .enum-told .given .1)
 
 returns-2 : tie.Need-returns-2
 unfolding gutiAfter
-returns-2 c = rw (ne-eqb _ _ (c .before .before .before .before .before .before .before .before .if1 .left), ← c .before .before .before .before .before .and .ensures, ← c .before .before .before .before .and2 .ensures, c .before .before .before .if2 .taken, ← c .before .before .tail .ensures) (c .copy-guti .ensures)
+returns-2 c = rw (c .before .before .before .before .k .given .1, c .before .before .if1 .taken) (c .given .ensures)
 
 returns-3 : tie.Need-returns-3
 unfolding gutiAfter
-returns-3 c = rw (ne-eqb _ _ (c .before .before .before .before .before .if1 .left), ← c .before .before .and .ensures, ← c .before .and2 .ensures, c .if2 .left)
+returns-3 c = rw (c .before .before .k .given .1, c .if1 .left)
+
+returns-4 : tie.Need-returns-4
+unfolding gutiAfter
+returns-4 c = rw (c .before .enum-told2 .given .1)
 
 pub guti-spec : {M : Type 1} → statement M
 guti-spec =
     tie.close
     (tie.spec
+    enum-told
+    enum-known-k
+    given-requires
+    enum-told-2
     returns
-    and-requires
-    and-requires-2
-    tail-requires
-    copy-guti-requires
     returns-2
-    returns-3)
+    returns-3
+    returns-4)

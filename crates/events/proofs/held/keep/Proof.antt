@@ -1,6 +1,6 @@
--- Each array by its own call.
-use borrow.Author.Needs.{needs}
+-- Each part by its callee's contract. Assumes nothing.
 use Rattle.events.specs.Parts.{keptAfter}
+use borrow.Author.Needs.{needs}
 use Rattle.events.proofs.held.keep.Statement.{statement}
 use Rattle.events.proofs.held.keep.Tie as tie
 

@@ -1,9 +1,10 @@
--- The law of the core over what each call ensures.
-use borrow.Author.Needs.{needs}
+-- The law of the core over what each call ensures. Assumes nothing.
 use Rattle.entries.specs.Entries.{entriesOf}
 use Rattle.events.proofs.Whole.{core-law}
+use borrow.Author.Needs.{needs}
 use Rattle.events.proofs.lent.core.Statement.{statement}
 use Rattle.events.proofs.lent.core.Tie as tie
+use Rattle.entries.proofs.tend.Reads as tend-reads′
 
 ask-of-requires : tie.Need-ask-of-requires
 ask-of-requires c κs = search needs
@@ -11,29 +12,49 @@ ask-of-requires c κs = search needs
 see-requires : tie.Need-see-requires
 see-requires c κs = search needs
 
+site-of-requires : tie.Need-site-of-requires
+site-of-requires c κs = search needs
+
 listing-requires : tie.Need-listing-requires
 listing-requires c κs = search needs
 
-decide-requires : tie.Need-decide-requires
-decide-requires c κs = search needs
+plan-of-requires : tie.Need-plan-of-requires
+plan-of-requires c κs = search needs
 
-table-requires : tie.Need-table-requires
-table-requires c κs = search needs
+deed-on-requires : tie.Need-deed-on-requires
+deed-on-requires c κs = search needs
 
-table-requires-2 : tie.Need-table-requires-2
-table-requires-2 c κs = search needs
+deed-on-requires-2 : tie.Need-deed-on-requires-2
+deed-on-requires-2 c κs = search needs
 
-list-requires : tie.Need-list-requires
-list-requires c κs = search needs
+tend-requires : tie.Need-tend-requires
+tend-requires c κs = search needs
 
-list-requires-2 : tie.Need-list-requires-2
-list-requires-2 c κs = search needs
+tend-requires-2 : tie.Need-tend-requires-2
+tend-requires-2 c κs = search needs
+
+tend-requires-3 : tie.Need-tend-requires-3
+tend-requires-3 c κs = search needs
+
+tend-requires-4 : tie.Need-tend-requires-4
+tend-requires-4 c κs = search needs
 
 counted-requires : tie.Need-counted-requires
 counted-requires c κs = search needs
 
 returns : tie.Need-returns
-returns c = core-law (c .before .before .before .before .before .before .before .before .before .before .before .before .before .before .before .before .before .before .before .before .before .before .before .before .before .before .before .before .before .before .args .h) (c .before .before .before .before .before .before .before .before .before .before .before .before .before .before .before .before .before .before .before .before .before .before .before .before .before .before .before .before .before .before .args .e) (c .before .before .before .before .before .before .before .before .before .before .before .before .before .before .before .before .before .before .before .before .before .before .before .before .before .before .before .before .before .before .args .octets .now) (c .before .before .before .before .before .before .before .before .before .before .before .before .before .before .before .before .before .before .before .before .before .before .before .before .before .before .before .before .ask-of .result) (c .before .before .before .before .before .before .before .before .before .before .before .before .before .before .before .before .before .before .before .before .before .see .result) (c .before .before .before .before .before .before .before .before .before .before .before .before .before .before .before .before .before .before .listing .result) (c .before .before .before .before .before .before .before .before .before .before .before .before .before .before .before .before .before .decide .result) (entriesOf (c .before .before .before .before .before .before .before .before .before .before .before .before .before .before .before .before .before .before .before .before .before .before .before .before .before .before .before .before .before .before .args .nets0 .now) (c .before .before .before .before .before .before .before .before .before .before .before .before .before .before .before .before .before .before .before .before .before .before .before .before .before .before .before .before .before .before .args .bans0 .now) (c .before .before .before .before .before .before .before .before .before .before .before .before .before .before .before .before .before .before .before .before .before .before .before .before .before .before .before .before .before .before .args .n1s0 .now) (c .before .before .before .before .before .before .before .before .before .before .before .before .before .before .before .before .before .before .before .before .before .before .before .before .before .before .before .before .before .before .args .forbidden0 .now) (c .before .before .before .before .before .before .before .before .before .before .before .before .before .before .before .before .before .before .before .before .before .before .before .before .before .before .before .before .before .before .args .barred0 .now)) (entriesOf (c .before .before .before .before .before .before .before .before .before .before .before .before .before .before .before .before .before .before .before .before .before .before .before .before .before .before .before .before .before .before .args .nets1 .now) (c .before .before .before .before .before .before .before .before .before .before .before .before .before .before .before .before .before .before .before .before .before .before .before .before .before .before .before .before .before .before .args .bans1 .now) (c .before .before .before .before .before .before .before .before .before .before .before .before .before .before .before .before .before .before .before .before .before .before .before .before .before .before .before .before .before .before .args .n1s1 .now) (c .before .before .before .before .before .before .before .before .before .before .before .before .before .before .before .before .before .before .before .before .before .before .before .before .before .before .before .before .before .before .args .forbidden1 .now) (c .before .before .before .before .before .before .before .before .before .before .before .before .before .before .before .before .before .before .before .before .before .before .before .before .before .before .before .before .before .before .args .barred1 .now)) _ _ (c .before .before .before .before .before .before .before .before .before .before .before .before .before .before .before .before .before .before .before .before .before .before .before .before .before .before .before .before .before .before .args .roaming .now) (c .before .before .before .before .before .before .before .before .before .before .before .before .before .before .before .before .before .before .before .before .before .before .before .before .before .before .before .before .before .before .args .regional .now) _ _ (c .before .before .before .list .result) (c .before .list2 .result) (c .counted .result) (c .before .before .before .before .before .before .before .before .before .before .before .before .before .before .before .before .before .before .before .before .before .before .before .before .before .before .before .before .ask-of .ensures) (c .before .before .before .before .before .before .before .before .before .before .before .before .before .before .before .before .before .before .before .before .before .see .ensures) (c .before .before .before .before .before .before .before .before .before .before .before .before .before .before .before .before .before .before .listing .ensures) (c .before .before .before .before .before .before .before .before .before .before .before .before .before .before .before .before .before .decide .ensures) (c .before .before .before .before .before .before .before .before .before .before .before .table .ensures) (c .before .before .before .before .before .table2 .ensures) (c .before .before .before .list .ensures .0) (c .before .before .before .list .ensures .1) (c .before .list2 .ensures .0) (c .before .list2 .ensures .1) (c .counted .ensures)
+returns c =
+    let start = c .before .before .before .before .before .before .before .before .before .before .before .before .before .before .before .before .before .before .before .before .before .before .before .before .before .before .before .before .before .before .before .before .before .before in
+    let asked = c .before .before .before .before .before .before .before .before .before .before .before .before .before .before .before .before .before .before .before .before .before .before .before .before .before .before .before .before .before .before .before .before in
+    let planned = c .before .before .before .before .before .before .before .before .before .before .before .before .before .before .before .before .before .before .before .before in
+    core-law (start .args .h) (start .args .e) (start .args .octets .now) (asked .ask-of .result) (c .before .before .before .before .before .before .before .before .before .before .before .before .before .before .before .before .before .before .before .before .before .before .before .before .site-of .result) (c .before .before .before .before .before .before .before .before .before .before .before .before .before .before .before .before .before .before .before .before .before .before .before .before .before .see .result) (planned .before .listing .result) (planned .plan-of .result)
+    (c .before .before .before .before .before .before .before .before .before .before .before .before .before .before .before .before .before .before .deed-on .result) (c .before .before .before .before .before .before .before .before .before .before .before .before .before .before .before .before .before .deed-on2 .result)
+    (entriesOf (start .args .nets0 .now) (start .args .bans0 .now) (start .args .n1s0 .now) (start .args .forbidden0 .now) (start .args .barred0 .now))
+    (entriesOf (start .args .nets1 .now) (start .args .bans1 .now) (start .args .n1s1 .now) (start .args .forbidden1 .now) (start .args .barred1 .now))
+    _ _ (start .args .roaming .now) (start .args .regional .now) _ _ (c .before .before .before .tend3 .result) (c .before .tend4 .result) (c .counted .result)
+    (asked .ask-of .ensures) (c .before .before .before .before .before .before .before .before .before .before .before .before .before .before .before .before .before .before .before .before .before .before .before .before .before .see .ensures) (c .before .before .before .before .before .before .before .before .before .before .before .before .before .before .before .before .before .before .before .before .before .before .before .before .site-of .ensures) (planned .before .listing .ensures) (planned .plan-of .ensures) (c .before .before .before .before .before .before .before .before .before .before .before .before .before .before .before .before .before .before .deed-on .ensures) (c .before .before .before .before .before .before .before .before .before .before .before .before .before .before .before .before .before .deed-on2 .ensures)
+    (c .before .before .before .before .before .before .before .before .before .before .before .tend .ensures) (c .before .before .before .before .before .tend2 .ensures)
+    (c .before .before .before .tend3 .ensures .0) (c .before .before .before .tend3 .ensures .1) (c .before .tend4 .ensures .0) (c .before .tend4 .ensures .1) (c .counted .ensures)
 
 pub core-spec : {M : Type 1} → statement M
 core-spec =
@@ -41,11 +62,14 @@ core-spec =
     (tie.spec
     ask-of-requires
     see-requires
+    site-of-requires
     listing-requires
-    decide-requires
-    table-requires
-    table-requires-2
-    list-requires
-    list-requires-2
+    plan-of-requires
+    deed-on-requires
+    deed-on-requires-2
+    tend-requires
+    tend-requires-2
+    tend-requires-3
+    tend-requires-4
     counted-requires
     returns)

@@ -1,23 +1,29 @@
--- The asking access's entries are looked at.
-use borrow.Author.Needs.{needs}
-use borrow.Author.Tests.{eq-eqb, ne-eqb}
+-- What is asked picks the clause. Assumes nothing.
 use Rattle.events.specs.Parts.{seenBy}
+use borrow.Author.Needs.{needs}
 use Rattle.events.proofs.lent.see.Statement.{statement}
 use Rattle.events.proofs.lent.see.Tie as tie
 
-look-requires : tie.Need-look-requires
-look-requires c κs = search needs
+enum-told : tie.Need-enum-told
+enum-told c = search needs
 
-look-requires-2 : tie.Need-look-requires-2
-look-requires-2 c κs = search needs
+unseen-requires : tie.Need-unseen-requires
+unseen-requires c κs = search needs
+
+enum-known-q : tie.Need-enum-known-q
+enum-known-q c = search needs
+
+sight-requires : tie.Need-sight-requires
+sight-requires c κs = search needs
 
 returns : tie.Need-returns
 unfolding seenBy
-returns c = rw (eq-eqb _ _ (c .before .if1 .taken)) (c .look .ensures)
+returns c = rw (c .before .enum-told .given .1) (c .unseen .ensures)
 
 returns-2 : tie.Need-returns-2
 unfolding seenBy
-returns-2 c = rw (ne-eqb _ _ (c .before .if1 .left)) (c .look2 .ensures)
+returns-2 c = rw (c .before .before .q .given .1) (c .sight .ensures)
 
 pub see-spec : {M : Type 1} → statement M
-see-spec = tie.close (tie.spec look-requires look-requires-2 returns returns-2)
+see-spec =
+    tie.close (tie.spec enum-told unseen-requires enum-known-q sight-requires returns returns-2)

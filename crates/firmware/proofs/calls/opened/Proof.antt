@@ -1,5 +1,5 @@
 -- The answer, and the choice by it between the new record and the one that was there, are what the calls ensure.
-use Rattle.firmware.specs.Calls.{openedBy, openedOf}
+use Rattle.firmware.specs.Calls.{newBy, newOf}
 use borrow.Author.Needs.{needs}
 use Rattle.firmware.proofs.calls.opened.Statement.{statement}
 use Rattle.firmware.proofs.calls.opened.Tie as tie
@@ -20,7 +20,7 @@ cast-t13 : tie.Need-cast-t13
 cast-t13 c = search needs
 
 returns : tie.Need-returns
-unfolding openedOf openedBy
+unfolding newOf newBy
 returns c = rw (c .number .ensures, c .before .chosen .ensures, c .before .before .taken .ensures, c .before .before .before .before .fresh .ensures)
 
 pub opened-spec : {M : Type 1} → statement M

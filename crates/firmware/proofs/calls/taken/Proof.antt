@@ -1,5 +1,5 @@
 -- The log's reading of the event, the step, and the reply in numbers are what the calls ensure.
-use Rattle.firmware.specs.Calls.{takenBy, takenOf}
+use Rattle.firmware.specs.Calls.{heardBy, heardAs}
 use borrow.Author.Needs.{needs}
 use Rattle.firmware.proofs.calls.taken.Statement.{statement}
 use Rattle.firmware.proofs.calls.taken.Tie as tie
@@ -23,7 +23,7 @@ cast-t12 : tie.Need-cast-t12
 cast-t12 c = search needs
 
 returns : tie.Need-returns
-unfolding takenOf takenBy
+unfolding heardAs heardBy
 returns c = rw (c .number .ensures, c .before .notice-of .ensures, c .before .before .before .before .step .ensures, c .before .before .before .before .before .octets .ensures, c .before .before .before .before .before .before .event .ensures)
 
 pub taken-spec : {M : Type 1} → statement M

@@ -40,7 +40,7 @@ use denote.Triple.Clauses.{ensured, lasts}
 use denote.Triple.Table.{entered, cited}
 use denote.Triple.Walked.{says, Stays, stay-ref, stay-none, stay-none-slice, walkOf, AllGo, goes-none, goes-none-slice, goes-ref, Walks, ends-at, walked, walk-meets}
 use denote.Exit.{yes}
-use Rattle.firmware.specs.Calls.{takenOf}
+use Rattle.firmware.specs.Calls.{heardAs}
 use Rattle.record.specs.declared.Record.{Record}
 use Rattle.firmware.specs.declared.Notice.{Notice}
 use Rattle.firmware.specs.declared.Taken.{Taken}
@@ -95,7 +95,7 @@ module _ {M : Type 1} (𝓤 : URA M) (H : Heap 𝓤) (A : Atoms 𝓤) (W : Given
   Own = ShrSlice (named 1) κ₁ u8 .own s (machS s ∷ [])
 
   abbrev found : Taken
-  found = takenOf h k (s .now)
+  found = heardAs h k (s .now)
 
   -- the call
   abbrev to : Called 𝓤 H A at-mem run .Ghost

@@ -40,7 +40,7 @@ use denote.Triple.Clauses.{ensured, lasts}
 use denote.Triple.Table.{entered, cited}
 use denote.Triple.Walked.{says, Stays, stay-ref, stay-none, stay-none-slice, walkOf, AllGo, goes-none, goes-none-slice, goes-ref, Walks, ends-at, walked, walk-meets}
 use denote.Exit.{yes}
-use Rattle.firmware.specs.Calls.{openedOf}
+use Rattle.firmware.specs.Calls.{newOf}
 use Rattle.record.specs.declared.Record.{Record}
 use Rattle.firmware.specs.declared.Opened.{Opened}
 use Rattle.record.proofs.Record as T
@@ -92,7 +92,7 @@ module _ {M : Type 1} (𝓤 : URA M) (H : Heap 𝓤) (A : Atoms 𝓤) (W : Given
   Own₂ = ShrSlice (named 2) κ₂ u8 .own t (machS t ∷ [])
 
   abbrev found : Opened
-  found = openedOf h i j k (s .now) (t .now)
+  found = newOf h i j k (s .now) (t .now)
 
   -- the call
   abbrev to : Called 𝓤 H A at-mem run .Ghost

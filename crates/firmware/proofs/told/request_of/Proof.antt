@@ -1,5 +1,5 @@
 -- Case by case, as the definition.
-use Rattle.firmware.specs.Notice.{requestOf}
+use Rattle.firmware.specs.Notice.{askedNumber}
 use borrow.Author.Needs.{needs}
 use Rattle.firmware.proofs.told.request_of.Statement.{statement}
 use Rattle.firmware.proofs.told.request_of.Tie as tie
@@ -17,11 +17,11 @@ add-result : tie.Need-add-result
 add-result c = search needs
 
 returns : tie.Need-returns
-unfolding requestOf
+unfolding askedNumber
 returns c = search needs
 
 returns-2 : tie.Need-returns-2
-unfolding requestOf
+unfolding askedNumber
 returns-2 c = rw (c .before .a .given .1)
 
 pub request-of-spec : {M : Type 1} → statement M

@@ -1,11 +1,11 @@
--- Each field is set as the definition says or copied. Assumes nothing.
-use Rattle.record.specs.Setters.{moved}
+-- Each field is set as the definitions say or copied. Assumes nothing.
+use Rattle.record.specs.Setters.{inState, withStatus, withAttempts}
 use borrow.Author.Needs.{needs}
 use Rattle.record.proofs.setters.moved.Statement.{statement}
 use Rattle.record.proofs.setters.moved.Tie as tie
 
 returns : tie.Need-returns
-unfolding moved
+unfolding inState withStatus withAttempts
 returns c = search needs
 
 pub moved-spec : {M : Type 1} → statement M

@@ -1,4 +1,4 @@
--- The two ways of the test are the two of the definition.
+-- The two ways of the test are the two of the definition. Assumes nothing.
 use Rattle.request.specs.Reading.{isCapability}
 use Rattle.request.proofs.reading.capability.Statement.{statement}
 use Rattle.request.proofs.reading.capability.Tie as tie

@@ -1,4 +1,4 @@
--- What the calls ensure, joined.
+-- What the calls ensure, joined. Assumes nothing.
 use Rattle.request.specs.Reading.{isRequest}
 use borrow.Author.Needs.{needs}
 use Rattle.request.proofs.reading.fits.Statement.{statement}
@@ -33,7 +33,7 @@ and-requires-3 c κs = search needs
 
 returns : tie.Need-returns
 unfolding isRequest
-returns c = cc
+returns c = λ l e f. cc
 
 pub fits-spec : {M : Type 1} → statement M
 fits-spec =

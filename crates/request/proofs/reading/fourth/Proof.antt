@@ -1,4 +1,4 @@
--- What the join ensures.
+-- What the join ensures. Assumes nothing.
 use Rattle.request.specs.Reading.{isFourth}
 use borrow.Author.Needs.{needs}
 use Rattle.request.proofs.reading.fourth.Statement.{statement}

@@ -1,4 +1,4 @@
--- The two ways of the test are the two of the definition.
+-- The two ways of the test are the two of the definition. Assumes nothing.
 use borrow.Author.Tests.{eq-eqb, ne-eqb}
 use Rattle.request.specs.Reading.{capabilityOf}
 use Rattle.request.proofs.reading.held.Statement.{statement}

@@ -1,8 +1,9 @@
--- Each return rewrites by the tests that led to it.
+-- Each return rewrites by the tests that led to it. Assumes nothing.
 use borrow.Author.Tests.{lt-ltb, le-ltb, eq-eqb, ne-eqb}
 use native.Mathlib.Omega.{arith}
 use lib.ListN.{length}
-use Rattle.request.specs.Reading.{askingOf, openedBy}
+use Rattle.messages.specs.Message.{openedBy}
+use Rattle.request.specs.Reading.{askingOf}
 use borrow.Author.Needs.{needs}
 use Rattle.request.proofs.reading.read.Statement.{statement}
 use Rattle.request.proofs.reading.read.Tie as tie

@@ -1,4 +1,4 @@
--- Each return rewrites by the tests that led to it.
+-- Each return rewrites by the tests that led to it. Assumes nothing.
 use borrow.Author.Tests.{lt-ltb, le-ltb}
 use Rattle.request.specs.Reading.{restReading}
 use borrow.Author.Needs.{needs}

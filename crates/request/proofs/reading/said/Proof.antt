@@ -1,5 +1,5 @@
--- Each field is what its call ensures.
-use Rattle.request.specs.Reading.{saidOf}
+-- Each field is what its call ensures, or a part found. Assumes nothing.
+use Rattle.request.specs.Reading.{requestIn}
 use borrow.Author.Needs.{needs}
 use Rattle.request.proofs.reading.said.Statement.{statement}
 use Rattle.request.proofs.reading.said.Tie as tie
@@ -11,8 +11,8 @@ held-requires : tie.Need-held-requires
 held-requires c κs = search needs
 
 returns : tie.Need-returns
-unfolding saidOf
-returns c = cc
+unfolding requestIn
+returns c = λ l e f g. cc
 
 pub said-spec : {M : Type 1} → statement M
 said-spec = tie.close (tie.spec octet-requires held-requires returns)

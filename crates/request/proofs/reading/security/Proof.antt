@@ -1,4 +1,4 @@
--- What the joins ensure.
+-- What the joins ensure. Assumes nothing.
 use Rattle.request.specs.Reading.{isSecurity}
 use borrow.Author.Needs.{needs}
 use Rattle.request.proofs.reading.security.Statement.{statement}

@@ -1,4 +1,4 @@
--- The part chosen is the identity, and what is sent of it is the layout.
+-- The part chosen is the identity, and what is sent of it is the layout. Assumes nothing.
 use native.Mathlib.Omega.{arith}
 use mathlib.Core.Path.{sym}
 use lib.Seq.{length-take-le}

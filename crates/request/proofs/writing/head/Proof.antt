@@ -1,6 +1,6 @@
--- The octets of the definition, one by one.
+-- The octets of the definition, one by one. Assumes nothing.
 use mathlib.Core.Path.{refl}
-use Rattle.request.specs.Layout.{headOf}
+use Rattle.request.specs.Layout.{openingHead, lengthIn}
 use borrow.Author.Needs.{needs}
 use Rattle.request.proofs.writing.head.Statement.{statement}
 use Rattle.request.proofs.writing.head.Tie as tie
@@ -18,7 +18,7 @@ cast-t8 : tie.Need-cast-t8
 cast-t8 c = search needs
 
 returns : tie.Need-returns
-unfolding headOf
+unfolding openingHead lengthIn
 returns c = refl
 
 pub head-spec : {M : Type 1} → statement M

@@ -1,4 +1,4 @@
--- The two ways of the test are the two of the definition.
+-- The two ways of the test are the two of the definition. Assumes nothing.
 use borrow.Author.Tests.{le-leb, lt-leb}
 use borrow.Author.Needs.{needs}
 use Rattle.request.proofs.writing.may.Statement.{statement}

@@ -1,4 +1,4 @@
--- The two ways of the test are the two of the definition.
+-- The two ways of the test are the two of the definition. Assumes nothing.
 use borrow.Author.Tests.{eq-eqb, ne-eqb}
 use Rattle.request.proofs.writing.nets.Statement.{statement}
 use Rattle.request.proofs.writing.nets.Tie as tie

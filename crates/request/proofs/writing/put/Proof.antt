@@ -1,22 +1,23 @@
--- The invariant: the first i octets are put, and the buffer is as long as it was.
-use Prim.Native.Nat.{ℕ, _+_, _-_, _≤_, _<_}
-use mathlib.Core.Path.{_≡_, refl, ap, _∙_}
-use lib.ListN.{length, take, length-set}
-use borrow.Author.Needs.{needs}
+-- The invariant: the first i octets are put, and the buffer is as long as it was. Assumes nothing.
+use Prim.Native.Nat.{_+_, _-_, _≤_, _<_}
+use mathlib.Core.Path.{_≡_, refl, _∙_}
 use native.Mathlib.Omega.{arith}
-use Rattle.request.specs.Steps.{spliced}
-use Rattle.request.proofs.Pieces.{nothing, turn}
+use native.Mathlib.Numerals.{add-one}
+use lib.ListN.{length, length-set}
+use lib.Seq.{paste, paste-zero, paste-suc}
+use Rattle.request.proofs.Pieces.{copied}
+use borrow.Author.Needs.{needs}
 use Rattle.request.proofs.writing.put.Statement.{statement}
 use Rattle.request.proofs.writing.put.Tie as tie
 
 abbrev Inv-loop : tie.InvT-loop
-Inv-loop buffer₀ at src n i₀ buffer i = (i ≤ n) × ((buffer ≡ spliced buffer₀ at (take i src)) × (length buffer ≡ length buffer₀))
+Inv-loop buffer₀ at src n i₀ buffer i = (i ≤ n) × ((buffer ≡ paste buffer₀ at src i) × (length buffer ≡ length buffer₀))
 
 abbrev μ-loop : tie.MeasureT-loop
 μ-loop buffer₀ at src n i₀ buffer i = n - i
 
 loop-holds : tie.Need-loop-holds Inv-loop μ-loop
-loop-holds c = (search needs, (nothing (c .args .buffer .now) (c .args .at), refl))
+loop-holds c = (search needs, (paste-zero (c .args .buffer .now) (c .args .at) (c .args .src .now), refl))
 
 shared-slice-read-buffer : tie.Need-shared-slice-read-buffer Inv-loop μ-loop
 shared-slice-read-buffer c = omega arith
@@ -36,8 +37,7 @@ loop-less c = omega arith
 loop-again : tie.Need-loop-again Inv-loop μ-loop
 loop-again c =
     let room : c .before .before .before .args .at + c .before .before .loop .i < length (c .before .before .before .args .buffer .now) = omega arith in
-    let more : c .before .before .loop .i < length (c .before .before .before .args .src .now) = omega arith in
-    (search needs, (turn (c .before .before .before .args .buffer .now) (c .before .before .loop .buffer) (c .before .before .before .args .src .now) (c .before .before .before .args .at) (c .before .before .loop .i) (c .before .before .loop .inv .1 .0) room more, length-set (c .before .before .loop .buffer) _ _ ∙ c .before .before .loop .inv .1 .1))
+    (search needs, (rw (c .before .before .loop .inv .1 .0, add-one) (paste-suc (c .before .before .before .args .buffer .now) (c .before .before .before .args .at) (c .before .before .before .args .src .now) (c .before .before .loop .i) 0 room (search needs)), length-set (c .before .before .loop .buffer) _ _ ∙ c .before .before .loop .inv .1 .1))
 
 add-result : tie.Need-add-result Inv-loop μ-loop
 add-result c = omega arith
@@ -47,8 +47,8 @@ same-length c = c .before .loop .inv .1 .1
 
 returns : tie.Need-returns Inv-loop μ-loop
 returns c =
-    let whole : c .before .loop .i ≡ c .before .before .args .n = omega arith in
-    (search needs, c .before .loop .inv .1 .0 ∙ ap (λ (k : ℕ). spliced (c .before .before .args .buffer .now) (c .before .before .args .at) (take k (c .before .before .args .src .now))) whole)
+    let whole : c .before .loop .i ≡ length (c .before .before .args .src .now) = omega arith in
+    copied _ _ _ _ (rw whole at (c .before .loop .inv .1 .0))
 
 pub put-spec : {M : Type 1} → statement M
 put-spec =

@@ -1,4 +1,4 @@
--- Each return is that of its answer.
+-- Each return is that of its answer. Assumes nothing.
 use Rattle.request.proofs.Answers.{out-of-range, out-of-state, allowed, written}
 use borrow.Author.Needs.{needs}
 use Rattle.request.proofs.writing.write.Statement.{statement}

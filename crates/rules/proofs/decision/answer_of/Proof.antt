@@ -1,4 +1,4 @@
--- Event by event, as the definition. Assumes nothing.
+-- Event by event, as the definition; a message's reading is that of its octets. Assumes nothing.
 use Rattle.rules.specs.Plan.{answerOf}
 use borrow.Author.Needs.{needs}
 use Rattle.rules.proofs.decision.answer_of.Statement.{statement}
@@ -50,7 +50,7 @@ returns-2 c = rw (c .before .before .e2 .given .1) (c .start-answer .ensures)
 
 returns-3 : tie.Need-returns-3
 unfolding answerOf
-returns-3 c = rw (c .before .before .e3 .given .1) (c .message-answer .ensures)
+returns-3 c = rw (c .before .before .e3 .given .1, ← rw (c .before .before .e3 .given .1) at (c .before .before .before .before .before .pre)) (c .message-answer .ensures)
 
 returns-4 : tie.Need-returns-4
 unfolding answerOf

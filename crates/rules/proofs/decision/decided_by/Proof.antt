@@ -1,35 +1,40 @@
 -- The test of the answer picks the plan; a taken event goes by access, which makes the same plan. Assumes nothing.
-use Rattle.rules.specs.Plan.{decidedBy}
 use mathlib.Core.Path.{sym, _∙_}
-use borrow.Author.Needs.{needs}
+use Rattle.rules.specs.Plan.{decidedBy}
 use Rattle.rules.proofs.Sorted.{sorted}
+use borrow.Author.Needs.{needs}
 use Rattle.rules.proofs.decision.decided_by.Statement.{statement}
 use Rattle.rules.proofs.decision.decided_by.Tie as tie
+
+access-in-requires : tie.Need-access-in-requires
+access-in-requires c κs = search needs
 
 taken-requires : tie.Need-taken-requires
 taken-requires c κs = search needs
 
 effect-of-requires : tie.Need-effect-of-requires
-effect-of-requires c κs = c .before .before .before .pre .1 (sym (c .before .taken .ensures) ∙ c .if1 .taken)
+effect-of-requires c κs = (c .before .before .before .before .pre .0 (sym (c .before .taken .ensures) ∙ c .if1 .taken), c .before .before .before .before .pre .1)
 
 taken-plan-requires : tie.Need-taken-plan-requires
 taken-plan-requires c κs = search needs
 
 returns : tie.Need-returns
 unfolding decidedBy
-returns c = rw (← c .before .before .before .taken .ensures, c .before .before .if1 .taken, c .taken-plan .ensures, c .before .effect-of .ensures, ← c .before .before .before .before .before .pre .0, sorted)
+returns c =
+    rw (← c .before .before .before .taken .ensures, c .before .before .if1 .taken, c .taken-plan .ensures, c .before .effect-of .ensures, c .before .before .before .before .access-in .ensures, sorted)
 
 refused-plan-requires : tie.Need-refused-plan-requires
 refused-plan-requires c κs = search needs
 
 returns-2 : tie.Need-returns-2
 unfolding decidedBy
-returns-2 c = rw (← c .before .before .taken .ensures, c .before .if1 .left) (c .refused-plan .ensures)
+returns-2 c = rw (← c .before .before .taken .ensures, c .before .if1 .left, ← c .before .before .before .access-in .ensures) (c .refused-plan .ensures)
 
 pub decided-by-spec : {M : Type 1} → statement M
 decided-by-spec =
     tie.close
     (tie.spec
+    access-in-requires
     taken-requires
     effect-of-requires
     taken-plan-requires

@@ -1,6 +1,6 @@
--- Event by event, as the definition; the length of a card that is taken fits an octet. Assumes nothing.
-use Rattle.rules.specs.Plan.{askOf, effectOf}
+-- Event by event, as the definition; the length of a card that is taken fits an octet, and a message's reading is that of its octets. Assumes nothing.
 use native.Mathlib.Omega.{arith}
+use Rattle.rules.specs.Plan.{accessIn, effectOf}
 use borrow.Author.Needs.{needs}
 use Rattle.rules.proofs.decision.effect_of.Statement.{statement}
 use Rattle.rules.proofs.decision.effect_of.Tie as tie
@@ -9,7 +9,7 @@ enum-known-e : tie.Need-enum-known-e
 enum-known-e c = search needs
 
 cast-card-effect : tie.Need-cast-card-effect
-cast-card-effect c = omega (arith, c .before .before .before .before .pre _ (c .before .e .given .1))
+cast-card-effect c = omega (arith, c .before .before .before .before .pre .0 _ (c .before .e .given .1))
 
 card-effect-requires : tie.Need-card-effect-requires
 card-effect-requires c κs = search needs
@@ -51,31 +51,31 @@ none-requires : tie.Need-none-requires
 none-requires c κs = search needs
 
 returns : tie.Need-returns
-unfolding effectOf askOf
+unfolding effectOf accessIn
 returns c = rw (c .before .before .e .given .1) (c .card-effect .ensures)
 
 returns-2 : tie.Need-returns-2
-unfolding effectOf askOf
+unfolding effectOf accessIn
 returns-2 c = rw (c .before .before .e2 .given .1) (c .start-effect .ensures)
 
 returns-3 : tie.Need-returns-3
-unfolding effectOf askOf
-returns-3 c = rw (c .before .before .e3 .given .1) (c .message-effect .ensures)
+unfolding effectOf accessIn
+returns-3 c = rw (c .before .before .e3 .given .1, ← rw (c .before .before .e3 .given .1) at (c .before .before .before .before .before .pre .1)) (c .message-effect .ensures)
 
 returns-4 : tie.Need-returns-4
-unfolding effectOf askOf
+unfolding effectOf accessIn
 returns-4 c = rw (c .before .before .e4 .given .1) (c .timer-effect .ensures)
 
 returns-5 : tie.Need-returns-5
-unfolding effectOf askOf
+unfolding effectOf accessIn
 returns-5 c = rw (c .before .enum-told .given .1) (c .power-effect .ensures)
 
 returns-6 : tie.Need-returns-6
-unfolding effectOf askOf
+unfolding effectOf accessIn
 returns-6 c = rw (c .before .before .e5 .given .1) (c .key-effect .ensures)
 
 returns-7 : tie.Need-returns-7
-unfolding effectOf askOf
+unfolding effectOf accessIn
 returns-7 c = rw (c .before .enum-told2 .given .1) (c .none .ensures)
 
 pub effect-of-spec : {M : Type 1} → statement M

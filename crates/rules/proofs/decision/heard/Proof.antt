@@ -1,5 +1,4 @@
--- Event by event, as the definition. Assumes nothing.
-use Rattle.rules.specs.Plan.{heardOf}
+-- A message's reading is what was read of it; of another event nothing is claimed. Assumes nothing.
 use borrow.Author.Needs.{needs}
 use Rattle.rules.proofs.decision.heard.Statement.{statement}
 use Rattle.rules.proofs.decision.heard.Tie as tie
@@ -29,32 +28,25 @@ enum-told-7 : tie.Need-enum-told-7
 enum-told-7 c = search needs
 
 returns : tie.Need-returns
-unfolding heardOf
-returns c = rw (c .enum-told .given .1)
+returns c = rw (c .enum-told .given .1) tt
 
 returns-2 : tie.Need-returns-2
-unfolding heardOf
-returns-2 c = rw (c .enum-told2 .given .1)
+returns-2 c = rw (c .enum-told2 .given .1) tt
 
 returns-3 : tie.Need-returns-3
-unfolding heardOf
 returns-3 c = rw (c .before .enum-told3 .given .1) (c .read .ensures)
 
 returns-4 : tie.Need-returns-4
-unfolding heardOf
-returns-4 c = rw (c .enum-told4 .given .1)
+returns-4 c = rw (c .enum-told4 .given .1) tt
 
 returns-5 : tie.Need-returns-5
-unfolding heardOf
-returns-5 c = rw (c .enum-told5 .given .1)
+returns-5 c = rw (c .enum-told5 .given .1) tt
 
 returns-6 : tie.Need-returns-6
-unfolding heardOf
-returns-6 c = rw (c .enum-told6 .given .1)
+returns-6 c = rw (c .enum-told6 .given .1) tt
 
 returns-7 : tie.Need-returns-7
-unfolding heardOf
-returns-7 c = rw (c .enum-told7 .given .1)
+returns-7 c = rw (c .enum-told7 .given .1) tt
 
 pub heard-spec : {M : Type 1} → statement M
 heard-spec =

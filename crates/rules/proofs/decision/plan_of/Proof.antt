@@ -31,19 +31,19 @@ short home o t =
     let most : leb (length o) 64 ≡ true = passed (isNetwork home) (leb 9 (length o)) (leb (length o) 64) (eqb (getD o 0 0) 1) t in
     omega (arith, leb-true (length o) 64 most)
 
-ask-of-requires : tie.Need-ask-of-requires
-ask-of-requires c κs = search needs
+heard-requires : tie.Need-heard-requires
+heard-requires c κs = search needs
 
 answer-of-requires : tie.Need-answer-of-requires
 answer-of-requires c κs = search needs
 
 decided-by-requires : tie.Need-decided-by-requires
 unfolding answerOf
-decided-by-requires c κs = (c .before .ask-of .ensures, λ t home i. short home _ (rw (c .answer-of .ensures, i) at t))
+decided-by-requires c κs = ((λ t home i. short home _ (rw (c .answer-of .ensures, i) at t)), c .before .heard .ensures)
 
 returns : tie.Need-returns
 unfolding planOf
-returns c = rw (c .decided-by .ensures, c .before .answer-of .ensures, c .before .before .ask-of .ensures)
+returns c = rw (c .decided-by .ensures, c .before .answer-of .ensures)
 
 pub plan-of-spec : {M : Type 1} → statement M
-plan-of-spec = tie.close (tie.spec ask-of-requires answer-of-requires decided-by-requires returns)
+plan-of-spec = tie.close (tie.spec heard-requires answer-of-requires decided-by-requires returns)

@@ -10,13 +10,9 @@ refused-reply-requires c κs = search needs
 idle-requires : tie.Need-idle-requires
 idle-requires c κs = search needs
 
-gift-of-requires : tie.Need-gift-of-requires
-gift-of-requires c κs = search needs
-
 returns : tie.Need-returns
 unfolding refusedPlan
-returns c = rw (c .gift-of .ensures, c .before .idle .ensures, c .before .before .refused-reply .ensures)
+returns c = rw (c .idle .ensures, c .before .refused-reply .ensures)
 
 pub refused-plan-spec : {M : Type 1} → statement M
-refused-plan-spec =
-    tie.close (tie.spec refused-reply-requires idle-requires gift-of-requires returns)
+refused-plan-spec = tie.close (tie.spec refused-reply-requires idle-requires returns)

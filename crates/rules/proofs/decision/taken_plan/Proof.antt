@@ -10,13 +10,9 @@ taken-reply-requires c κs = search needs
 hot-after-requires : tie.Need-hot-after-requires
 hot-after-requires c κs = search needs
 
-gift-of-requires : tie.Need-gift-of-requires
-gift-of-requires c κs = search needs
-
 returns : tie.Need-returns
 unfolding planBy
-returns c = rw (c .gift-of .ensures, c .before .before .hot-after .ensures, c .before .before .before .taken-reply .ensures)
+returns c = rw (c .before .hot-after .ensures, c .before .before .taken-reply .ensures)
 
 pub taken-plan-spec : {M : Type 1} → statement M
-taken-plan-spec =
-    tie.close (tie.spec taken-reply-requires hot-after-requires gift-of-requires returns)
+taken-plan-spec = tie.close (tie.spec taken-reply-requires hot-after-requires returns)

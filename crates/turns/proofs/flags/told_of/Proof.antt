@@ -10,8 +10,8 @@ enum-told c = search needs
 enum-told-2 : tie.Need-enum-told-2
 enum-told-2 c = search needs
 
-halted-requires : tie.Need-halted-requires
-halted-requires c κs = search needs
+stopped-requires : tie.Need-stopped-requires
+stopped-requires c κs = search needs
 
 enum-known-o : tie.Need-enum-known-o
 enum-known-o c = search needs
@@ -22,7 +22,7 @@ returns c = rw (c .enum-told .given .1)
 
 returns-2 : tie.Need-returns-2
 unfolding toldOf
-returns-2 c = rw (c .before .enum-told2 .given .1) (c .halted .ensures)
+returns-2 c = rw (c .before .enum-told2 .given .1) (c .stopped .ensures)
 
 returns-3 : tie.Need-returns-3
 unfolding toldOf
@@ -31,4 +31,4 @@ returns-3 c = rw (c .before .o .given .1)
 pub told-of-spec : {M : Type 1} → statement M
 told-of-spec =
     tie.close
-    (tie.spec enum-told enum-told-2 halted-requires enum-known-o returns returns-2 returns-3)
+    (tie.spec enum-told enum-told-2 stopped-requires enum-known-o returns returns-2 returns-3)

@@ -1,5 +1,5 @@
 -- The joins are those of the definition, in its order. Assumes nothing.
-use Rattle.turns.specs.Rows.{isAreaNo}
+use Rattle.turns.specs.Rejects.{isAreaNo}
 use borrow.Author.Needs.{needs}
 use Rattle.turns.proofs.rows.is_area_no.Statement.{statement}
 use Rattle.turns.proofs.rows.is_area_no.Tie as tie

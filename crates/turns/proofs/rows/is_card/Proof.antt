@@ -1,5 +1,5 @@
 -- The joins are those of the definition, in its order. Assumes nothing.
-use Rattle.turns.specs.Rows.{isCard}
+use Rattle.turns.specs.Rejects.{isCard}
 use borrow.Author.Needs.{needs}
 use Rattle.turns.proofs.rows.is_card.Statement.{statement}
 use Rattle.turns.proofs.rows.is_card.Tie as tie

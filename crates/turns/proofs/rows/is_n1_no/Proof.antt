@@ -1,5 +1,5 @@
 -- The joins are those of the definition, in its order. Assumes nothing.
-use Rattle.turns.specs.Rows.{isN1No}
+use Rattle.turns.specs.Rejects.{isN1No}
 use borrow.Author.Needs.{needs}
 use Rattle.turns.proofs.rows.is_n1_no.Statement.{statement}
 use Rattle.turns.proofs.rows.is_n1_no.Tie as tie

@@ -1,5 +1,5 @@
 -- The joins are those of the definition, in its order. Assumes nothing.
-use Rattle.turns.specs.Rows.{isNetworkNo}
+use Rattle.turns.specs.Rejects.{isNetworkNo}
 use borrow.Author.Needs.{needs}
 use Rattle.turns.proofs.rows.is_network_no.Statement.{statement}
 use Rattle.turns.proofs.rows.is_network_no.Tie as tie

@@ -1,5 +1,5 @@
 -- The joins are those of the definition, in its order. Assumes nothing.
-use Rattle.turns.specs.Rows.{isProtocol}
+use Rattle.turns.specs.Rejects.{isProtocol}
 use borrow.Author.Needs.{needs}
 use Rattle.turns.proofs.rows.is_protocol.Statement.{statement}
 use Rattle.turns.proofs.rows.is_protocol.Tie as tie

@@ -1,5 +1,6 @@
--- Row by row, as the definition. Assumes nothing.
-use Rattle.turns.specs.Rows.{needsEntry}
+-- Row by row, as its text. Assumes nothing.
+use Rattle.turns.specs.Words.{markIn, isMark}
+use Rattle.turns.specs.Rejects.{rowText, needsEntry}
 use borrow.Author.Needs.{needs}
 use Rattle.turns.proofs.rows.needs_entry.Statement.{statement}
 use Rattle.turns.proofs.rows.needs_entry.Tie as tie
@@ -32,39 +33,39 @@ enum-told-9 : tie.Need-enum-told-9
 enum-told-9 c = search needs
 
 returns : tie.Need-returns
-unfolding needsEntry
+unfolding needsEntry rowText markIn isMark
 returns c = rw (c .enum-told .given .1)
 
 returns-2 : tie.Need-returns-2
-unfolding needsEntry
+unfolding needsEntry rowText markIn isMark
 returns-2 c = rw (c .enum-told2 .given .1)
 
 returns-3 : tie.Need-returns-3
-unfolding needsEntry
+unfolding needsEntry rowText markIn isMark
 returns-3 c = rw (c .enum-told3 .given .1)
 
 returns-4 : tie.Need-returns-4
-unfolding needsEntry
+unfolding needsEntry rowText markIn isMark
 returns-4 c = rw (c .enum-told4 .given .1)
 
 returns-5 : tie.Need-returns-5
-unfolding needsEntry
+unfolding needsEntry rowText markIn isMark
 returns-5 c = rw (c .enum-told5 .given .1)
 
 returns-6 : tie.Need-returns-6
-unfolding needsEntry
+unfolding needsEntry rowText markIn isMark
 returns-6 c = rw (c .enum-told6 .given .1)
 
 returns-7 : tie.Need-returns-7
-unfolding needsEntry
+unfolding needsEntry rowText markIn isMark
 returns-7 c = rw (c .enum-told7 .given .1)
 
 returns-8 : tie.Need-returns-8
-unfolding needsEntry
+unfolding needsEntry rowText markIn isMark
 returns-8 c = rw (c .enum-told8 .given .1)
 
 returns-9 : tie.Need-returns-9
-unfolding needsEntry
+unfolding needsEntry rowText markIn isMark
 returns-9 c = rw (c .enum-told9 .given .1)
 
 pub needs-entry-spec : {M : Type 1} → statement M

@@ -1,5 +1,5 @@
 -- The joins are those of the definition, in its order. Assumes nothing.
-use Rattle.turns.specs.Rows.{rowOf}
+use Rattle.turns.specs.Rejects.{rowOf}
 use borrow.Author.Needs.{needs}
 use Rattle.turns.proofs.rows.row_of.Statement.{statement}
 use Rattle.turns.proofs.rows.row_of.Tie as tie

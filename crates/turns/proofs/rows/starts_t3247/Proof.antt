@@ -1,5 +1,5 @@
 -- The joins are those of the definition, in its order. Assumes nothing.
-use Rattle.turns.specs.Rows.{startsT3247}
+use Rattle.turns.specs.Rejects.{startsT3247}
 use borrow.Author.Needs.{needs}
 use Rattle.turns.proofs.rows.starts_t3247.Statement.{statement}
 use Rattle.turns.proofs.rows.starts_t3247.Tie as tie

@@ -1,5 +1,6 @@
--- Row by row, as the definition. Assumes nothing.
-use Rattle.turns.specs.Rows.{toRoaming}
+-- Row by row, as its text. Assumes nothing.
+use Rattle.turns.specs.Words.{listOf, isRoaming, holds}
+use Rattle.turns.specs.Rejects.{rowText, toRoaming}
 use borrow.Author.Needs.{needs}
 use Rattle.turns.proofs.rows.to_roaming.Statement.{statement}
 use Rattle.turns.proofs.rows.to_roaming.Tie as tie
@@ -35,39 +36,39 @@ enum-told-9 : tie.Need-enum-told-9
 enum-told-9 c = search needs
 
 returns : tie.Need-returns
-unfolding toRoaming
+unfolding toRoaming rowText listOf isRoaming holds
 returns c = rw (c .enum-told .given .1)
 
 returns-2 : tie.Need-returns-2
-unfolding toRoaming
+unfolding toRoaming rowText listOf isRoaming holds
 returns-2 c = rw (c .enum-told2 .given .1)
 
 returns-3 : tie.Need-returns-3
-unfolding toRoaming
+unfolding toRoaming rowText listOf isRoaming holds
 returns-3 c = rw (c .enum-told3 .given .1)
 
 returns-4 : tie.Need-returns-4
-unfolding toRoaming
+unfolding toRoaming rowText listOf isRoaming holds
 returns-4 c = rw (c .enum-told4 .given .1)
 
 returns-5 : tie.Need-returns-5
-unfolding toRoaming
+unfolding toRoaming rowText listOf isRoaming holds
 returns-5 c = rw (c .enum-told5 .given .1)
 
 returns-6 : tie.Need-returns-6
-unfolding toRoaming
+unfolding toRoaming rowText listOf isRoaming holds
 returns-6 c = rw (c .before .enum-told6 .given .1) (c .not .ensures)
 
 returns-7 : tie.Need-returns-7
-unfolding toRoaming
+unfolding toRoaming rowText listOf isRoaming holds
 returns-7 c = rw (c .enum-told7 .given .1)
 
 returns-8 : tie.Need-returns-8
-unfolding toRoaming
+unfolding toRoaming rowText listOf isRoaming holds
 returns-8 c = rw (c .enum-told8 .given .1)
 
 returns-9 : tie.Need-returns-9
-unfolding toRoaming
+unfolding toRoaming rowText listOf isRoaming holds
 returns-9 c = rw (c .enum-told9 .given .1)
 
 pub to-roaming-spec : {M : Type 1} → statement M

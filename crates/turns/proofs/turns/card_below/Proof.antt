@@ -1,6 +1,9 @@
--- The setters are those of the definition, in its order. Assumes nothing.
-use Rattle.turns.specs.Turns.{cardBelow}
+-- The setters come to what the row's text says. Assumes nothing.
 use borrow.Author.Tests.{eq-eqb, ne-eqb}
+use Rattle.record.specs.Setters.{inState, withStatus, withAttempts, forgotten, emptied, counted}
+use Rattle.turns.specs.Words.{holds, counterAfter, stateAfter, isMark, ordersAfter, applied}
+use Rattle.turns.specs.Rejects.{rowText}
+use Rattle.turns.specs.Turns.{turned, rowTurn}
 use borrow.Author.Needs.{needs}
 use Rattle.turns.proofs.turns.card_below.Statement.{statement}
 use Rattle.turns.proofs.turns.card_below.Tie as tie
@@ -15,12 +18,12 @@ card-second-requires : tie.Need-card-second-requires
 card-second-requires c κs = search needs
 
 returns : tie.Need-returns
-unfolding cardBelow
-returns c = rw (eq-eqb _ _ (c .before .if1 .taken), c .card-first .ensures, c .before .before .one-more .ensures)
+unfolding rowTurn turned rowText applied stateAfter counterAfter holds isMark ordersAfter inState withStatus withAttempts forgotten emptied counted
+returns c = rw (c .card-first .ensures, eq-eqb _ _ (c .before .if1 .taken), c .before .before .one-more .ensures)
 
 returns-2 : tie.Need-returns-2
-unfolding cardBelow
-returns-2 c = rw (ne-eqb _ _ (c .before .if1 .left), c .card-second .ensures, c .before .before .one-more .ensures)
+unfolding rowTurn turned rowText applied stateAfter counterAfter holds isMark ordersAfter inState withStatus withAttempts forgotten emptied counted
+returns-2 c = rw (c .card-second .ensures, ne-eqb _ _ (c .before .if1 .left), c .before .before .one-more .ensures)
 
 pub card-below-spec : {M : Type 1} → statement M
 card-below-spec =

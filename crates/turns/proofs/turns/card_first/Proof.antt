@@ -1,10 +1,10 @@
--- The setters are those of the definition, in its order. Assumes nothing.
+-- The setters are those of the definition. Assumes nothing.
 use borrow.Author.Needs.{needs}
 use Rattle.turns.proofs.turns.card_first.Statement.{statement}
 use Rattle.turns.proofs.turns.card_first.Tie as tie
 
-barred-requires : tie.Need-barred-requires
-barred-requires c κs = search needs
+refused-requires : tie.Need-refused-requires
+refused-requires c κs = search needs
 
 counted-requires : tie.Need-counted-requires
 counted-requires c κs = search needs
@@ -21,4 +21,4 @@ returns c = cc
 pub card-first-spec : {M : Type 1} → statement M
 card-first-spec =
     tie.close
-    (tie.spec barred-requires counted-requires emptied-requires rejected-requires returns)
+    (tie.spec refused-requires counted-requires emptied-requires rejected-requires returns)

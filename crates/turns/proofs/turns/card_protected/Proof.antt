@@ -1,11 +1,14 @@
--- The setters are those of the definition, in its order. Assumes nothing.
-use Rattle.turns.specs.Turns.{cardProtected}
+-- The setters come to what the row's text says. Assumes nothing.
+use Rattle.record.specs.Setters.{inState, withStatus, withAttempts, forgotten, emptied, counted}
+use Rattle.turns.specs.Words.{holds, counterAfter, stateAfter, isMark, ordersAfter, applied}
+use Rattle.turns.specs.Rejects.{rowText}
+use Rattle.turns.specs.Turns.{turned, rowTurn}
 use borrow.Author.Needs.{needs}
 use Rattle.turns.proofs.turns.card_protected.Statement.{statement}
 use Rattle.turns.proofs.turns.card_protected.Tie as tie
 
-barred-requires : tie.Need-barred-requires
-barred-requires c κs = search needs
+refused-requires : tie.Need-refused-requires
+refused-requires c κs = search needs
 
 emptied-requires : tie.Need-emptied-requires
 emptied-requires c κs = search needs
@@ -17,10 +20,10 @@ rejected-requires : tie.Need-rejected-requires
 rejected-requires c κs = search needs
 
 returns : tie.Need-returns
-unfolding cardProtected
-returns c = cc
+unfolding rowTurn turned rowText applied stateAfter counterAfter holds isMark ordersAfter inState withStatus withAttempts forgotten emptied counted
+returns c = rw (c .rejected .ensures, c .before .counted .ensures, c .before .before .emptied .ensures, c .before .before .before .refused .ensures)
 
 pub card-protected-spec : {M : Type 1} → statement M
 card-protected-spec =
     tie.close
-    (tie.spec barred-requires emptied-requires counted-requires rejected-requires returns)
+    (tie.spec refused-requires emptied-requires counted-requires rejected-requires returns)

@@ -1,4 +1,5 @@
--- The setters are those of the definition, in its order. Assumes nothing.
+-- The setters are those of the definition. Assumes nothing.
+use Rattle.record.specs.Setters.{inState, withStatus, withAttempts}
 use Rattle.turns.specs.Turns.{cycled}
 use borrow.Author.Needs.{needs}
 use Rattle.turns.proofs.turns.cycled.Statement.{statement}
@@ -10,12 +11,16 @@ pick-requires c κs = search needs
 moved-requires : tie.Need-moved-requires
 moved-requires c κs = search needs
 
+halted-requires : tie.Need-halted-requires
+halted-requires c κs = search needs
+
 timed-requires : tie.Need-timed-requires
 timed-requires c κs = search needs
 
 returns : tie.Need-returns
-unfolding cycled
-returns c = cc
+unfolding cycled inState withStatus withAttempts
+returns c = rw (c .timed .ensures, c .before .halted .ensures, c .before .before .moved .ensures, c .before .before .before .pick .ensures)
 
 pub cycled-spec : {M : Type 1} → statement M
-cycled-spec = tie.close (tie.spec pick-requires moved-requires timed-requires returns)
+cycled-spec =
+    tie.close (tie.spec pick-requires moved-requires halted-requires timed-requires returns)

@@ -1,5 +1,7 @@
--- Row by row, as the definition. Assumes nothing.
-use Rattle.turns.specs.Turns.{otherTurn}
+-- Row by row, as its text. Assumes nothing.
+use Rattle.turns.specs.Words.{acrossOf}
+use Rattle.turns.specs.Rejects.{rowText}
+use Rattle.turns.specs.Turns.{otherTurned, otherTurn}
 use borrow.Author.Needs.{needs}
 use Rattle.turns.proofs.turns.other_turn.Statement.{statement}
 use Rattle.turns.proofs.turns.other_turn.Tie as tie
@@ -62,39 +64,39 @@ still-requires-9 : tie.Need-still-requires-9
 still-requires-9 c κs = search needs
 
 returns : tie.Need-returns
-unfolding otherTurn
+unfolding otherTurn otherTurned rowText acrossOf
 returns c = rw (c .before .enum-told .given .1) (c .still .ensures)
 
 returns-2 : tie.Need-returns-2
-unfolding otherTurn
+unfolding otherTurn otherTurned rowText acrossOf
 returns-2 c = rw (c .before .enum-told2 .given .1) (c .still2 .ensures)
 
 returns-3 : tie.Need-returns-3
-unfolding otherTurn
+unfolding otherTurn otherTurned rowText acrossOf
 returns-3 c = rw (c .before .before .enum-told3 .given .1, c .still3 .ensures, c .before .counted .ensures)
 
 returns-4 : tie.Need-returns-4
-unfolding otherTurn
+unfolding otherTurn otherTurned rowText acrossOf
 returns-4 c = rw (c .before .enum-told4 .given .1) (c .still4 .ensures)
 
 returns-5 : tie.Need-returns-5
-unfolding otherTurn
+unfolding otherTurn otherTurned rowText acrossOf
 returns-5 c = rw (c .before .enum-told5 .given .1) (c .still5 .ensures)
 
 returns-6 : tie.Need-returns-6
-unfolding otherTurn
+unfolding otherTurn otherTurned rowText acrossOf
 returns-6 c = rw (c .before .enum-told6 .given .1) (c .still6 .ensures)
 
 returns-7 : tie.Need-returns-7
-unfolding otherTurn
+unfolding otherTurn otherTurned rowText acrossOf
 returns-7 c = rw (c .before .enum-told7 .given .1) (c .still7 .ensures)
 
 returns-8 : tie.Need-returns-8
-unfolding otherTurn
+unfolding otherTurn otherTurned rowText acrossOf
 returns-8 c = rw (c .before .enum-told8 .given .1) (c .still8 .ensures)
 
 returns-9 : tie.Need-returns-9
-unfolding otherTurn
+unfolding otherTurn otherTurned rowText acrossOf
 returns-9 c = rw (c .before .enum-told9 .given .1) (c .still9 .ensures)
 
 pub other-turn-spec : {M : Type 1} → statement M

@@ -1,5 +1,7 @@
--- Row by row, as the definition. Assumes nothing.
-use Rattle.turns.specs.Turns.{rowTurn}
+-- Row by row, as its text. Assumes nothing.
+use Rattle.turns.specs.Words.{holds, counterAfter, stateAfter, isMark, ordersAfter, applied}
+use Rattle.turns.specs.Rejects.{rowText}
+use Rattle.turns.specs.Turns.{t3510Out, turned, rowTurn}
 use borrow.Author.Needs.{needs}
 use Rattle.turns.proofs.turns.row_turn.Statement.{statement}
 use Rattle.turns.proofs.turns.row_turn.Tie as tie
@@ -59,39 +61,39 @@ t3510-out-requires : tie.Need-t3510-out-requires
 t3510-out-requires c κs = search needs
 
 returns : tie.Need-returns
-unfolding rowTurn
+unfolding rowTurn turned rowText applied stateAfter counterAfter holds isMark ordersAfter
 returns c = rw (c .before .enum-told .given .1) (c .card-below .ensures)
 
 returns-2 : tie.Need-returns-2
-unfolding rowTurn
+unfolding rowTurn turned rowText applied stateAfter counterAfter holds isMark ordersAfter
 returns-2 c = rw (c .before .enum-told2 .given .1) (c .card-limit .ensures)
 
 returns-3 : tie.Need-returns-3
-unfolding rowTurn
+unfolding rowTurn turned rowText applied stateAfter counterAfter holds isMark ordersAfter
 returns-3 c = rw (c .before .enum-told3 .given .1) (c .card-protected .ensures)
 
 returns-4 : tie.Need-returns-4
-unfolding rowTurn
+unfolding rowTurn turned rowText applied stateAfter counterAfter holds isMark ordersAfter
 returns-4 c = rw (c .before .enum-told4 .given .1) (c .away .ensures)
 
 returns-5 : tie.Need-returns-5
-unfolding rowTurn
+unfolding rowTurn turned rowText applied stateAfter counterAfter holds isMark ordersAfter
 returns-5 c = rw (c .before .enum-told5 .given .1) (c .home .ensures)
 
 returns-6 : tie.Need-returns-6
-unfolding rowTurn
+unfolding rowTurn turned rowText applied stateAfter counterAfter holds isMark ordersAfter
 returns-6 c = rw (c .before .enum-told6 .given .1) (c .area .ensures)
 
 returns-7 : tie.Need-returns-7
-unfolding rowTurn
+unfolding rowTurn turned rowText applied stateAfter counterAfter holds isMark ordersAfter
 returns-7 c = rw (c .before .enum-told7 .given .1) (c .n1 .ensures)
 
 returns-8 : tie.Need-returns-8
-unfolding rowTurn
+unfolding rowTurn turned rowText counterAfter
 returns-8 c = rw (c .before .enum-told8 .given .1) (c .failed .ensures)
 
 returns-9 : tie.Need-returns-9
-unfolding rowTurn
+unfolding rowTurn turned rowText counterAfter t3510Out
 returns-9 c = rw (c .before .enum-told9 .given .1) (c .t3510-out .ensures)
 
 pub row-turn-spec : {M : Type 1} → statement M

@@ -1,4 +1,4 @@
--- The setters are those of the definition, in its order. Assumes nothing.
+-- The setters are those of the definition. Assumes nothing.
 use borrow.Author.Needs.{needs}
 use Rattle.turns.proofs.turns.spent.Statement.{statement}
 use Rattle.turns.proofs.turns.spent.Tie as tie
@@ -15,6 +15,9 @@ emptied-requires c κs = search needs
 seconds-requires : tie.Need-seconds-requires
 seconds-requires c κs = search needs
 
+resting-requires : tie.Need-resting-requires
+resting-requires c κs = search needs
+
 timed-requires : tie.Need-timed-requires
 timed-requires c κs = search needs
 
@@ -24,4 +27,11 @@ returns c = cc
 pub spent-spec : {M : Type 1} → statement M
 spent-spec =
     tie.close
-    (tie.spec moved-requires forgotten-requires emptied-requires seconds-requires timed-requires returns)
+    (tie.spec
+    moved-requires
+    forgotten-requires
+    emptied-requires
+    seconds-requires
+    resting-requires
+    timed-requires
+    returns)

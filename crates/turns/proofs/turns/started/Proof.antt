@@ -1,4 +1,5 @@
--- The setters are those of the definition, in its order. Assumes nothing.
+-- The setters are those of the definition. Assumes nothing.
+use Rattle.record.specs.Setters.{inState, withStatus, withAttempts, pending}
 use Rattle.turns.specs.Turns.{started}
 use borrow.Author.Needs.{needs}
 use Rattle.turns.proofs.turns.started.Statement.{statement}
@@ -10,12 +11,16 @@ moved-requires c κs = search needs
 pending-requires : tie.Need-pending-requires
 pending-requires c κs = search needs
 
+starting-requires : tie.Need-starting-requires
+starting-requires c κs = search needs
+
 timed-requires : tie.Need-timed-requires
 timed-requires c κs = search needs
 
 returns : tie.Need-returns
-unfolding started
-returns c = cc
+unfolding started inState withStatus withAttempts pending
+returns c = rw (c .timed .ensures, c .before .starting .ensures, c .before .before .pending .ensures, c .before .before .before .moved .ensures)
 
 pub started-spec : {M : Type 1} → statement M
-started-spec = tie.close (tie.spec moved-requires pending-requires timed-requires returns)
+started-spec =
+    tie.close (tie.spec moved-requires pending-requires starting-requires timed-requires returns)

@@ -1,0 +1,197 @@
+-- The deed of a taken event on an access is, for each network, what the history calls that event; and it finds its entry. So what a taken event makes of a
+-- network's cell is what the history says. Assumes nothing.
+use Prim.Native.Nat.{ℕ, _<_}
+use mathlib.Core.Path.{_≡_, refl, sym, _∙_, ap}
+use mathlib.Core.Bool.{Bool, true, false, cond, not, true≢false, false≢true, _&&_}
+use mathlib.Core.List.{List}
+use lib.Dec.{ltb, eqb}
+use borrow.Author.Tests.{eqb-true}
+use Rattle.record.specs.Answers.{isTaken}
+use Rattle.record.specs.Sides.{accessOf}
+use Rattle.record.specs.declared.Record.{Record}
+use Rattle.entries.specs.declared.Deed.{Deed}
+use Rattle.entries.specs.declared.Deed.the-variants as deed
+use Rattle.entries.specs.declared.Seen.{Seen}
+use Rattle.entries.specs.declared.Seat.{Seat}
+use Rattle.entries.specs.Entries.{seatOf, entriesAfter}
+use Rattle.messages.specs.declared.Reading.{Reading}
+use Rattle.messages.specs.declared.Reading.the-variants as reading
+use Rattle.messages.specs.Message.{readingOf}
+use Rattle.turns.specs.Timers.{isDeviceTimer}
+use Rattle.turns.specs.declared.Row.{Row}
+use Rattle.checks.specs.Answers.{rowNow, readAnswer}
+use Rattle.effects.specs.Effects.{cardEffect, startEffect, keyEffect, acceptEffect, clockEffect, t3247Effect, timerEffect, powerEffect, rowWork, rejectEffect}
+use Rattle.rules.specs.declared.Event.{Event}
+use Rattle.rules.specs.declared.Event.the-variants.{Card, Start, Message, Timer, Power, Key, Unknown}
+use Rattle.rules.specs.Plan.{accessIn, answerOf, messageEffect, effectOf}
+use Rattle.validity.specs.Answered.{seenAt, answeredBy}
+use Rattle.validity.specs.Sized.{Columns}
+use Rattle.validity.proofs.Taken.{message-passed, reject-passed}
+use Rattle.history.specs.Cell.{cellIn, entriesIn, cellOf}
+use Rattle.history.specs.History.{News, causeNews, messageNews, isCardChange, eventNews}
+use Rattle.history.proofs.Said.{cellAfter, blank, ended, quiet}
+use Rattle.history.proofs.Octets.{readNews, isRead, octets-news}
+use Rattle.history.proofs.Cells.{Fits, deedNews, cell-none, deed-cell}
+use Rattle.history.proofs.Next.{next, deedIn, limitsOf, columns}
+use Rattle.history.proofs.Rows.{rowNews, row-news, row-deed, row-fits}
+use Rattle.history.proofs.Stays.{small, seen-seat}
+use Rattle.history.proofs.Table.{event-table}
+
+-- a deed on one access and one on the other
+either-news : (s : Bool) (k k′ : Deed) (n : ℕ) (d : News) → (s ≡ true → deedNews k n ≡ d) → (s ≡ false → deedNews k′ n ≡ d) → deedNews (cond s k k′) n ≡ d
+either-news true k k′ n d f f′ = f refl
+either-news false k k′ n d f f′ = f′ refl
+
+either-fits : (s : Bool) (k k′ : Deed) (count : ℕ) (nets : List ℕ) → (s ≡ true → Fits k count nets) → (s ≡ false → Fits k′ count nets) → Fits (cond s k k′) count nets
+either-fits true k k′ count nets f f′ = f refl
+either-fits false k k′ count nets f f′ = f′ refl
+
+module _ (r : Record) (b protected draw : ℕ) where
+  abbrev sight : Seen
+  sight = seenAt r (Message b protected draw)
+
+  abbrev net : ℕ
+  net = accessOf (r .hot) b .net
+
+  abbrev is-protected : Bool
+  is-protected = not (eqb protected 0)
+
+  abbrev here : ℕ → Row
+  here cause = rowNow (r .hot) b protected cause
+
+  -- the row's word for the network is the history's
+  said-same : (cause n : ℕ) → cond (eqb net n) (rowNews (here cause) is-protected) quiet ≡ cond (eqb net n) (causeNews (eqb n (r .hot .dev .home)) b is-protected cause) quiet
+  unfolding rowNow
+  said-same cause n = go (eqb net n) refl
+    where
+      go : (s : Bool) → eqb net n ≡ s
+          → cond (eqb net n) (rowNews (here cause) is-protected) quiet ≡ cond (eqb net n) (causeNews (eqb n (r .hot .dev .home)) b is-protected cause) quiet
+      go true q =
+          rw q (row-news b (eqb protected 0) (eqb net (r .hot .dev .home)) (ltb (accessOf (r .hot) b .cardcounter) (r .hot .dev .cardlimit)) is-protected cause
+          ∙ ap (λ (k : ℕ). causeNews (eqb k (r .hot .dev .home)) b is-protected cause) (eqb-true net n q))
+      go false q = rw q
+
+  -- the message's own access: by what was read
+  own-news : (m : Reading) → isRead m ≡ true → (n : ℕ)
+      → deedNews (messageEffect (r .hot) b protected draw m sight .work .mine) n ≡ cond (eqb net n) (readNews (eqb n (r .hot .dev .home)) b is-protected m) quiet
+  unfolding messageEffect acceptEffect rejectEffect rowWork readNews isRead
+  own-news (reading.Accept g) t n = refl
+  own-news (reading.Reject cause) t n = row-deed (here cause) (seatOf sight net protected) n ∙ said-same cause n
+  own-news (reading.Bad f at) t n = absurd (false≢true t)
+
+  own-fits : b < 2 → (m : Reading) → isTaken (readAnswer (r .hot) b protected m sight) ≡ true
+      → Fits (messageEffect (r .hot) b protected draw m sight .work .mine) (accessOf (r .hot) b .entries) (entriesIn r b .nets)
+  unfolding messageEffect acceptEffect rejectEffect rowWork readAnswer isTaken
+  own-fits hb (reading.Accept g) t = seen-seat r b protected draw hb 1
+  own-fits hb (reading.Reject cause) t =
+      row-fits (here cause) (seatOf sight net protected) (accessOf (r .hot) b .entries) (entriesIn r b .nets) (seen-seat r b protected draw hb protected)
+      (λ need none. reject-passed (r .hot) b protected cause sight t need (ap (λ (s : Seat). s .found) (seen-seat r b protected draw hb protected) ∙ none))
+  own-fits hb (reading.Bad f at) t = absurd (false≢true t)
+
+  -- the other one: no message reaches its entries
+  others : (m : Reading) → messageEffect (r .hot) b protected draw m sight .work .theirs ≡ deed.Nothing
+  unfolding messageEffect acceptEffect rejectEffect rowWork
+  others (reading.Accept g) = refl
+  others (reading.Reject cause) = refl
+  others (reading.Bad f at) = refl
+
+  read-of : (m : Reading) → isTaken (readAnswer (r .hot) b protected m sight) ≡ true → isRead m ≡ true
+  unfolding readAnswer isRead isTaken
+  read-of (reading.Accept g) t = refl
+  read-of (reading.Reject cause) t = refl
+  read-of (reading.Bad f at) t = t
+
+  module _ (octets : List ℕ) (t : isTaken (answeredBy r (Message b protected draw) octets) ≡ true) where
+    read-taken : isTaken (readAnswer (r .hot) b protected (readingOf octets) sight) ≡ true
+    unfolding answeredBy answerOf
+    read-taken = message-passed (r .hot) b protected draw (readingOf octets) sight t .2
+
+    message-news : (w n : ℕ)
+        → deedNews (deedIn r (Message b protected draw) octets w) n
+        ≡ cond (eqb b w && eqb (accessOf (r .hot) w .net) n) (messageNews (eqb n (r .hot .dev .home)) w is-protected octets) quiet
+    unfolding accessIn effectOf
+    message-news w n = either-news (eqb b w) _ _ n _ own other
+      where
+        own : eqb b w ≡ true → deedNews (messageEffect (r .hot) b protected draw (readingOf octets) sight .work .mine) n
+            ≡ cond (eqb b w && eqb (accessOf (r .hot) w .net) n) (messageNews (eqb n (r .hot .dev .home)) w is-protected octets) quiet
+        own q =
+            own-news (readingOf octets) (read-of (readingOf octets) read-taken) n
+            ∙ ap (λ (d : News). cond (eqb net n) d quiet) (sym (octets-news (eqb n (r .hot .dev .home)) b is-protected octets (read-of (readingOf octets) read-taken)))
+            ∙ ap (λ (v : ℕ). cond (eqb (accessOf (r .hot) v .net) n) (messageNews (eqb n (r .hot .dev .home)) v is-protected octets) quiet) (eqb-true b w q) ∙ rw q
+
+        other : eqb b w ≡ false → deedNews (messageEffect (r .hot) b protected draw (readingOf octets) sight .work .theirs) n
+            ≡ cond (eqb b w && eqb (accessOf (r .hot) w .net) n) (messageNews (eqb n (r .hot .dev .home)) w is-protected octets) quiet
+        other q = rw (q, others (readingOf octets))
+
+    message-fits : (w : ℕ) → Fits (deedIn r (Message b protected draw) octets w) (accessOf (r .hot) w .entries) (entriesIn r w .nets)
+    unfolding accessIn effectOf
+    message-fits w =
+        either-fits (eqb b w) _ _ (accessOf (r .hot) w .entries) (entriesIn r w .nets)
+        (λ q. rw (sym (eqb-true b w q)) (own-fits (small r (Message b protected draw) octets t) (readingOf octets) read-taken))
+        (λ q. rw (others (readingOf octets)) tt)
+
+module _ (r : Record) where
+  -- T3247 sweeps both accesses, the timers of an access do nothing
+  timer-deeds : (number b : ℕ) → (timerEffect (r .hot) number b .work .mine ≡ cond (isDeviceTimer number) deed.Sweep deed.Nothing)
+      × (timerEffect (r .hot) number b .work .theirs ≡ cond (isDeviceTimer number) deed.Sweep deed.Nothing)
+  unfolding timerEffect t3247Effect clockEffect
+  timer-deeds number b = go (isDeviceTimer number) refl (eqb number 1) refl (eqb number 2) refl
+    where
+      go : (s : Bool) → isDeviceTimer number ≡ s → (s′ : Bool) → eqb number 1 ≡ s′ → (s″ : Bool) → eqb number 2 ≡ s″
+          → (timerEffect (r .hot) number b .work .mine ≡ cond (isDeviceTimer number) deed.Sweep deed.Nothing)
+          × (timerEffect (r .hot) number b .work .theirs ≡ cond (isDeviceTimer number) deed.Sweep deed.Nothing)
+      go true q s′ q′ s″ q″ = rw q (refl, refl)
+      go false q true q′ s″ q″ = rw (q, q′) (refl, refl)
+      go false q false q′ true q″ = rw (q, q′, q″) (refl, refl)
+      go false q false q′ false q″ = rw (q, q′, q″) (refl, refl)
+
+  timer-news : (s : Bool) (n : ℕ) → deedNews (cond s deed.Sweep deed.Nothing) n ≡ cond s ended quiet
+  timer-news true n = refl
+  timer-news false n = refl
+
+  timer-fits : (s : Bool) (count : ℕ) (nets : List ℕ) → Fits (cond s deed.Sweep deed.Nothing) count nets
+  timer-fits true count nets = tt
+  timer-fits false count nets = tt
+
+  event-news : (e : Event) (octets : List ℕ) → isTaken (answeredBy r e octets) ≡ true → isCardChange e ≡ false → (w n : ℕ)
+      → deedNews (deedIn r e octets w) n ≡ eventNews (r .hot .dev .home) (λ (v : ℕ). accessOf (r .hot) v .net) w n e octets
+  unfolding accessIn effectOf startEffect keyEffect powerEffect isCardChange eventNews isDeviceTimer
+  event-news (Card home) octets t k w n = absurd (true≢false k)
+  event-news (Start b manual net code) octets t k w n = either-news (eqb b w) deed.Nothing deed.Nothing n quiet (λ q. refl) (λ q. refl)
+  event-news (Message b protected draw) octets t k w n = message-news r b protected draw octets t w n
+  event-news (Timer number b) octets t k w n =
+      either-news (eqb b w) _ _ n _ (λ q. rw (timer-deeds number b .0) (timer-news (eqb number 4) n)) (λ q. rw (timer-deeds number b .1) (timer-news (eqb number 4) n))
+  event-news Power octets t k w n = either-news (eqb 0 w) deed.Power deed.Power n _ (λ q. refl) (λ q. refl)
+  event-news (Key b set) octets t k w n = either-news (eqb b w) deed.Nothing deed.Nothing n quiet (λ q. refl) (λ q. refl)
+  event-news Unknown octets t k w n = either-news (eqb 0 w) deed.Nothing deed.Nothing n quiet (λ q. refl) (λ q. refl)
+
+  event-fits : (e : Event) (octets : List ℕ) → isTaken (answeredBy r e octets) ≡ true → isCardChange e ≡ false → (w : ℕ)
+      → Fits (deedIn r e octets w) (accessOf (r .hot) w .entries) (entriesIn r w .nets)
+  unfolding accessIn effectOf startEffect keyEffect powerEffect isCardChange
+  event-fits (Card home) octets t k w = absurd (true≢false k)
+  event-fits (Start b manual net code) octets t k w = either-fits (eqb b w) deed.Nothing deed.Nothing _ _ (λ q. tt) (λ q. tt)
+  event-fits (Message b protected draw) octets t k w = message-fits r b protected draw octets t w
+  event-fits (Timer number b) octets t k w =
+      either-fits (eqb b w) _ _ _ _ (λ q. rw (timer-deeds number b .0) (timer-fits (isDeviceTimer number) _ _)) (λ q. rw (timer-deeds number b .1) (timer-fits (isDeviceTimer number) _ _))
+  event-fits Power octets t k w = either-fits (eqb 0 w) deed.Power deed.Power _ _ (λ q. tt) (λ q. tt)
+  event-fits (Key b set) octets t k w = either-fits (eqb b w) deed.Nothing deed.Nothing _ _ (λ q. tt) (λ q. tt)
+  event-fits Unknown octets t k w = either-fits (eqb 0 w) deed.Nothing deed.Nothing _ _ (λ q. tt) (λ q. tt)
+
+  -- the cell of network n on access w after a taken event
+  pub event-cell : Columns (r .e0) → Columns (r .e1) → (e : Event) (octets : List ℕ) → isTaken (answeredBy r e octets) ≡ true → isCardChange e ≡ false → (w n : ℕ) → w < 2
+      → cellOf (next r e octets) w n ≡ cellAfter (limitsOf r) (eventNews (r .hot .dev .home) (λ (v : ℕ). accessOf (r .hot) v .net) w n e octets) (cellOf r w n)
+  unfolding cellOf
+  event-cell c0 c1 e octets t k w n hw =
+      rw (event-table r e octets t w hw .0, event-table r e octets t w hw .1)
+      (deed-cell (limitsOf r) (deedIn r e octets w) (accessOf (r .hot) w .entries) (entriesIn r w) (columns r c0 c1 w) (event-fits e octets t k w) n
+      ∙ ap (λ (d : News). cellAfter (limitsOf r) d (cellIn (accessOf (r .hot) w .entries) (entriesIn r w) n)) (event-news e octets t k w n))
+
+  -- and after a card change: nothing
+  pub card-cell : (home : ℕ) (octets : List ℕ) → isTaken (answeredBy r (Card home) octets) ≡ true → (w n : ℕ) → w < 2 → cellOf (next r (Card home) octets) w n ≡ blank
+  unfolding cellOf accessIn effectOf cardEffect entriesAfter
+  card-cell home octets t w n hw = rw (event-table r (Card home) octets t w hw .1) (go (eqb 0 w))
+    where
+      go : (s : Bool) → cellIn (accessOf (next r (Card home) octets .hot) w .entries)
+          (entriesAfter (cond {A = Deed} s deed.Fresh deed.Fresh) (accessOf (r .hot) w .entries) (r .hot .dev .banlimit) (r .hot .dev .n1limit) (entriesIn r w)) n ≡ blank
+      go true = cell-none _ n
+      go false = cell-none _ n

@@ -1,0 +1,78 @@
+-- The record after a taken reject, read off its row's text: document 01's "Rejects" with no word on how it is carried out. Assumes nothing.
+use Prim.Native.Nat.{ℕ}
+use mathlib.Core.Bool.{cond}
+use lib.Dec.{eqb}
+use Rattle.entries.specs.declared.Entries.{Entries}
+use Rattle.entries.specs.declared.Seat.{Seat}
+use Rattle.entries.specs.Entries.{placeIn, hasEntry, banned, barredBy}
+use Rattle.areas.specs.Areas.{areaOf, placed, placedCount}
+use Rattle.record.specs.declared.Access.{Access}
+use Rattle.record.specs.declared.Record.{Record}
+use Rattle.record.specs.Sides.{accessOf}
+use Rattle.turns.specs.declared.Turn.{Turn}
+use Rattle.turns.specs.Timers.{flagAfter, clocked}
+use Rattle.turns.specs.Words.{Text, Mark, noMark, forbiddenAndCounted, n1NotAllowedAndCounted, isRoaming, isRegional, listOf, markIn, acrossOf}
+use Rattle.turns.specs.Rejects.{rejectT3247, rowText}
+use Rattle.turns.specs.Turns.{turned, otherTurned}
+use Rattle.checks.specs.Answers.{rowNow}
+
+-- the pending network's place in its access's entries, found or the first free one
+abbrev pub seat : ℕ → Access → Entries → Seat
+seat protected a t = record { at = placeIn (a .entries) (a .net) (t .nets); found = hasEntry (a .entries) (a .net) (t .nets); net = a .net; protected = protected }
+
+-- its mark and counter there
+unfoldable pub markedIn : Mark → Seat → ℕ → ℕ → Entries → Entries
+markedIn noMark k banlimit n1limit t = t
+markedIn forbiddenAndCounted k banlimit n1limit t = banned k banlimit t
+markedIn n1NotAllowedAndCounted k banlimit n1limit t = barredBy k n1limit t
+
+-- an access with its timers run or stopped
+abbrev pub after : Turn → Access
+after t = clocked (t .orders) (t .access)
+
+-- access me of an event of access w, and its entries
+abbrev accessAfter : Text → ℕ → ℕ → ℕ → ℕ → ℕ → Access → Entries → Access
+accessAfter t w me protected cause limit a e = cond (eqb w me) (after (turned t w limit cause (seat protected a e .found) a)) (after (otherTurned (acrossOf t) limit a))
+
+abbrev rejectEntries : Text → ℕ → ℕ → ℕ → ℕ → ℕ → Access → Entries → Entries
+rejectEntries t w me protected banlimit n1limit a e = cond (eqb w me) (markedIn (markIn t) (seat protected a e) banlimit n1limit e) e
+
+unfoldable pub recordAfter : Text → ℕ → ℕ → ℕ → ℕ → ℕ → Record → Record
+recordAfter t w protected cause t3247 area r = record {
+  hot = record {
+    dev = record {
+      card = r .hot .dev .card;
+      home = r .hot .dev .home;
+      suci = r .hot .dev .suci;
+      cardlimit = r .hot .dev .cardlimit;
+      banlimit = r .hot .dev .banlimit;
+      n1limit = r .hot .dev .n1limit;
+      t3247 = t3247;
+      capability = r .hot .dev .capability;
+      security = r .hot .dev .security;
+      roaming = cond (isRoaming (listOf t) w cause) (placedCount area (r .hot .dev .roaming) (r .roaming)) (r .hot .dev .roaming);
+      regional = cond (isRegional (listOf t) w cause) (placedCount area (r .hot .dev .regional) (r .regional)) (r .hot .dev .regional);
+    };
+    a0 = accessAfter t w 0 protected cause (r .hot .dev .cardlimit) (r .hot .a0) (r .e0);
+    a1 = accessAfter t w 1 protected cause (r .hot .dev .cardlimit) (r .hot .a1) (r .e1);
+  };
+  e0 = rejectEntries t w 0 protected (r .hot .dev .banlimit) (r .hot .dev .n1limit) (r .hot .a0) (r .e0);
+  e1 = rejectEntries t w 1 protected (r .hot .dev .banlimit) (r .hot .dev .n1limit) (r .hot .a1) (r .e1);
+  roaming = cond (isRoaming (listOf t) w cause) (placed area protected (r .hot .dev .roaming) (r .roaming)) (r .roaming);
+  regional = cond (isRegional (listOf t) w cause) (placed area protected (r .hot .dev .regional) (r .regional)) (r .regional);
+  guti0 = r .guti0;
+  guti1 = r .guti1;
+  equivalents0 = r .equivalents0;
+  equivalents1 = r .equivalents1;
+  suci = r .suci;
+  capability = r .capability;
+  security = r .security;
+}
+
+-- the row's text, T3247, and the pending area
+unfoldable pub rejectRecord : Record → ℕ → ℕ → ℕ → ℕ → Record
+rejectRecord r w protected draw cause =
+    recordAfter (rowText (rowNow (r .hot) w protected cause)) w protected cause
+    (flagAfter (rejectT3247 (r .hot .dev .t3247) protected cause draw) (r .hot .dev .t3247))
+    (areaOf (accessOf (r .hot) w .net) (accessOf (r .hot) w .code))
+    r
