@@ -10,7 +10,6 @@ use record::Hot;
 use record::Record;
 use rules::Plan;
 use rules::Reply;
-pub use value::advance;
 pub use value::step;
 
 // The answer with what is told, and the record after the event.

@@ -10,7 +10,7 @@ ghost use mathlib.Core.Path.{_≡_};
 ghost use Rattle.events.specs.Step.{advanceOf, stepOf};
 
 // For a record that is known to be valid: nothing is tested.
-pub fn advance(r: Record, e: Event, octets: &[u8]) -> Outcome
+fn advance(r: Record, e: Event, octets: &[u8]) -> Outcome
     ensures { λ o. ⌜ o ≡ advanceOf r e (now (octets .entry)) ⌝ }
 {
     let s = r.e0;

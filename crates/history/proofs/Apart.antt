@@ -1,14 +1,16 @@
--- An unprotected message changes nothing on the other access: no row of an unprotected reject reaches it, an unprotected accept is refused. Assumes nothing.
+-- An event of one access changes nothing on the other: its effect turns the other access by no row but a protected 3, 6 or 7, has no deed for its entries, and keeps what
+-- it was given on its own. Assumes nothing.
 use Prim.Native.Nat.{ℕ, _<_}
 use mathlib.Core.Path.{_≡_, refl, _∙_, ap}
 use mathlib.Core.Bool.{Bool, true, false, cond, false≢true}
 use mathlib.Core.List.{List}
 use lib.Dec.{ltb, eqb}
-use Rattle.record.specs.Tests.{both}
+use Rattle.record.specs.Tests.{both, flip}
 use Rattle.record.specs.Answers.{isTaken}
 use Rattle.ranges.specs.Valid.{validOf}
 use Rattle.record.specs.declared.Access.{Access}
 use Rattle.record.specs.declared.Record.{Record}
+use Rattle.record.specs.Setters.{counted}
 use Rattle.entries.specs.declared.Entries.{Entries}
 use Rattle.entries.specs.declared.Deed.the-variants as deed
 use Rattle.entries.specs.declared.Seen.{Seen}
@@ -16,124 +18,171 @@ use Rattle.entries.specs.Entries.{entriesAfter}
 use Rattle.messages.specs.declared.Reading.{Reading}
 use Rattle.messages.specs.declared.Reading.the-variants as reading
 use Rattle.messages.specs.Message.{readingOf}
-use Rattle.turns.specs.declared.Row.the-variants.{CardBelow, CardLimit, Away, Home, Area, N1, Protocol, Other}
+use Rattle.turns.specs.declared.Row.the-variants.{CardBelow, CardLimit, CardProtected, Away, Home, Area, N1, Protocol, Other}
 use Rattle.turns.specs.declared.Turn.{Turn}
-use Rattle.turns.specs.Timers.{flagAfter, clocked}
+use Rattle.turns.specs.Timers.{isDeviceTimer, flagAfter, clocked}
 use Rattle.turns.specs.Rejects.{isCard, isNetworkNo, isAreaNo, isN1No, isProtocol, rowOf, rowText}
 use Rattle.turns.specs.Words.{acrossOf}
 use Rattle.turns.specs.Turns.{still, otherTurned, otherTurn}
 use Rattle.effects.specs.declared.Keep.{Keep}
 use Rattle.effects.specs.declared.Keep.the-variants as keep
-use Rattle.effects.specs.Effects.{Effect, rowWork, rejectEffect}
+use Rattle.effects.specs.Effects.{Effect, startEffect, keyEffect, acceptEffect, clockEffect, timerEffect, rowWork, rejectEffect}
 use Rattle.rules.specs.declared.Event.{Event}
-use Rattle.rules.specs.declared.Event.the-variants.{Message}
+use Rattle.rules.specs.declared.Event.the-variants.{Card, Start, Message, Timer, Power, Key, Unknown}
 use Rattle.record.specs.Sides.{accessOf, otherOf}
-use Rattle.checks.specs.Answers.{readAnswer, rowNow}
-use Rattle.rules.specs.Plan.{accessIn, answerOf, messageEffect, effectOf, takenPlan}
+use Rattle.checks.specs.Answers.{rowNow}
+use Rattle.rules.specs.Plan.{accessIn, messageEffect, effectOf, refusedReply, takenPlan}
 use Rattle.events.specs.Parts.{gutiAfter, equivalentsAfter}
 use Rattle.events.specs.Step.{stepOf}
 use Rattle.events.specs.declared.Outcome.{Outcome}
 use Rattle.validity.specs.Answered.{seenAt, answeredBy}
-use Rattle.validity.proofs.Refusal.{effectIn, taken-plan, refused}
-use Rattle.validity.proofs.Taken.{message-passed}
+use Rattle.validity.proofs.Bools.{flip-true}
+use Rattle.validity.proofs.Refusal.{effectIn, taken-plan, refused, answer-told}
 use Rattle.history.specs.Cell.{entriesIn}
 use Rattle.history.specs.Apart.{Half, halfOf}
+use Rattle.history.specs.Across.{isOwn, refusesCard, crosses, halfAfter}
 use Rattle.history.proofs.Next.{other-of, next, plan, carry-guti, carry-equivalents, taken-access, taken-entries}
 use Rattle.history.proofs.Stays.{small}
 
--- the rows of an unprotected reject leave the other access
-bare-rows : (b c d e f at-home below : Bool) (limit : ℕ) (a : Access)
-    → otherTurn (cond b (cond below CardBelow CardLimit) (cond c (cond at-home Home Away) (cond d Area (cond e N1 (cond f Protocol Other))))) limit a ≡ still a
+-- the rows leave the other access, but for the protected one of 3, 6 and 7
+across-rows : (b c d e f bare at-home below : Bool) (limit : ℕ) (a : Access)
+    → otherTurn (cond b (cond bare (cond below CardBelow CardLimit) CardProtected) (cond c (cond at-home (cond bare Home Other) Away) (cond d Area (cond e N1 (cond f Protocol Other))))) limit a
+    ≡ still (cond (both b (flip bare)) (counted limit a) a)
 unfolding otherTurn otherTurned rowText acrossOf
-bare-rows true c d e f at-home true limit a = refl
-bare-rows true c d e f at-home false limit a = refl
-bare-rows false true d e f true below limit a = refl
-bare-rows false true d e f false below limit a = refl
-bare-rows false false true e f at-home below limit a = refl
-bare-rows false false false true f at-home below limit a = refl
-bare-rows false false false false true at-home below limit a = refl
-bare-rows false false false false false at-home below limit a = refl
+across-rows true c d e f true at-home true limit a = refl
+across-rows true c d e f true at-home false limit a = refl
+across-rows true c d e f false at-home below limit a = refl
+across-rows false true d e f true true below limit a = refl
+across-rows false true d e f false true below limit a = refl
+across-rows false true d e f bare false below limit a = refl
+across-rows false false true e f bare at-home below limit a = refl
+across-rows false false false true f bare at-home below limit a = refl
+across-rows false false false false true bare at-home below limit a = refl
+across-rows false false false false false bare at-home below limit a = refl
 
 still-is : (a : Access) → clocked (still a .orders) (still a .access) ≡ a
 unfolding clocked flagAfter
 still-is a = refl
 
--- nothing is to keep
-guti-stays : (k : Keep) (own : Bool) (octets guti : List ℕ) → k ≡ keep.Nothing → gutiAfter k own octets guti ≡ guti
-unfolding gutiAfter
-guti-stays k own octets guti z = rw z
+-- no card change: what is kept is kept on the event's own access
+abbrev NoCard : Keep → Type 0
+NoCard keep.Nothing = Unit {0}
+NoCard (keep.Gift g) = Unit {0}
+NoCard keep.Card = ⊥
 
-kept-networks : (k : Keep) (own : Bool) (octets equivalents : List ℕ) → k ≡ keep.Nothing → equivalentsAfter k own octets equivalents ≡ equivalents
+guti-stays : (k : Keep) (octets guti : List ℕ) → NoCard k → gutiAfter k false octets guti ≡ guti
+unfolding gutiAfter
+guti-stays keep.Nothing octets guti c = refl
+guti-stays (keep.Gift g) octets guti c = refl
+guti-stays keep.Card octets guti c = absurd c
+
+kept-networks : (k : Keep) (octets equivalents : List ℕ) → NoCard k → equivalentsAfter k false octets equivalents ≡ equivalents
 unfolding equivalentsAfter
-kept-networks k own octets equivalents z = rw z
+kept-networks keep.Nothing octets equivalents c = refl
+kept-networks (keep.Gift g) octets equivalents c = refl
+kept-networks keep.Card octets equivalents c = absurd c
 
 halves : {a a′ : Access} {t t′ : Entries} {g g′ e e′ : List ℕ} → a ≡ a′ → t ≡ t′ → g ≡ g′ → e ≡ e′
     → _≡_ {A = Half} (record { numbers = a; entries = t; guti = g; equivalents = e }) (record { numbers = a′; entries = t′; guti = g′; equivalents = e′ })
 halves p q s t = cc
 
-module _ (r : Record) (b draw : ℕ) (octets : List ℕ) where
-  abbrev event : Event
-  event = Message b 0 draw
+module _ (r : Record) where
+  abbrev limit : ℕ
+  limit = r .hot .dev .cardlimit
 
-  bare-row : (cause : ℕ) → otherTurn (rowNow (r .hot) b 0 cause) (r .hot .dev .cardlimit) (otherOf (r .hot) b) ≡ still (otherOf (r .hot) b)
-  unfolding rowNow rowOf
-  bare-row cause =
-      bare-rows (isCard cause) (isNetworkNo cause) (both (isAreaNo cause) (eqb b 0)) (isN1No b cause) (isProtocol cause)
-      (eqb (accessOf (r .hot) b .net) (r .hot .dev .home)) (ltb (accessOf (r .hot) b .cardcounter) (r .hot .dev .cardlimit)) (r .hot .dev .cardlimit) (otherOf (r .hot) b)
+  -- an effect of access b's: what the other access turns to, no deed for its entries, no card
+  record Own (b : ℕ) (crossed : Bool) (x : Effect) : Type 0 where
+    theirs : x .theirs ≡ still (cond crossed (counted limit (otherOf (r .hot) b)) (otherOf (r .hot) b))
+    deed : x .work .theirs ≡ deed.Nothing
+    kept : NoCard (x .work .keep)
 
-  -- what a taken unprotected message does: it is a reject, nothing of the other access turns, and its own arrays but the entries stay
-  record Unprotected (e : Effect) : Type 0 where
-    theirs : e .theirs ≡ still (otherOf (r .hot) b)
-    deed : e .work .theirs ≡ deed.Nothing
-    kept : e .work .keep ≡ keep.Nothing
+  message-own : (b protected draw : ℕ) (m : Reading) (s : Seen) → Own b (crosses (Message b protected draw) m) (messageEffect (r .hot) b protected draw m s)
+  unfolding crosses refusesCard messageEffect acceptEffect rejectEffect rowWork rowNow rowOf isCard
+  message-own b protected draw (reading.Accept g) s = record { theirs = refl; deed = refl; kept = tt }
+  message-own b protected draw (reading.Reject cause) s = record {
+    theirs =
+        across-rows (isCard cause) (isNetworkNo cause) (both (isAreaNo cause) (eqb b 0)) (isN1No b cause) (isProtocol cause) (eqb protected 0)
+        (eqb (accessOf (r .hot) b .net) (r .hot .dev .home)) (ltb (accessOf (r .hot) b .cardcounter) limit) limit (otherOf (r .hot) b);
+    deed = refl;
+    kept = tt;
+  }
+  message-own b protected draw (reading.Bad f at) s = record { theirs = refl; deed = refl; kept = tt }
 
-  bare : (m : Reading) (s : Seen) → isTaken (readAnswer (r .hot) b 0 m s) ≡ true → Unprotected (messageEffect (r .hot) b 0 draw m s)
-  unfolding readAnswer messageEffect rejectEffect rowWork isTaken
-  bare (reading.Accept g) s t = absurd (false≢true t)
-  bare (reading.Reject cause) s t = record { theirs = bare-row cause; deed = refl; kept = refl }
-  bare (reading.Bad f at) s t = absurd (false≢true t)
-
-  module _ (t : isTaken (answeredBy r event octets) ≡ true) (w : ℕ) (hw : w < 2) (q : eqb b w ≡ false) where
-    effect-bare : Unprotected (effectIn r event octets)
-    unfolding answeredBy answerOf effectOf
-    effect-bare = bare (readingOf octets) (seenAt r event) (message-passed (r .hot) b 0 draw (readingOf octets) (seenAt r event) t .2)
-
-    hb : b < 2
-    unfolding accessIn
-    hb = small r event octets t
-
-    numbers-same : accessOf (next r event octets .hot) w ≡ accessOf (r .hot) w
-    unfolding accessIn
-    numbers-same =
-        taken-access r event octets t hb w hw
-        ∙ ap (λ (s : Bool). cond s (clocked (effectIn r event octets .mine .orders) (effectIn r event octets .mine .access)) (clocked (effectIn r event octets .theirs .orders) (effectIn r event octets .theirs .access))) q
-        ∙ ap (λ (o : Turn). clocked (o .orders) (o .access)) (effect-bare .theirs)
-        ∙ still-is (otherOf (r .hot) b)
-        ∙ other-of (r .hot) b w hb hw q
-
-    entries-same : entriesIn (next r event octets) w ≡ entriesIn r w
-    unfolding accessIn entriesAfter
-    entries-same = taken-entries r event octets t w hw ∙ rw (q, effect-bare .deed)
-
-    plan-keep : plan r event octets .work .keep ≡ keep.Nothing
-    unfolding takenPlan
-    plan-keep = effect-bare .kept
-
-    taken-same : halfOf (next r event octets) w ≡ halfOf r w
-    unfolding halfOf
-    taken-same =
-        halves numbers-same entries-same
-        (ap (λ (o : Outcome). cond (eqb w 0) (o .next .guti0) (o .next .guti1)) (taken-plan r event octets t) ∙ carry-guti r octets (plan r event octets) w hw
-        ∙ guti-stays (plan r event octets .work .keep) (eqb (plan r event octets .access) w) octets (cond (eqb w 0) (r .guti0) (r .guti1)) plan-keep)
-        (ap (λ (o : Outcome). cond (eqb w 0) (o .next .equivalents0) (o .next .equivalents1)) (taken-plan r event octets t) ∙ carry-equivalents r octets (plan r event octets) w hw
-        ∙ kept-networks (plan r event octets .work .keep) (eqb (plan r event octets .access) w) octets (cond (eqb w 0) (r .equivalents0) (r .equivalents1)) plan-keep)
-
-  -- An unprotected message, taken or refused, leaves the other access's whole record.
-  pub apart : (w : ℕ) → w < 2 → eqb b w ≡ false → halfOf (stepOf r event octets .next) w ≡ halfOf r w
-  unfolding stepOf
-  apart w hw q = go (validOf r) refl (isTaken (answeredBy r event octets)) refl
+  clock-own : (number b : ℕ) → Own b false (clockEffect (r .hot) number b)
+  unfolding clockEffect
+  clock-own number b = go (eqb number 1) refl (eqb number 2) refl
     where
-      go : (s : Bool) → validOf r ≡ s → (s′ : Bool) → isTaken (answeredBy r event octets) ≡ s′ → halfOf (stepOf r event octets .next) w ≡ halfOf r w
-      go true v true t = rw v (taken-same t w hw q)
-      go true v false t = rw v (ap (λ (o : Outcome). halfOf (o .next) w) (refused r event octets t))
-      go false v s′ t = rw v
+      go : (s : Bool) → eqb number 1 ≡ s → (s′ : Bool) → eqb number 2 ≡ s′ → Own b false (clockEffect (r .hot) number b)
+      go true q s′ q′ = rw q (record { theirs = refl; deed = refl; kept = tt })
+      go false q true q′ = rw (q, q′) (record { theirs = refl; deed = refl; kept = tt })
+      go false q false q′ = rw (q, q′) (record { theirs = refl; deed = refl; kept = tt })
+
+  event-own : (e : Event) (s : Seen) (octets : List ℕ) → isOwn e ≡ true → Own (accessIn e) (crosses e (readingOf octets)) (effectOf (r .hot) e s octets)
+  unfolding isOwn crosses accessIn effectOf startEffect keyEffect timerEffect isDeviceTimer
+  event-own (Card home) s octets o = absurd (false≢true o)
+  event-own (Start b manual net code) s octets o = record { theirs = refl; deed = refl; kept = tt }
+  event-own (Message b protected draw) s octets o = message-own b protected draw (readingOf octets) s
+  event-own (Timer number b) s octets o = rw (flip-true (eqb number 4) o) (clock-own number b)
+  event-own Power s octets o = absurd (false≢true o)
+  event-own (Key b set) s octets o = record { theirs = refl; deed = refl; kept = tt }
+  event-own Unknown s octets o = absurd (false≢true o)
+
+  module _ (e : Event) (octets : List ℕ) (w : ℕ) (hw : w < 2) (q : eqb (accessIn e) w ≡ false) where
+    abbrev crossed : Bool
+    crossed = crosses e (readingOf octets)
+
+    module _ (o : isOwn e ≡ true) (t : isTaken (answeredBy r e octets) ≡ true) where
+      effect-own : Own (accessIn e) crossed (effectIn r e octets)
+      effect-own = event-own e (seenAt r e) octets o
+
+      numbers-after : accessOf (next r e octets .hot) w ≡ cond crossed (counted limit (accessOf (r .hot) w)) (accessOf (r .hot) w)
+      numbers-after =
+          taken-access r e octets t (small r e octets t) w hw
+          ∙ ap (λ (s : Bool). cond s (clocked (effectIn r e octets .mine .orders) (effectIn r e octets .mine .access)) (clocked (effectIn r e octets .theirs .orders) (effectIn r e octets .theirs .access))) q
+          ∙ ap (λ (u : Turn). clocked (u .orders) (u .access)) (effect-own .theirs)
+          ∙ still-is (cond crossed (counted limit (otherOf (r .hot) (accessIn e))) (otherOf (r .hot) (accessIn e)))
+          ∙ ap (λ (a : Access). cond crossed (counted limit a) a) (other-of (r .hot) (accessIn e) w (small r e octets t) hw q)
+
+      entries-same : entriesIn (next r e octets) w ≡ entriesIn r w
+      unfolding entriesAfter
+      entries-same = taken-entries r e octets t w hw ∙ rw (q, effect-own .deed)
+
+      guti-same : cond (eqb w 0) (next r e octets .guti0) (next r e octets .guti1) ≡ cond (eqb w 0) (r .guti0) (r .guti1)
+      unfolding takenPlan
+      guti-same =
+          ap (λ (x : Outcome). cond (eqb w 0) (x .next .guti0) (x .next .guti1)) (taken-plan r e octets t) ∙ carry-guti r octets (plan r e octets) w hw
+          ∙ rw (q, guti-stays (effectIn r e octets .work .keep) octets (cond (eqb w 0) (r .guti0) (r .guti1)) (effect-own .kept))
+
+      networks-same : cond (eqb w 0) (next r e octets .equivalents0) (next r e octets .equivalents1) ≡ cond (eqb w 0) (r .equivalents0) (r .equivalents1)
+      unfolding takenPlan
+      networks-same =
+          ap (λ (x : Outcome). cond (eqb w 0) (x .next .equivalents0) (x .next .equivalents1)) (taken-plan r e octets t) ∙ carry-equivalents r octets (plan r e octets) w hw
+          ∙ rw (q, kept-networks (effectIn r e octets .work .keep) octets (cond (eqb w 0) (r .equivalents0) (r .equivalents1)) (effect-own .kept))
+
+      taken-half : halfOf (next r e octets) w ≡ halfAfter crossed limit (halfOf r w)
+      unfolding halfOf halfAfter
+      taken-half = halves numbers-after entries-same guti-same networks-same
+
+    -- An event of one access, taken or refused, leaves the other access's whole record, but for its card counter after a taken protected 3, 6 or 7.
+    pub own-apart : isOwn e ≡ true → halfOf (stepOf r e octets .next) w ≡ halfAfter (both (isTaken (stepOf r e octets .reply .answer)) crossed) limit (halfOf r w)
+    unfolding stepOf refusedReply isTaken halfAfter
+    own-apart o = go (validOf r) refl (isTaken (answeredBy r e octets)) refl
+      where
+        go : (s : Bool) → validOf r ≡ s → (s′ : Bool) → isTaken (answeredBy r e octets) ≡ s′
+            → halfOf (stepOf r e octets .next) w ≡ halfAfter (both (isTaken (stepOf r e octets .reply .answer)) crossed) limit (halfOf r w)
+        go true v true t = rw (v, answer-told r e octets, t) (taken-half o t)
+        go true v false t = rw (v, answer-told r e octets, t) (ap (λ (x : Outcome). halfOf (x .next) w) (refused r e octets t))
+        go false v s′ t = rw v
+
+-- so an unprotected message leaves all of it
+bare-half : (t c : Bool) (limit : ℕ) (x : Half) → halfAfter (both t (both c false)) limit x ≡ x
+unfolding halfAfter
+bare-half true true limit x = refl
+bare-half true false limit x = refl
+bare-half false c limit x = refl
+
+pub apart : (r : Record) (b draw : ℕ) (octets : List ℕ) (w : ℕ) → w < 2 → eqb b w ≡ false → halfOf (stepOf r (Message b 0 draw) octets .next) w ≡ halfOf r w
+unfolding isOwn crosses accessIn
+apart r b draw octets w hw q =
+    own-apart r (Message b 0 draw) octets w hw q refl
+    ∙ bare-half (isTaken (stepOf r (Message b 0 draw) octets .reply .answer)) (refusesCard (readingOf octets)) (r .hot .dev .cardlimit) (halfOf r w)

@@ -15,4 +15,7 @@ pub mod Apart
 pub mod Facts
 pub mod Refusals
 pub mod Replayed
+pub mod Requests
 pub mod Single
+pub mod Answered
+pub mod Whole

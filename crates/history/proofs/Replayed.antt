@@ -36,7 +36,7 @@ replayed (entry e octets l) r o s v =
 
 -- the octets of a log's events are octets of the log
 
-take-small : (n k : ℕ) (s : List ℕ) → Octets s → getD (take n s) k 0 < 256
+pub take-small : (n k : ℕ) (s : List ℕ) → Octets s → getD (take n s) k 0 < 256
 take-small zero k s o = omega arith
 take-small (suc n) k [] o = omega arith
 take-small (suc n) zero (x ∷ s) o = o 0
@@ -46,7 +46,7 @@ either-small : (t : Bool) (x y : List ℕ) → Octets x → Octets y → Octets 
 either-small true x y a b = a
 either-small false x y a b = b
 
-beside-small : (s : List ℕ) → Octets s → Octets (octetsIn s)
+pub beside-small : (s : List ℕ) → Octets s → Octets (octetsIn s)
 unfolding besideOf
 beside-small s o =
     either-small (eqb (pairAt s 0) 1) _ _ (drop-octets 3 (drop 2 s) (drop-octets 2 s o))
@@ -64,7 +64,7 @@ record-small len at s l o a =
     (or-bad (ltb (length s) len) at (entry (eventIn (take len s)) (octetsIn (take len s)) l)
     (beside-small (take len s) (λ k. take-small len k s o), a))
 
-log-small : (k at : ℕ) (s : List ℕ) → Octets s → AllOctets (heardIn (logOf k at s))
+pub log-small : (k at : ℕ) (s : List ℕ) → Octets s → AllOctets (heardIn (logOf k at s))
 unfolding logOf heardIn
 log-small k at [] o = tt
 log-small (suc k) at (x ∷ s) o = log-small k (suc at) s (λ j. o (suc j))

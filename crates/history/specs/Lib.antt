@@ -3,5 +3,6 @@ pub mod Run
 pub mod Cell
 pub mod History
 pub mod Apart
+pub mod Across
 pub mod Facts
 pub mod Replayed

@@ -2,4 +2,6 @@
 pub mod Codes
 pub mod Elements
 pub mod Held
+pub mod Inside
+pub mod Order
 pub mod Table

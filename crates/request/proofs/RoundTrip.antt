@@ -1,4 +1,5 @@
--- Reading what the layout gives, for any fields that fit, gives them back: the opening as it stands, each element by its identifier. Assumes nothing.
+-- Reading what the layout gives, for any fields that fit, gives them back: the opening as it stands, each element by its identifier, in any order and
+-- with others among them. Assumes nothing.
 use Prim.Native.Nat.{ℕ, suc, _+_, _*_, _/_, _%_, _≤_}
 use mathlib.Core.Path.{_≡_, refl, _∙_, ap}
 use mathlib.Core.Bool.{Bool, true, false, cond}
@@ -13,7 +14,7 @@ use Rattle.octets.specs.declared.Part.{Part}
 use Rattle.octets.specs.declared.Ending.the-variants.{Whole}
 use Rattle.octets.specs.Element.{Elements, formatOf, elementsFrom, firstOf, endOf}
 use Rattle.messages.specs.Message.{openedBy, endedBy}
-use Rattle.request.specs.Layout.{Fields, Fit, lengthIn, laid, openingHead, opening, itemsOf, octetsOf, shown, layout}
+use Rattle.request.specs.Layout.{Fields, Fit, Item, lengthIn, laid, openingHead, opening, itemsOf, octetsOf, shown, layout}
 use Rattle.request.specs.Layout.Form.{plainForm}
 use Rattle.request.specs.Reading.{isFourth, isIdentity, isSecurity, isCapability, isRequest, capabilityOf, requestIn, judgedOf, askedOf, partsReading, restReading, requestReading, askingOf, cutOf, toldBy}
 use Rattle.request.specs.Reading.Said.{says}
@@ -77,9 +78,16 @@ module _ {s : List ℕ} {q : Part} where
   stays [] h = rw (h .len)
   stays (o ∷ c) h = rw (ne-eqb (q .len) 0 (λ e. omega (arith, h .len))) (h .cut)
 
-module _ (f : Fields) (fit : Fit f) where
+-- elements that say what the fields say, in any order, others among them
+pub record Tells (i : List Item) (f : Fields) : Type 0 where
+  pub read : AllRead i
+  pub capability : saysIn 0x10 i ≡ f .capability
+  pub security : saysIn 0x2E i ≡ f .security
+  pub last : saysIn 0x52 i ≡ f .last
+
+module _ (f : Fields) (fit : Fit f) (i : List Item) (tells : Tells i f) where
   abbrev s : List ℕ
-  s = octetsOf f
+  s = opening f ++ laid i
 
   abbrev n : ℕ
   n = length (f .identity)
@@ -94,59 +102,60 @@ module _ (f : Fields) (fit : Fit f) where
   unfolding opening openingHead lengthIn
   opened = omega arith
 
-  finds : (x : ℕ) → Found s (firstOf x l) (saysIn x (itemsOf f))
-  unfolding octetsOf
-  finds x = rw (← opened) (back (opening f) (itemsOf f) (all-read f fit) x)
+  finds : (x : ℕ) → Found s (firstOf x l) (saysIn x i)
+  finds x = rw (← opened) (back (opening f) i (tells .read) x)
 
   found-capability : Found s (firstOf 0x10 l) (f .capability)
-  unfolding saysIn itemsOf
-  found-capability = rw alone at (finds 0x10)
+  found-capability = rw (tells .capability) at (finds 0x10)
 
   found-security : Found s (firstOf 0x2E l) (f .security)
-  unfolding saysIn itemsOf
-  found-security = rw alone at (finds 0x2E)
+  found-security = rw (tells .security) at (finds 0x2E)
 
   found-last : Found s (firstOf 0x52 l) (f .last)
-  unfolding saysIn itemsOf
-  found-last = rw alone at (finds 0x52)
+  found-last = rw (tells .last) at (finds 0x52)
 
   begins : askingOf s ≡ partsReading s n
-  unfolding octetsOf opening openingHead lengthIn
-  begins = let h : n ≤ 64 = size .1 in headed (f .ksi * 16 + f .kind) (n / 256) (n % 256) (f .identity ++ laid (itemsOf f)) n (omega arith)
+  unfolding opening openingHead lengthIn
+  begins = let h : n ≤ 64 = size .1 in headed (f .ksi * 16 + f .kind) (n / 256) (n % 256) (f .identity ++ laid i) n (omega arith)
 
   goes : partsReading s n ≡ judgedOf s n l
-  unfolding partsReading askedOf endedBy octetsOf
+  unfolding partsReading askedOf endedBy
   goes = rw (le-ltb (length s) (6 + n) fits, whole)
     where
-      fits : 6 + n ≤ length (opening f ++ laid (itemsOf f))
-      fits = omega (arith, length-append (opening f) (laid (itemsOf f)), opened)
+      fits : 6 + n ≤ length (opening f ++ laid i)
+      fits = omega (arith, length-append (opening f) (laid i), opened)
 
       whole : endOf l ≡ Whole
-      whole = rw (← opened) (ends (opening f) (itemsOf f) (all-read f fit))
+      whole = rw (← opened) (ends (opening f) i (tells .read))
 
   opens : (isFourth (getD s 3 0) ≡ true) × (isIdentity (getD s 6 0) n ≡ true)
-  unfolding octetsOf opening openingHead lengthIn
-  opens = (fourth (f .ksi) (f .kind) (fit .kind) (fit .ksi), rw (leads (f .identity) (laid (itemsOf f)) (size .0)) (identified (getD (f .identity) 0 0) n (fit .identity)))
+  unfolding opening openingHead lengthIn
+  opens = (fourth (f .ksi) (f .kind) (fit .kind) (fit .ksi), rw (leads (f .identity) (laid i) (size .0)) (identified (getD (f .identity) 0 0) n (fit .identity)))
 
   judged : judgedOf s n l ≡ asking.Request (requestIn s n l)
   unfolding judgedOf isRequest
   judged = rw (opens .0, opens .1, capable (f .capability) found-capability (fit .capability), secure (f .security) found-security (fit .security .0) (fit .security .1))
 
   same-identity : cutOf s (record { held = true; start = 6; len = n }) ≡ f .identity
-  unfolding cutOf octetsOf opening openingHead lengthIn
-  same-identity = take-at (f .identity) (laid (itemsOf f)) n refl
+  unfolding cutOf opening openingHead lengthIn
+  same-identity = take-at (f .identity) (laid i) n refl
 
   halves : (getD s 3 0 % 16 ≡ f .kind) × (getD s 3 0 / 16 ≡ f .ksi)
-  unfolding octetsOf opening openingHead
+  unfolding opening openingHead
   halves = let h : f .kind ≡ 1 = fit .kind in (omega arith, omega arith)
 
   told : toldBy s (asking.Request (requestIn s n l)) ≡ says f
   unfolding toldBy requestIn
   told = rw (halves .0, halves .1, same-identity, stays (f .capability) found-capability, found-security .cut, found-last .cut)
 
-  -- the round trip
-  pub round : toldBy (octetsOf f) (askingOf (octetsOf f)) ≡ says f
-  round = ap (toldBy s) (begins ∙ goes ∙ judged) ∙ told
+  -- "Reading a request back accepts, elements in any order": others among them change nothing of what is said
+  pub any-order : toldBy (opening f ++ laid i) (askingOf (opening f ++ laid i)) ≡ says f
+  any-order = ap (toldBy s) (begins ∙ goes ∙ judged) ∙ told
+
+-- the round trip: the elements in the order of the layout
+pub round : (f : Fields) → Fit f → toldBy (octetsOf f) (askingOf (octetsOf f)) ≡ says f
+unfolding octetsOf saysIn itemsOf
+round f fit = any-order f fit (itemsOf f) (record { read = all-read f fit; capability = alone (f .capability); security = alone (f .security); last = alone (f .last) })
 
 -- what ngKSI 7 leaves out fits too
 either : (b : Bool) (f g : Fields) → Fit f → Fit g → Fit (cond b f g)

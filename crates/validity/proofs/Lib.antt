@@ -1,4 +1,4 @@
--- A record stays valid.
+-- What is so of every step: a record stays valid, a refusal changes and tells nothing, timers are told as they are; and the record after a card, a power cycle, a reject.
 pub mod Bools
 pub mod Arrays
 pub mod Good
@@ -19,3 +19,9 @@ pub mod Kept
 pub mod Runs
 pub mod Card
 pub mod Reject
+pub mod Rows
+pub mod Causes
+pub mod Reply
+pub mod Silent
+pub mod Told
+pub mod Power

@@ -15,6 +15,11 @@ use Rattle.validity.proofs.Sizes.{step-sized, made-sized}
 use Rattle.validity.proofs.Kept.{step-advances, step-valid}
 
 -- a run keeps what a step keeps
+pub run-sized : (r : Record) (xs : List Heard) → Sized r → Sized (runOf r xs)
+unfolding runOf
+run-sized r [] z = z
+run-sized r (x ∷ xs) z = run-sized (stepOf r (x .event) (x .octets) .next) xs (step-sized r (x .event) (x .octets) z)
+
 pub run-valid : (r : Record) (xs : List Heard) → AllOctets xs → Sized r → validOf r ≡ true → validOf (runOf r xs) ≡ true
 unfolding runOf
 run-valid r [] o z v = v

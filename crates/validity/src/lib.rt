@@ -1,1 +1,1 @@
-// A valid record stays valid, a refusal changes nothing, and a record run from a new one is valid: no code.
+// A valid record stays valid, a refusal changes and tells nothing, and what a card, a power cycle and a reject leave is written out: no code.

@@ -1,0 +1,216 @@
+-- What reads as a request is one: each test that the reading makes is a fact of the octets. All else is answer 3. Assumes nothing.
+use Prim.Native.Nat.{ℕ, _+_, _*_, _/_, _%_, _<_, _≤_}
+use mathlib.Core.Path.{_≡_, refl, sym, _∙_, subst}
+use mathlib.Core.Bool.{Bool, true, false, cond, false≢true}
+use mathlib.Core.Logic.{_⊎_, inl, inr, _≢_}
+use mathlib.Core.List.{List, []}
+use native.Mathlib.Omega.{arith}
+use lib.ListN.{length, getD, take, drop, length-drop}
+use lib.Seq.{length-take-le, getD-take, getD-drop}
+use lib.Dec.{ltb, leb, eqb}
+use borrow.Author.Tests.{ltb-true, ltb-false, leb-true, eqb-true, eqb-false}
+use Rattle.octets.specs.declared.Fault.{Fault}
+use Rattle.octets.specs.declared.Fault.the-variants.{Cut, First, Second, Kind, Past, Strange}
+use Rattle.octets.specs.declared.Part.{Part}
+use Rattle.octets.specs.Element.{Elements, elementsFrom, absent, firstOf, endOf}
+use Rattle.octets.specs.Element.Elements.{over, broken, element}
+use Rattle.octets.proofs.Inside.{Sound, from-place, found-inside}
+use Rattle.messages.specs.Message.{openedBy, endedBy}
+use Rattle.record.specs.Tests.{both, either, within}
+use Rattle.record.proofs.Bounds.{one, rest, least, most}
+use Rattle.request.specs.Layout.{Fields, Fit, octetsOf}
+use Rattle.request.specs.Reading.{isFourth, isIdentity, isSecurity, isCapability, isRequest, capabilityOf, requestIn, judgedOf, askedOf, partsReading, restReading, requestReading, askingOf, cutOf, toldBy, askingNumber}
+use Rattle.request.specs.Reading.Said.{says}
+use Rattle.request.specs.declared.Request.{Request}
+use Rattle.request.specs.declared.Asking.{Asking}
+use Rattle.request.specs.declared.Asking.the-variants as asking
+use Rattle.request.proofs.RoundTrip.{round}
+
+-- "identity F2 and 10 octets, or 01 and 9 to 64 octets in all", by its first octet and its length
+abbrev Known : ℕ → ℕ → Type 0
+Known o n = ((o ≡ 0xF2) × (n ≡ 11)) ⊎ ((o ≡ 0x01) × ((9 ≤ n) × (n ≤ 64)))
+
+-- Octets that are a request, and what is read in them: each part that is held lies in them and in its range.
+pub record Asked (s : List ℕ) (q : Request) : Type 0 where
+  pub opens : (getD s 0 0 ≡ 0x7E) × ((getD s 1 0 ≡ 0x00) × (getD s 2 0 ≡ 0x41))
+  pub kind : q .kind ≡ 1
+  pub ksi : q .ksi ≤ 7
+  pub fourth : getD s 3 0 ≡ q .ksi * 16 + q .kind
+  pub identity : q .identity ≡ record { held = true; start = 6; len = getD s 4 0 * 256 + getD s 5 0 }
+  pub known : Known (getD s 6 0) (q .identity .len)
+  pub inside : 6 + q .identity .len ≤ length s
+  pub capability : q .capability .held ≡ true → ((1 ≤ q .capability .len) × (q .capability .len ≤ 13)) × (q .capability .start + q .capability .len ≤ length s)
+  pub security : (q .security .held ≡ true) × (((2 ≤ q .security .len) × (q .security .len ≤ 8)) × (q .security .start + q .security .len ≤ length s))
+  pub last : q .last .held ≡ true → (q .last .len ≡ 6) × (q .last .start + q .last .len ≤ length s)
+
+-- the tests as facts
+
+fourth-facts : (o : ℕ) → isFourth o ≡ true → (o % 16 ≡ 1) × (o / 16 ≤ 7)
+unfolding isFourth
+fourth-facts o e = (eqb-true (o % 16) 1 (one (eqb (o % 16) 1) _ e), leb-true (o / 16) 7 (rest (eqb (o % 16) 1) _ e))
+
+identity-facts : (o n : ℕ) → isIdentity o n ≡ true → Known o n
+unfolding isIdentity
+identity-facts o n e = go (both (eqb o 0xF2) (eqb n 11)) refl e
+  where
+    go : (b : Bool) → both (eqb o 0xF2) (eqb n 11) ≡ b → either b (both (eqb o 0x01) (within 9 64 n)) ≡ true → Known o n
+    go true g t = inl (eqb-true o 0xF2 (one (eqb o 0xF2) _ g), eqb-true n 11 (rest (eqb o 0xF2) _ g))
+    go false g t =
+        let w : within 9 64 n ≡ true = rest (eqb o 0x01) _ t in
+        inr (eqb-true o 0x01 (one (eqb o 0x01) _ t), (least 9 64 n w, most 9 64 n w))
+
+capability-facts : (n : ℕ) (p : Part) → (p .held ≡ true → p .start + p .len ≤ n) → isCapability p ≡ true → capabilityOf p .held ≡ true
+    → ((1 ≤ capabilityOf p .len) × (capabilityOf p .len ≤ 13)) × (capabilityOf p .start + capabilityOf p .len ≤ n)
+unfolding isCapability capabilityOf
+capability-facts n p w c t = go (eqb (p .len) 0) (p .held) refl refl c t
+  where
+    part : Bool → Part
+    part b = cond b absent p
+
+    go : (b h : Bool) → eqb (p .len) 0 ≡ b → p .held ≡ h → cond h (leb (p .len) 13) true ≡ true → part b .held ≡ true → ((1 ≤ part b .len) × (part b .len ≤ 13)) × (part b .start + part b .len ≤ n)
+    go true h e f g u = absurd (false≢true u)
+    go false true e f g u = let z : p .len ≢ 0 = eqb-false (p .len) 0 e in ((omega arith, leb-true (p .len) 13 g), w f)
+    go false false e f g u = absurd (false≢true (sym f ∙ u))
+
+security-facts : (n : ℕ) (p : Part) → (p .held ≡ true → p .start + p .len ≤ n) → isSecurity p ≡ true → (p .held ≡ true) × (((2 ≤ p .len) × (p .len ≤ 8)) × (p .start + p .len ≤ n))
+unfolding isSecurity
+security-facts n p w e =
+    let h : p .held ≡ true = one (p .held) _ e in
+    let r : within 2 8 (p .len) ≡ true = rest (p .held) _ e in
+    (h, ((least 2 8 (p .len) r, most 2 8 (p .len) r), w h))
+
+-- What each answer of the reading says of the octets
+unfoldable Faithful : List ℕ → Asking → Type 0
+Faithful s (asking.Request q) = Asked s q
+Faithful s (asking.Bad f at) = at ≤ length s
+Faithful s asking.Unfit = Unit {0}
+
+-- a choice by a test, each side with what the test says
+choice : {A : Type 0} (P : A → Type 0) (x y : A) (b : Bool) → (b ≡ true → P x) → (b ≡ false → P y) → P (cond b x y)
+choice P x y true f g = f refl
+choice P x y false f g = g refl
+
+module _ (s : List ℕ) (opens : (getD s 0 0 ≡ 0x7E) × ((getD s 1 0 ≡ 0x00) × (getD s 2 0 ≡ 0x41))) where
+  abbrev n : ℕ
+  n = getD s 4 0 * 256 + getD s 5 0
+
+  module _ (inside : 6 + n ≤ length s) (l : Elements) (sound : Sound (length s) l) where
+    fits : isRequest s n l ≡ true → Asked s (requestIn s n l)
+    unfolding isRequest requestIn
+    fits e =
+        let o = fourth-facts (getD s 3 0) (one (isFourth (getD s 3 0)) _ e) in
+        let parts = rest (isFourth (getD s 3 0)) _ e in
+        let items = rest (isIdentity (getD s 6 0) n) _ parts in
+        let able : isCapability (firstOf 0x10 l) ≡ true = one (isCapability (firstOf 0x10 l)) _ items in
+        let safe : isSecurity (firstOf 0x2E l) ≡ true = rest (isCapability (firstOf 0x10 l)) _ items in
+        record {
+          opens = opens;
+          kind = o .0;
+          ksi = o .1;
+          fourth = omega arith;
+          identity = refl;
+          known = identity-facts (getD s 6 0) n (one (isIdentity (getD s 6 0) n) _ parts);
+          inside = inside;
+          capability = capability-facts (length s) (firstOf 0x10 l) (λ h. found-inside (length s) 0x10 l sound h .0) able;
+          security = security-facts (length s) (firstOf 0x2E l) (λ h. found-inside (length s) 0x2E l sound h .0) safe;
+          last = λ h. (found-inside (length s) 0x52 l sound h .1 refl, found-inside (length s) 0x52 l sound h .0);
+        }
+
+    judged : Faithful s (judgedOf s n l)
+    unfolding judgedOf Faithful
+    judged = choice (Faithful s) _ _ (isRequest s n l) fits (λ e. tt)
+
+  -- a fault of sound elements is told inside, and whole ones leave the rest
+  ended : (l : Elements) (a : Asking) → Sound (length s) l → Faithful s a → Faithful s (endedBy asking.Bad (endOf l) a)
+  unfolding endedBy endOf Faithful Sound
+  ended over a h g = g
+  ended (broken f at) a h g = h
+  ended (element i start k l) a h g = ended l a (h .1) g
+
+  parted : Faithful s (restReading s)
+  unfolding restReading partsReading askedOf Faithful
+  parted =
+      choice (Faithful s) _ _ (ltb (length s) 6) (λ e. omega arith)
+      (λ e. choice (Faithful s) _ _ (ltb (length s) (6 + n)) (λ f. omega arith)
+      (λ f. let l : 6 + n ≤ length s = ltb-false (length s) (6 + n) f in
+      ended (elementsFrom true s (6 + n)) _ (from-place s (6 + n) l) (judged l (elementsFrom true s (6 + n)) (from-place s (6 + n) l))))
+
+opened : (s : List ℕ) (at octet : ℕ) (f : Fault) (a : Asking) → at ≤ length s → (at < length s → getD s at 0 ≡ octet → Faithful s a) → Faithful s (openedBy asking.Bad s at octet f a)
+unfolding openedBy Faithful
+opened s at octet f a h g =
+    choice (Faithful s) _ _ (ltb at (length s)) (λ e. choice (Faithful s) _ _ (eqb (getD s at 0) octet) (λ t. g (ltb-true at (length s) e) (eqb-true (getD s at 0) octet t)) (λ t. h)) (λ e. h)
+
+faithful : (s : List ℕ) → Faithful s (askingOf s)
+unfolding askingOf requestReading
+faithful s = opened s 0 0x7E First _ (omega arith) (λ h a. opened s 1 0x00 Second _ h (λ g b. opened s 2 0x41 Kind _ g (λ k c. parted s (a, (b, c)))))
+
+-- The converse of the round trip: what reads as a request is one
+pub asked : (s : List ℕ) (q : Request) → askingOf s ≡ asking.Request q → Asked s q
+unfolding Faithful
+asked s q e = rw e at (faithful s)
+
+-- "All else is answer 3"
+pub all-else : (a : Asking) → ((q : Request) → a ≢ asking.Request q) → askingNumber a ≡ 3
+all-else (asking.Request q) h = absurd (h q refl)
+all-else (asking.Bad Cut at) h = refl
+all-else (asking.Bad First at) h = refl
+all-else (asking.Bad Second at) h = refl
+all-else (asking.Bad Kind at) h = refl
+all-else (asking.Bad Past at) h = refl
+all-else (asking.Bad Strange at) h = refl
+all-else asking.Unfit h = refl
+
+-- the octets of a part that lies in the message are as many as it has
+cut-length : (s : List ℕ) (p : Part) → p .held ≡ true → p .start + p .len ≤ length s → length (cutOf s p) ≡ p .len
+unfolding cutOf
+cut-length s p e h = rw e (length-take-le (p .len) (drop (p .start) s) (simp length-drop (omega arith)))
+
+-- a part that is not held has none
+cut-at-most : (s : List ℕ) (p : Part) (k : ℕ) → (p .held ≡ true → (p .len ≤ k) × (p .start + p .len ≤ length s)) → length (cutOf s p) ≤ k
+unfolding cutOf
+cut-at-most s p k f = go (p .held) refl
+  where
+    go : (b : Bool) → p .held ≡ b → length (cutOf s p) ≤ k
+    go true e = rw (cut-length s p e (f e .1)) (f e .0)
+    go false e = rw e (omega arith)
+
+-- So what is read fits: it is what the layout may say, and laid out again it reads as the same.
+module _ (s : List ℕ) (q : Request) (a : Asked s q) where
+  abbrev told : Fields
+  told = record { kind = q .kind; ksi = q .ksi; identity = cutOf s (q .identity); capability = cutOf s (q .capability); security = cutOf s (q .security); last = cutOf s (q .last) }
+
+  fit : Fit told
+  unfolding cutOf
+  fit = record {
+    kind = a .kind;
+    ksi = a .ksi;
+    identity = rw (a .identity) (known (getD s 4 0 * 256 + getD s 5 0) (rw (a .identity) at (a .known)) (rw (a .identity) at (a .inside)));
+    capability = cut-at-most s (q .capability) 13 (λ h. (a .capability h .0 .1, a .capability h .1));
+    security = let n = cut-length s (q .security) (a .security .0) (a .security .1 .1) in (rw n (a .security .1 .0 .0), rw n (a .security .1 .0 .1));
+    last = area (q .last .held) refl;
+  }
+    where
+      some : (n : ℕ) → Known (getD s 6 0) n → 0 < n
+      some n (inl (e, h)) = omega arith
+      some n (inr (e, h)) = omega arith
+
+      known : (n : ℕ) → Known (getD s 6 0) n → 6 + n ≤ length s → Known (getD (cutOf s (record { held = true; start = 6; len = n })) 0 0) (length (cutOf s (record { held = true; start = 6; len = n })))
+      known n k h =
+          let first : getD (take n (drop 6 s)) 0 0 ≡ getD s 6 0 = getD-take n (drop 6 s) 0 0 (some n k) ∙ getD-drop 6 s 0 0 in
+          rw (first, length-take-le n (drop 6 s) (simp length-drop (omega arith))) k
+
+      area : (b : Bool) → q .last .held ≡ b → (cutOf s (q .last) ≡ []) ⊎ (length (cutOf s (q .last)) ≡ 6)
+      area true e = inr (cut-length s (q .last) e (a .last e .1) ∙ a .last e .0)
+      area false e = inl (rw e)
+
+pub told-fit : (s : List ℕ) (f : Fields) → toldBy s (askingOf s) ≡ says f → Fit f
+unfolding toldBy
+told-fit s f e = go (askingOf s) refl e
+  where
+    go : (x : Asking) → askingOf s ≡ x → toldBy s x ≡ says f → Fit f
+    go (asking.Request q) g h = let z : told s q (asked s q g) ≡ f = cc in subst Fit z (fit s q (asked s q g))
+    go (asking.Bad c at) g h = let z : _≡_ {A = ℕ} 0 1 = cc in absurd (omega arith)
+    go asking.Unfit g h = let z : _≡_ {A = ℕ} 0 1 = cc in absurd (omega arith)
+
+pub told-again : (s : List ℕ) (f : Fields) → toldBy s (askingOf s) ≡ says f → toldBy (octetsOf f) (askingOf (octetsOf f)) ≡ says f
+told-again s f e = round f (told-fit s f e)

@@ -1,0 +1,75 @@
+-- What is told of a taken reject is what its row's text orders: the text alone decides the orders, and the other access gets none. Assumes nothing.
+use Prim.Native.Nat.{ℕ, zero, suc}
+use mathlib.Core.Path.{_≡_, refl}
+use mathlib.Core.Bool.{Bool, true, false, false≢true}
+use mathlib.Core.List.{List}
+use lib.Dec.{ltb}
+use Rattle.messages.specs.declared.Reading.the-variants as reading
+use Rattle.messages.specs.Message.{readingOf}
+use Rattle.record.specs.declared.Access.{Access}
+use Rattle.record.specs.declared.Record.{Record}
+use Rattle.record.specs.Answers.{isTaken}
+use Rattle.record.specs.Sides.{accessOf, otherOf}
+use Rattle.record.specs.Tests.{isFlag}
+use Rattle.ranges.specs.Valid.{validOf}
+use Rattle.turns.specs.Timers.{toldOf, clocksOf}
+use Rattle.turns.specs.Words.{Text, says, asT3510Out, Across, untouched, cardCounterToLimit, counterAfter, acrossOf}
+use Rattle.turns.specs.Rejects.{rowText}
+use Rattle.turns.specs.Turns.{failed, turned, rowTurn, otherTurned, otherTurn}
+use Rattle.checks.specs.Answers.{rowNow}
+use Rattle.effects.specs.Effects.{rejectEffect}
+use Rattle.rules.specs.declared.Event.the-variants.{Message}
+use Rattle.rules.specs.declared.Plan.{Plan}
+use Rattle.rules.specs.Plan.{accessIn, answerOf, messageEffect, effectOf, askOf, takenReply, allLeft, refusedReply, takenPlan}
+use Rattle.events.specs.Parts.{doneOf, carriedOut}
+use Rattle.events.specs.Step.{together, joinedOf, advanceOf, stepOf}
+use Rattle.validity.specs.Answered.{answeredBy}
+use Rattle.validity.specs.Reply.{ordersBy, rejectReply}
+use Rattle.validity.proofs.Refusal.{carry, taken-plan, answer-told}
+use Rattle.validity.proofs.Taken.{message-passed}
+use Rattle.validity.proofs.Own.{no-third, pendingSeen}
+
+turned-orders : (t : Text) (w limit cause : ℕ) (found : Bool) (a : Access) → turned t w limit cause found a .orders ≡ ordersBy t w cause a
+unfolding turned ordersBy failed
+turned-orders (says t) w limit cause found a = refl
+turned-orders (asT3510Out n) w limit cause found a = go (ltb (counterAfter n w cause 5 (a .attempts)) 5) refl
+  where
+    go : (b : Bool) → ltb (counterAfter n w cause 5 (a .attempts)) 5 ≡ b → turned (asT3510Out n) w limit cause found a .orders ≡ ordersBy (asT3510Out n) w cause a
+    go true q = rw q
+    go false q = rw q
+
+across-told : (o : Across) (limit : ℕ) (a b : Access) → clocksOf (otherTurned o limit a .orders) b ≡ allLeft
+unfolding otherTurned clocksOf toldOf
+across-told untouched limit a b = refl
+across-told cardCounterToLimit limit a b = refl
+
+module _ (r : Record) (protected draw cause : ℕ) (octets : List ℕ) where
+  abbrev rejectPlan : ℕ → Plan
+  rejectPlan w = takenPlan (r .hot) w (rejectEffect (r .hot) w protected draw (pendingSeen r w) cause (rowNow (r .hot) w protected cause))
+
+  abbrev text : ℕ → Text
+  text w = rowText (rowNow (r .hot) w protected cause)
+
+  reply-told : (w : ℕ) → isFlag w ≡ true → carry r octets (rejectPlan w) .reply ≡ rejectReply r w protected draw cause
+  unfolding joinedOf together carriedOut doneOf takenPlan takenReply rejectEffect rowTurn otherTurn accessOf otherOf rejectReply
+  reply-told zero h = rw (turned-orders (text 0) 0 (r .hot .dev .cardlimit) cause (pendingSeen r 0 .found) (r .hot .a0), across-told (acrossOf (text 0)) (r .hot .dev .cardlimit) (r .hot .a1) (r .hot .a1))
+  reply-told (suc zero) h = rw (turned-orders (text 1) 1 (r .hot .dev .cardlimit) cause (pendingSeen r 1 .found) (r .hot .a1), across-told (acrossOf (text 1)) (r .hot .dev .cardlimit) (r .hot .a0) (r .hot .a0))
+  reply-told (suc (suc w)) h = absurd (no-third w h)
+
+  -- a message that was read as a reject, and taken
+  pub reject-reply : (w : ℕ) → readingOf octets ≡ reading.Reject cause → isTaken (answeredBy r (Message w protected draw) octets) ≡ true
+      → advanceOf r (Message w protected draw) octets .reply ≡ rejectReply r w protected draw cause
+  unfolding effectOf messageEffect askOf accessIn answeredBy answerOf
+  reject-reply w read taken =
+      rw (taken-plan r (Message w protected draw) octets taken, read)
+      (reply-told w (message-passed (r .hot) w protected draw (readingOf octets) (pendingSeen r w) taken .0))
+
+  -- the same of a step, which tests the record first
+  pub step-reject-reply : (w : ℕ) → readingOf octets ≡ reading.Reject cause → isTaken (stepOf r (Message w protected draw) octets .reply .answer) ≡ true
+      → stepOf r (Message w protected draw) octets .reply ≡ rejectReply r w protected draw cause
+  unfolding stepOf refusedReply isTaken
+  step-reject-reply w read taken = go (validOf r) refl
+    where
+      go : (b : Bool) → validOf r ≡ b → stepOf r (Message w protected draw) octets .reply ≡ rejectReply r w protected draw cause
+      go true v = rw v (reject-reply w read (rw (answer-told r (Message w protected draw) octets) at (rw v at taken)))
+      go false v = absurd (false≢true (rw v at taken))

@@ -1,0 +1,75 @@
+-- The table's second saying is its first: each row's text makes of a record what the row's plain numbers say. A row changed in definition and code alike fails here.
+-- Assumes nothing.
+use Prim.Native.Nat.{ℕ}
+use mathlib.Core.Path.{_≡_, refl, _∙_}
+use mathlib.Core.Bool.{Bool, true, false}
+use mathlib.Core.List.{List}
+use lib.Dec.{ltb}
+use Rattle.laws.specs.Bounds.{oneMore}
+use Rattle.areas.specs.Areas.{areaOf}
+use Rattle.messages.specs.declared.Reading.the-variants as reading
+use Rattle.messages.specs.Message.{readingOf}
+use Rattle.record.specs.declared.Access.{Access}
+use Rattle.record.specs.declared.Record.{Record}
+use Rattle.record.specs.Answers.{isTaken}
+use Rattle.record.specs.Setters.{inState, withStatus, withAttempts, forgotten, emptied, counted}
+use Rattle.record.specs.Sides.{accessOf}
+use Rattle.turns.specs.declared.Row.{Row}
+use Rattle.turns.specs.declared.Row.the-variants.{CardBelow, CardLimit, CardProtected, Away, Home, Area, N1, Protocol, Other}
+use Rattle.turns.specs.Timers.{flagAfter, clocked}
+use Rattle.turns.specs.Words.{holds, counterAfter, stateAfter, isRoaming, isRegional, isMark, ordersAfter, listOf, markIn, acrossOf, applied}
+use Rattle.turns.specs.Rejects.{rejectT3247, rowText}
+use Rattle.turns.specs.Turns.{failed, turned, otherTurned}
+use Rattle.checks.specs.Answers.{rowNow}
+use Rattle.rules.specs.declared.Event.the-variants.{Message}
+use Rattle.events.specs.Step.{stepOf}
+use Rattle.validity.specs.Reject.{after, markedIn, recordAfter, rejectRecord}
+use Rattle.validity.specs.Rows.{outFigures, rowFigures, rowRest, withFigures, figuresRecord, rowRecord, rowOrders}
+use Rattle.validity.specs.Reply.{ordersBy}
+use Rattle.validity.proofs.Reject.{step-reject}
+
+-- T3510 out with the attempt counter at n
+out-figures : (n : ℕ) (found : Bool) (a : Access) → after (failed n a) ≡ withFigures (outFigures n a) false found a
+unfolding failed inState withStatus withAttempts forgotten emptied clocked flagAfter
+out-figures n found a = go (ltb n 5) refl
+  where
+    go : (b : Bool) → ltb n 5 ≡ b → after (failed n a) ≡ withFigures (outFigures n a) false found a
+    go true q = rw q
+    go false q = rw q
+
+module _ (w protected cause t3247 area : ℕ) (r : Record) where
+  row-record : (row : Row) → recordAfter (rowText row) w protected cause t3247 area r ≡ rowRecord row w protected cause t3247 area r
+  unfolding recordAfter rowText rowRecord figuresRecord rowFigures rowRest turned applied otherTurned counted clocked flagAfter holds counterAfter stateAfter isRoaming isRegional isMark ordersAfter listOf markIn acrossOf markedIn
+  row-record CardBelow = refl
+  row-record CardLimit = refl
+  row-record CardProtected = refl
+  row-record Away = refl
+  row-record Home = refl
+  row-record Area = refl
+  row-record N1 = refl
+  row-record Protocol = rw (out-figures 5 false (r .hot .a0), out-figures 5 false (r .hot .a1))
+  row-record Other = rw (out-figures (oneMore 5 (r .hot .a0 .attempts)) false (r .hot .a0), out-figures (oneMore 5 (r .hot .a1 .attempts)) false (r .hot .a1))
+
+-- the whole record after a taken reject, by its row
+pub step-row : (r : Record) (w protected draw cause : ℕ) (octets : List ℕ) → readingOf octets ≡ reading.Reject cause
+    → isTaken (stepOf r (Message w protected draw) octets .reply .answer) ≡ true
+    → stepOf r (Message w protected draw) octets .next
+    ≡ rowRecord (rowNow (r .hot) w protected cause) w protected cause
+    (flagAfter (rejectT3247 (r .hot .dev .t3247) protected cause draw) (r .hot .dev .t3247))
+    (areaOf (accessOf (r .hot) w .net) (accessOf (r .hot) w .code))
+    r
+unfolding rejectRecord
+step-row r w protected draw cause octets read taken = step-reject r protected draw cause octets w read taken ∙ row-record w protected cause _ _ r (rowNow (r .hot) w protected cause)
+
+-- what `rejectReply` tells of the timers, by the row
+pub row-orders : (row : Row) (w cause : ℕ) (a : Access) → ordersBy (rowText row) w cause a ≡ rowOrders row a
+unfolding ordersBy rowText ordersAfter counterAfter rowOrders
+row-orders CardBelow w cause a = refl
+row-orders CardLimit w cause a = refl
+row-orders CardProtected w cause a = refl
+row-orders Away w cause a = refl
+row-orders Home w cause a = refl
+row-orders Area w cause a = refl
+row-orders N1 w cause a = refl
+row-orders Protocol w cause a = refl
+row-orders Other w cause a = refl

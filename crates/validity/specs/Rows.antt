@@ -1,0 +1,192 @@
+-- Document 01's table of rejects a second time, in plain numbers and with no word of the first one: the whole record after each row. Assumes nothing.
+use Prim.Native.Nat.{ℕ}
+use mathlib.Core.Bool.{Bool, true, false, cond}
+use lib.Dec.{ltb, eqb}
+use Rattle.laws.specs.Bounds.{oneMore}
+use Rattle.entries.specs.declared.Entries.{Entries}
+use Rattle.entries.specs.Entries.{banned, barredBy}
+use Rattle.areas.specs.Areas.{placed, placedCount}
+use Rattle.record.specs.declared.Access.{Access}
+use Rattle.record.specs.declared.Record.{Record}
+use Rattle.turns.specs.declared.Order.{Order}
+use Rattle.turns.specs.declared.Order.the-variants.{Leave, Stop, Run}
+use Rattle.turns.specs.declared.Orders.{Orders}
+use Rattle.turns.specs.declared.Row.{Row}
+use Rattle.turns.specs.declared.Row.the-variants.{CardBelow, CardLimit, CardProtected, Away, Home, Area, N1, Protocol, Other}
+use Rattle.validity.specs.Reject.{seat}
+
+-- The figures of a row: of the receiving access the state, update status, attempt counter, GUTI, last area, ngKSI, equivalents, card counter, T3511 and T3502.
+-- T3510 is stopped, and all else of it stays, but for the entries.
+pub record Figures : Type 0 where
+  pub state : ℕ
+  pub status : ℕ
+  pub attempts : ℕ
+  pub guti : ℕ
+  pub visited : ℕ
+  pub ksi : ℕ
+  pub equivalents : ℕ
+  pub cardcounter : ℕ
+  pub t3511 : ℕ
+  pub t3502 : ℕ
+
+abbrev figures : ℕ → ℕ → ℕ → ℕ → ℕ → ℕ → ℕ → ℕ → ℕ → ℕ → Figures
+figures state status attempts guti visited ksi equivalents cardcounter t3511 t3502 = record {
+  state = state;
+  status = status;
+  attempts = attempts;
+  guti = guti;
+  visited = visited;
+  ksi = ksi;
+  equivalents = equivalents;
+  cardcounter = cardcounter;
+  t3511 = t3511;
+  t3502 = t3502;
+}
+
+-- with the attempt counter at n: below 5 the first, at 5 the second
+abbrev below5 : ℕ → ℕ → ℕ → ℕ
+below5 n x y = cond (ltb n 5) x y
+
+-- T3510 out
+abbrev pub outFigures : ℕ → Access → Figures
+outFigures n a =
+    figures 3 (below5 n (a .status) 2) n (below5 n (a .guti) 0) (below5 n (a .visited) 0) (below5 n (a .ksi) 7) (below5 n (a .equivalents) 0) (a .cardcounter)
+    (below5 n 1 (a .t3511)) (below5 n (a .t3502) 1)
+
+-- over access w, for this cause, with the card counter's limit
+unfoldable pub rowFigures : Row → ℕ → ℕ → ℕ → Access → Figures
+rowFigures CardBelow w cause limit a = figures 2 3 (cond (eqb w 0) 0 (a .attempts)) 0 0 7 (cond (eqb w 0) 0 (a .equivalents)) (oneMore limit (a .cardcounter)) (a .t3511) (a .t3502)
+rowFigures CardLimit w cause limit a = figures 0 3 (a .attempts) 0 0 7 0 (a .cardcounter) (a .t3511) (a .t3502)
+rowFigures CardProtected w cause limit a = figures 0 3 (a .attempts) 0 0 7 0 limit (a .t3511) (a .t3502)
+rowFigures Away w cause limit a = figures (cond (eqb w 0) 6 2) 3 0 0 0 7 0 (a .cardcounter) (a .t3511) (a .t3502)
+rowFigures Home w cause limit a = figures 2 3 0 0 0 7 0 (a .cardcounter) (a .t3511) (a .t3502)
+rowFigures Area w cause limit a = figures 2 3 0 0 0 7 (cond (eqb cause 13) 0 (a .equivalents)) (a .cardcounter) (a .t3511) (a .t3502)
+rowFigures N1 w cause limit a = figures 2 3 0 0 0 7 (a .equivalents) (a .cardcounter) (a .t3511) (a .t3502)
+rowFigures Protocol w cause limit a = outFigures 5 a
+rowFigures Other w cause limit a = outFigures (oneMore 5 (a .attempts)) a
+
+-- The rest of a row: whether the network is banned, whether it is barred for N1, whether the area goes to the roaming and to the regional list,
+-- and whether the other access's card counter goes to the limit.
+pub record Rest : Type 0 where
+  pub bans : Bool
+  pub bars : Bool
+  pub roaming : Bool
+  pub regional : Bool
+  pub across : Bool
+
+abbrev rest : Bool → Bool → Bool → Bool → Bool → Rest
+rest bans bars roaming regional across = record { bans = bans; bars = bars; roaming = roaming; regional = regional; across = across }
+
+unfoldable pub rowRest : Row → ℕ → ℕ → Rest
+rowRest CardBelow w cause = rest false false (eqb w 0) false false
+rowRest CardLimit w cause = rest false false false false false
+rowRest CardProtected w cause = rest false false false false true
+rowRest Away w cause = rest true false false false false
+rowRest Home w cause = rest false false (eqb w 0) false false
+rowRest Area w cause = rest false false (cond (eqb cause 12) false true) (eqb cause 12) false
+rowRest N1 w cause = rest false true false false false
+rowRest Protocol w cause = rest false false false false false
+rowRest Other w cause = rest false false false false false
+
+-- the receiving access; found says whether the pending network has an entry
+abbrev pub withFigures : Figures → Bool → Bool → Access → Access
+withFigures l needs found a = record {
+  state = l .state;
+  status = l .status;
+  attempts = l .attempts;
+  cardcounter = l .cardcounter;
+  t3510 = 0;
+  t3511 = l .t3511;
+  t3502 = l .t3502;
+  t3502length = a .t3502length;
+  net = a .net;
+  code = a .code;
+  guti = l .guti;
+  visited = l .visited;
+  lastnet = a .lastnet;
+  lastcode = a .lastcode;
+  ksi = l .ksi;
+  equivalents = l .equivalents;
+  entries = cond needs (cond found (a .entries) (oneMore 16 (a .entries))) (a .entries);
+}
+
+-- the other access
+abbrev crossed : Bool → ℕ → Access → Access
+crossed across limit a = record {
+  state = a .state;
+  status = a .status;
+  attempts = a .attempts;
+  cardcounter = cond across limit (a .cardcounter);
+  t3510 = a .t3510;
+  t3511 = a .t3511;
+  t3502 = a .t3502;
+  t3502length = a .t3502length;
+  net = a .net;
+  code = a .code;
+  guti = a .guti;
+  visited = a .visited;
+  lastnet = a .lastnet;
+  lastcode = a .lastcode;
+  ksi = a .ksi;
+  equivalents = a .equivalents;
+  entries = a .entries;
+}
+
+-- access me of a reject over access w, and its entries
+abbrev accessBy : (Access → Figures) → Rest → ℕ → ℕ → ℕ → ℕ → Access → Entries → Access
+accessBy l x w me protected limit a e = cond (eqb w me) (withFigures (l a) (cond (x .bans) true (x .bars)) (seat protected a e .found) a) (crossed (x .across) limit a)
+
+abbrev entriesBy : Rest → ℕ → ℕ → ℕ → ℕ → ℕ → Access → Entries → Entries
+entriesBy x w me protected banlimit n1limit a e =
+    cond (eqb w me) (cond (x .bans) (banned (seat protected a e) banlimit e) (cond (x .bars) (barredBy (seat protected a e) n1limit e) e)) e
+
+unfoldable pub figuresRecord : (Access → Figures) → Rest → ℕ → ℕ → ℕ → ℕ → Record → Record
+figuresRecord l x w protected t3247 area r = record {
+  hot = record {
+    dev = record {
+      card = r .hot .dev .card;
+      home = r .hot .dev .home;
+      suci = r .hot .dev .suci;
+      cardlimit = r .hot .dev .cardlimit;
+      banlimit = r .hot .dev .banlimit;
+      n1limit = r .hot .dev .n1limit;
+      t3247 = t3247;
+      capability = r .hot .dev .capability;
+      security = r .hot .dev .security;
+      roaming = cond (x .roaming) (placedCount area (r .hot .dev .roaming) (r .roaming)) (r .hot .dev .roaming);
+      regional = cond (x .regional) (placedCount area (r .hot .dev .regional) (r .regional)) (r .hot .dev .regional);
+    };
+    a0 = accessBy l x w 0 protected (r .hot .dev .cardlimit) (r .hot .a0) (r .e0);
+    a1 = accessBy l x w 1 protected (r .hot .dev .cardlimit) (r .hot .a1) (r .e1);
+  };
+  e0 = entriesBy x w 0 protected (r .hot .dev .banlimit) (r .hot .dev .n1limit) (r .hot .a0) (r .e0);
+  e1 = entriesBy x w 1 protected (r .hot .dev .banlimit) (r .hot .dev .n1limit) (r .hot .a1) (r .e1);
+  roaming = cond (x .roaming) (placed area protected (r .hot .dev .roaming) (r .roaming)) (r .roaming);
+  regional = cond (x .regional) (placed area protected (r .hot .dev .regional) (r .regional)) (r .regional);
+  guti0 = r .guti0;
+  guti1 = r .guti1;
+  equivalents0 = r .equivalents0;
+  equivalents1 = r .equivalents1;
+  suci = r .suci;
+  capability = r .capability;
+  security = r .security;
+}
+
+-- the whole record after a row
+unfoldable pub rowRecord : Row → ℕ → ℕ → ℕ → ℕ → ℕ → Record → Record
+rowRecord row w protected cause t3247 area r = figuresRecord (rowFigures row w cause (r .hot .dev .cardlimit)) (rowRest row w cause) w protected t3247 area r
+
+-- what each row orders of the receiving access's T3510, T3511 and T3502
+abbrev orders : Order → Order → Order → Orders
+orders t3510 t3511 t3502 = record { t3510 = t3510; t3511 = t3511; t3502 = t3502 }
+
+unfoldable pub rowOrders : Row → Access → Orders
+rowOrders CardBelow a = orders Stop Leave Leave
+rowOrders CardLimit a = orders Stop Leave Leave
+rowOrders CardProtected a = orders Stop Leave Leave
+rowOrders Away a = orders Stop Leave Leave
+rowOrders Home a = orders Stop Leave Leave
+rowOrders Area a = orders Stop Leave Leave
+rowOrders N1 a = orders Stop Leave Leave
+rowOrders Protocol a = orders Stop Leave (Run (a .t3502length))
+rowOrders Other a = cond (ltb (oneMore 5 (a .attempts)) 5) (orders Stop (Run 10) Leave) (orders Stop Leave (Run (a .t3502length)))
