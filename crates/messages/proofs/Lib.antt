@@ -1,2 +1,3 @@
 -- What the proofs of messages share.
+pub mod Readings
 pub mod Within

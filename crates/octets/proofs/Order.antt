@@ -202,12 +202,12 @@ pub record Piece : Type 0 where
   pub id : ℕ
   pub rest : List ℕ
 
-abbrev pub octetsOf : Piece → List ℕ
-octetsOf a = a .id ∷ a .rest
+abbrev pub pieceOctets : Piece → List ℕ
+pieceOctets a = a .id ∷ a .rest
 
-unfoldable pub row : List Piece → List ℕ
-row [] = []
-row (a ∷ ps) = octetsOf a ++ row ps
+unfoldable pub piecesOctets : List Piece → List ℕ
+piecesOctets [] = []
+piecesOctets (a ∷ ps) = pieceOctets a ++ piecesOctets ps
 
 unfoldable pub AllAlone : Bool → List Piece → Type 0
 AllAlone request [] = Unit {0}
@@ -218,28 +218,28 @@ abbrev pub Same : Bool → List ℕ → ℕ → List ℕ → List ℕ → Type 0
 Same request p x s t = (said request p x s ≡ said request p x t) × (formed request p s ≡ formed request p t)
 
 module _ (request : Bool) (x : ℕ) where
-  front : (ps : List Piece) → AllAlone request ps → (s t : List ℕ) → Alike x (read request s) (read request t) → Alike x (read request (row ps ++ s)) (read request (row ps ++ t))
-  unfolding row AllAlone
+  front : (ps : List Piece) → AllAlone request ps → (s t : List ℕ) → Alike x (read request s) (read request t) → Alike x (read request (piecesOctets ps ++ s)) (read request (piecesOctets ps ++ t))
+  unfolding piecesOctets AllAlone
   front [] h s t e = e
   front (a ∷ ps) h s t e =
-      rw (append-assoc (a .rest) (row ps) s, append-assoc (a .rest) (row ps) t, ahead request (a .id) (a .rest) (h .0) (row ps ++ s), ahead request (a .id) (a .rest) (h .0) (row ps ++ t))
+      rw (append-assoc (a .rest) (piecesOctets ps) s, append-assoc (a .rest) (piecesOctets ps) t, ahead request (a .id) (a .rest) (h .0) (piecesOctets ps ++ s), ahead request (a .id) (a .rest) (h .0) (piecesOctets ps ++ t))
       (one-alike x (a .id) (inner request (a .id) (a .rest) (h .0)) _ _ (front ps (h .1) s t e))
 
   module _ (p : List ℕ) (ps : List Piece) (all : AllAlone request ps) where
-    same : (s t : List ℕ) → Alike x (read request s) (read request t) → Same request p x (row ps ++ s) (row ps ++ t)
+    same : (s t : List ℕ) → Alike x (read request s) (read request t) → Same request p x (piecesOctets ps ++ s) (piecesOctets ps ++ t)
     same s t e =
         let h = front ps all s t e in
-        (said-of request p x (row ps ++ s) ∙ h .0 ∙ sym (said-of request p x (row ps ++ t)), formed-of request p (row ps ++ s) ∙ h .1 ∙ sym (formed-of request p (row ps ++ t)))
+        (said-of request p x (piecesOctets ps ++ s) ∙ h .0 ∙ sym (said-of request p x (piecesOctets ps ++ t)), formed-of request p (piecesOctets ps ++ s) ∙ h .1 ∙ sym (formed-of request p (piecesOctets ps ++ t)))
 
     module _ (a : Piece) (h : Alone request (a .id) (a .rest)) (s : List ℕ) where
       -- "Order is free": two elements with different identifiers change about
       pub order-free : (b : Piece) → Alone request (b .id) (b .rest) → a .id ≢ b .id
-          → Same request p x (row ps ++ (octetsOf a ++ (octetsOf b ++ s))) (row ps ++ (octetsOf b ++ (octetsOf a ++ s)))
+          → Same request p x (piecesOctets ps ++ (pieceOctets a ++ (pieceOctets b ++ s))) (piecesOctets ps ++ (pieceOctets b ++ (pieceOctets a ++ s)))
       order-free b k n =
-          same (octetsOf a ++ (octetsOf b ++ s)) (octetsOf b ++ (octetsOf a ++ s))
-          (rw (ahead request (a .id) (a .rest) h (octetsOf b ++ s), ahead request (b .id) (b .rest) k s, ahead request (b .id) (b .rest) k (octetsOf a ++ s), ahead request (a .id) (a .rest) h s)
+          same (pieceOctets a ++ (pieceOctets b ++ s)) (pieceOctets b ++ (pieceOctets a ++ s))
+          (rw (ahead request (a .id) (a .rest) h (pieceOctets b ++ s), ahead request (b .id) (b .rest) k s, ahead request (b .id) (b .rest) k (pieceOctets a ++ s), ahead request (a .id) (a .rest) h s)
           (swap-alike x (a .id) _ (b .id) _ (read request s) n))
 
       -- "Unknown ones are skipped": an element that is not asked for changes nothing
-      pub unknown-skipped : a .id ≢ x → Same request p x (row ps ++ (octetsOf a ++ s)) (row ps ++ s)
-      unknown-skipped n = same (octetsOf a ++ s) s (rw (ahead request (a .id) (a .rest) h s) (skip-alike x (a .id) _ (read request s) n))
+      pub unknown-skipped : a .id ≢ x → Same request p x (piecesOctets ps ++ (pieceOctets a ++ s)) (piecesOctets ps ++ s)
+      unknown-skipped n = same (pieceOctets a ++ s) s (rw (ahead request (a .id) (a .rest) h s) (skip-alike x (a .id) _ (read request s) n))

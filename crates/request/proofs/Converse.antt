@@ -8,14 +8,14 @@ use native.Mathlib.Omega.{arith}
 use lib.ListN.{length, getD, take, drop, length-drop}
 use lib.Seq.{length-take-le, getD-take, getD-drop}
 use lib.Dec.{ltb, leb, eqb}
-use borrow.Author.Tests.{ltb-true, ltb-false, leb-true, eqb-true, eqb-false}
+use borrow.Author.Tests.{ltb-false, leb-true, eqb-true, eqb-false}
 use Rattle.octets.specs.declared.Fault.{Fault}
 use Rattle.octets.specs.declared.Fault.the-variants.{Cut, First, Second, Kind, Past, Strange}
 use Rattle.octets.specs.declared.Part.{Part}
-use Rattle.octets.specs.Element.{Elements, elementsFrom, absent, firstOf, endOf}
-use Rattle.octets.specs.Element.Elements.{over, broken, element}
+use Rattle.octets.specs.Element.{Elements, elementsFrom, absent, firstOf}
 use Rattle.octets.proofs.Inside.{Sound, from-place, found-inside}
-use Rattle.messages.specs.Message.{openedBy, endedBy}
+use Rattle.messages.specs.Message.{openedBy}
+use Rattle.messages.proofs.Readings.{choice, opened-so, ended-so}
 use Rattle.record.specs.Tests.{both, either, within}
 use Rattle.record.proofs.Bounds.{one, rest, least, most}
 use Rattle.request.specs.Layout.{Fields, Fit, octetsOf}
@@ -85,16 +85,15 @@ Faithful s (asking.Request q) = Asked s q
 Faithful s (asking.Bad f at) = at ≤ length s
 Faithful s asking.Unfit = Unit {0}
 
--- a choice by a test, each side with what the test says
-choice : {A : Type 0} (P : A → Type 0) (x y : A) (b : Bool) → (b ≡ true → P x) → (b ≡ false → P y) → P (cond b x y)
-choice P x y true f g = f refl
-choice P x y false f g = g refl
+fault-told : (s : List ℕ) (f : Fault) (at : ℕ) → at ≤ length s → Faithful s (asking.Bad f at)
+unfolding Faithful
+fault-told s f at h = h
 
 module _ (s : List ℕ) (opens : (getD s 0 0 ≡ 0x7E) × ((getD s 1 0 ≡ 0x00) × (getD s 2 0 ≡ 0x41))) where
   abbrev n : ℕ
   n = getD s 4 0 * 256 + getD s 5 0
 
-  module _ (inside : 6 + n ≤ length s) (l : Elements) (sound : Sound (length s) l) where
+  module _ (inside : 6 + n ≤ length s) (l : Elements) (sound : Sound true (length s) l) where
     fits : isRequest s n l ≡ true → Asked s (requestIn s n l)
     unfolding isRequest requestIn
     fits e =
@@ -111,21 +110,14 @@ module _ (s : List ℕ) (opens : (getD s 0 0 ≡ 0x7E) × ((getD s 1 0 ≡ 0x00)
           identity = refl;
           known = identity-facts (getD s 6 0) n (one (isIdentity (getD s 6 0) n) _ parts);
           inside = inside;
-          capability = capability-facts (length s) (firstOf 0x10 l) (λ h. found-inside (length s) 0x10 l sound h .0) able;
-          security = security-facts (length s) (firstOf 0x2E l) (λ h. found-inside (length s) 0x2E l sound h .0) safe;
-          last = λ h. (found-inside (length s) 0x52 l sound h .1 refl, found-inside (length s) 0x52 l sound h .0);
+          capability = capability-facts (length s) (firstOf 0x10 l) (λ h. found-inside true (length s) 0x10 l sound h .0) able;
+          security = security-facts (length s) (firstOf 0x2E l) (λ h. found-inside true (length s) 0x2E l sound h .0) safe;
+          last = λ h. (found-inside true (length s) 0x52 l sound h .1 refl refl, found-inside true (length s) 0x52 l sound h .0);
         }
 
     judged : Faithful s (judgedOf s n l)
     unfolding judgedOf Faithful
     judged = choice (Faithful s) _ _ (isRequest s n l) fits (λ e. tt)
-
-  -- a fault of sound elements is told inside, and whole ones leave the rest
-  ended : (l : Elements) (a : Asking) → Sound (length s) l → Faithful s a → Faithful s (endedBy asking.Bad (endOf l) a)
-  unfolding endedBy endOf Faithful Sound
-  ended over a h g = g
-  ended (broken f at) a h g = h
-  ended (element i start k l) a h g = ended l a (h .1) g
 
   parted : Faithful s (restReading s)
   unfolding restReading partsReading askedOf Faithful
@@ -133,16 +125,14 @@ module _ (s : List ℕ) (opens : (getD s 0 0 ≡ 0x7E) × ((getD s 1 0 ≡ 0x00)
       choice (Faithful s) _ _ (ltb (length s) 6) (λ e. omega arith)
       (λ e. choice (Faithful s) _ _ (ltb (length s) (6 + n)) (λ f. omega arith)
       (λ f. let l : 6 + n ≤ length s = ltb-false (length s) (6 + n) f in
-      ended (elementsFrom true s (6 + n)) _ (from-place s (6 + n) l) (judged l (elementsFrom true s (6 + n)) (from-place s (6 + n) l))))
-
-opened : (s : List ℕ) (at octet : ℕ) (f : Fault) (a : Asking) → at ≤ length s → (at < length s → getD s at 0 ≡ octet → Faithful s a) → Faithful s (openedBy asking.Bad s at octet f a)
-unfolding openedBy Faithful
-opened s at octet f a h g =
-    choice (Faithful s) _ _ (ltb at (length s)) (λ e. choice (Faithful s) _ _ (eqb (getD s at 0) octet) (λ t. g (ltb-true at (length s) e) (eqb-true (getD s at 0) octet t)) (λ t. h)) (λ e. h)
+      ended-so (Faithful s) asking.Bad s (fault-told s) true (elementsFrom true s (6 + n)) _ (from-place true s (6 + n) l) (judged l (elementsFrom true s (6 + n)) (from-place true s (6 + n) l))))
 
 faithful : (s : List ℕ) → Faithful s (askingOf s)
 unfolding askingOf requestReading
-faithful s = opened s 0 0x7E First _ (omega arith) (λ h a. opened s 1 0x00 Second _ h (λ g b. opened s 2 0x41 Kind _ g (λ k c. parted s (a, (b, c)))))
+faithful s = opened 0 0x7E First _ (omega arith) (λ h a. opened 1 0x00 Second _ h (λ g b. opened 2 0x41 Kind _ g (λ k c. parted s (a, (b, c)))))
+  where
+    opened : (at octet : ℕ) (f : Fault) (a : Asking) → at ≤ length s → (at < length s → getD s at 0 ≡ octet → Faithful s a) → Faithful s (openedBy asking.Bad s at octet f a)
+    opened = opened-so (Faithful s) asking.Bad s (fault-told s)
 
 -- The converse of the round trip: what reads as a request is one
 pub asked : (s : List ℕ) (q : Request) → askingOf s ≡ asking.Request q → Asked s q

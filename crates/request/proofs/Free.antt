@@ -17,7 +17,7 @@ use Rattle.octets.specs.declared.Ending.{Ending}
 use Rattle.octets.specs.declared.Ending.the-variants.{Broken, Whole}
 use Rattle.octets.specs.Element.{Elements, elementsFrom, absent, firstOf, endOf}
 use Rattle.octets.proofs.Inside.{Sound, from-place, found-inside}
-use Rattle.octets.proofs.Order.{Says, saidIn, isWhole, said, formed, Same, Alone, Piece, octetsOf, row, AllAlone, order-free, unknown-skipped}
+use Rattle.octets.proofs.Order.{Says, saidIn, isWhole, said, formed, Same, Alone, Piece, pieceOctets, piecesOctets, AllAlone, order-free, unknown-skipped}
 use Rattle.octets.proofs.Order.Says.{contents, nothing as missing}
 use Rattle.messages.specs.Message.{openedBy, endedBy}
 use Rattle.record.specs.Tests.{both, within}
@@ -92,13 +92,13 @@ saying o known identity x y z =
 
 -- each choice of the reading, told
 
-judged-told : (s : List ℕ) (n : ℕ) (l : Elements) → Sound (length s) l
+judged-told : (s : List ℕ) (n : ℕ) (l : Elements) → Sound true (length s) l
     → toldBy s (judgedOf s n l) ≡ saying (getD s 3 0) (isIdentity (getD s 6 0) n) (cutOf s (record { held = true; start = 6; len = n })) (saidIn s (firstOf 0x10 l)) (saidIn s (firstOf 0x2E l)) (saidIn s (firstOf 0x52 l))
 unfolding judgedOf isRequest requestIn toldBy saying
 judged-told s n l sound =
     rw (
-      ← capable-said s (firstOf 0x10 l) (λ h. found-inside (length s) 0x10 l sound h .0),
-      ← secure-said s (firstOf 0x2E l) (λ h. found-inside (length s) 0x2E l sound h .0),
+      ← capable-said s (firstOf 0x10 l) (λ h. found-inside true (length s) 0x10 l sound h .0),
+      ← secure-said s (firstOf 0x2E l) (λ h. found-inside true (length s) 0x2E l sound h .0),
       ← able-said s (firstOf 0x10 l),
       ← cut-said s (firstOf 0x2E l),
       ← cut-said s (firstOf 0x52 l),
@@ -166,7 +166,7 @@ module _ (p : List ℕ) (long : length p ≡ 6 + identityIn p) (s : List ℕ) wh
   unfolding partsReading askedOf
   parts-told =
       rw (le-ltb (length all) (6 + n) room, ← long, ended-told all (endOf (elementsFrom true all (length p))) (judgedOf all n (elementsFrom true all (length p))))
-      (rw (judged-told all n (elementsFrom true all (length p)) (from-place all (length p) (omega (arith, length-append p s))), ahead 3 (omega arith), known-same, identity-same))
+      (rw (judged-told all n (elementsFrom true all (length p)) (from-place true all (length p) (omega (arith, length-append p s))), ahead 3 (omega arith), known-same, identity-same))
 
   told-of : toldBy all (askingOf all)
       ≡ cond (eqb (getD p 0 0) 0x7E) (cond (eqb (getD p 1 0) 0x00) (cond (eqb (getD p 2 0) 0x41)
@@ -195,11 +195,11 @@ module _ (p : List ℕ) (long : length p ≡ 6 + identityIn p) where
   module _ (ps : List Piece) (all : AllAlone true ps) (a : Piece) (h : Alone true (a .id) (a .rest)) (s : List ℕ) where
     -- "Reading a request back accepts, elements in any order"
     pub request-order-free : (b : Piece) → Alone true (b .id) (b .rest) → a .id ≢ b .id
-        → toldBy (p ++ (row ps ++ (octetsOf a ++ (octetsOf b ++ s)))) (askingOf (p ++ (row ps ++ (octetsOf a ++ (octetsOf b ++ s)))))
-        ≡ toldBy (p ++ (row ps ++ (octetsOf b ++ (octetsOf a ++ s)))) (askingOf (p ++ (row ps ++ (octetsOf b ++ (octetsOf a ++ s)))))
+        → toldBy (p ++ (piecesOctets ps ++ (pieceOctets a ++ (pieceOctets b ++ s)))) (askingOf (p ++ (piecesOctets ps ++ (pieceOctets a ++ (pieceOctets b ++ s)))))
+        ≡ toldBy (p ++ (piecesOctets ps ++ (pieceOctets b ++ (pieceOctets a ++ s)))) (askingOf (p ++ (piecesOctets ps ++ (pieceOctets b ++ (pieceOctets a ++ s)))))
     request-order-free b k n = same-request _ _ (order-free true 0x10 p ps all a h s b k n) (order-free true 0x2E p ps all a h s b k n) (order-free true 0x52 p ps all a h s b k n)
 
     -- "Unknown ones are skipped"
     pub request-unknown-skipped : a .id ≢ 0x10 → a .id ≢ 0x2E → a .id ≢ 0x52
-        → toldBy (p ++ (row ps ++ (octetsOf a ++ s))) (askingOf (p ++ (row ps ++ (octetsOf a ++ s)))) ≡ toldBy (p ++ (row ps ++ s)) (askingOf (p ++ (row ps ++ s)))
+        → toldBy (p ++ (piecesOctets ps ++ (pieceOctets a ++ s))) (askingOf (p ++ (piecesOctets ps ++ (pieceOctets a ++ s)))) ≡ toldBy (p ++ (piecesOctets ps ++ s)) (askingOf (p ++ (piecesOctets ps ++ s)))
     request-unknown-skipped x y z = same-request _ _ (unknown-skipped true 0x10 p ps all a h s x) (unknown-skipped true 0x2E p ps all a h s y) (unknown-skipped true 0x52 p ps all a h s z)

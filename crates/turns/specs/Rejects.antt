@@ -42,7 +42,7 @@ rejectT3247 t3247 protected cause draw = cond (both (eqb protected 0) (both (sta
 unfoldable pub isIgnored : ℕ → ℕ → Access → Bool
 isIgnored protected cause other = both (isCard cause) (both (eqb protected 0) (eqb (other .state) 5))
 
--- The row of a cause over access w; unprotected, which is unprotected, or not; at home or away; card counter below its limit or not
+-- The row of a cause over access w; unprotected or not; at home or away; card counter below its limit or not
 unfoldable pub rowOf : ℕ → Bool → Bool → Bool → ℕ → Row
 rowOf w unprotected home below c =
     cond (isCard c) (cond unprotected (cond below CardBelow CardLimit) CardProtected)
