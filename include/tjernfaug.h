@@ -21,15 +21,21 @@ uint32_t reject_cause(const uint8_t *msg, size_t len);
 /* The seconds of a timer octet (GPRS timer 2), 0 to 11160; 65535 for top bits 7, deactivated. */
 uint32_t timer_seconds(uint8_t octet);
 
-/* The device's numbers, here and below the widest first. A flag is 0 or 1; lengths and counts say how much of an array is in use. */
+/*
+ * The device's numbers, here and below the widest first. A flag is 0 or 1; lengths and counts say how much of an array is in use.
+ * t3512length: T3512's kept length in seconds, 0 where the network wants no periodic updates. due: whether a periodic update is due.
+ */
 struct tjernfaug_device {
     uint32_t home;
+    uint32_t t3512length;
     uint8_t card;
     uint8_t suci;
     uint8_t cardlimit;
     uint8_t banlimit;
     uint8_t n1limit;
     uint8_t t3247;
+    uint8_t t3512;
+    uint8_t due;
     uint8_t capability;
     uint8_t security;
     uint8_t roaming;
@@ -41,6 +47,8 @@ struct tjernfaug_device {
  * state: 0 no card or card refused, 1 normal service, 2 limited service, 3 attempting registration, 4 registration initiated, 5 registered, 6 network search.
  * status: 1 to 3 for 5U1 to 5U3. t3502length: T3502's stored length in seconds. cardcounter: the card counter. net and code: the pending area.
  * guti, visited: whether a GUTI and a last area (lastnet, lastcode) are held. ksi: ngKSI, 7 for none.
+ * regtype: the pending registration's type, 1 initial, 2 mobility, 3 periodic. uplink, sessions: its uplink data status and PDU session status,
+ * the first octet as sent in the low half: session i is bit i.
  */
 struct tjernfaug_access {
     uint32_t net;
@@ -48,6 +56,8 @@ struct tjernfaug_access {
     uint32_t lastnet;
     uint32_t lastcode;
     uint16_t t3502length;
+    uint16_t uplink;
+    uint16_t sessions;
     uint8_t state;
     uint8_t status;
     uint8_t attempts;
@@ -60,6 +70,7 @@ struct tjernfaug_access {
     uint8_t ksi;
     uint8_t equivalents;
     uint8_t entries;
+    uint8_t regtype;
 };
 
 struct tjernfaug_hot {
@@ -109,20 +120,21 @@ struct tjernfaug_timers {
     struct tjernfaug_timer t3502;
 };
 
-/* What firmware is to do after an event: the timers of access 0 and of access 1, T3247, and the requests, each 0 for none, else 1 plus the access that it is meant for. */
+/* What firmware is to do after an event: the timers of access 0 and of access 1, T3247, T3512, and the requests, each 0 for none, else 1 plus the access that it is meant for. */
 struct tjernfaug_notice {
     struct tjernfaug_timers c0;
     struct tjernfaug_timers c1;
     struct tjernfaug_timer t3247;
+    struct tjernfaug_timer t3512;
     uint32_t restart;
     uint32_t leave;
     uint32_t update;
 };
 
 /* The library's layout on x86-64; tests/c/run holds the library to it. */
-_Static_assert(sizeof(struct tjernfaug_record) == 1208, "the record's size");
+_Static_assert(sizeof(struct tjernfaug_record) == 1224, "the record's size");
 _Static_assert(_Alignof(struct tjernfaug_record) == 8, "the record's alignment");
-_Static_assert(sizeof(struct tjernfaug_notice) == 68, "the notice's size");
+_Static_assert(sizeof(struct tjernfaug_notice) == 76, "the notice's size");
 _Static_assert(_Alignof(struct tjernfaug_notice) == 4, "the notice's alignment");
 
 /*
@@ -137,9 +149,10 @@ uint32_t tjernfaug_new(struct tjernfaug_record *r, uint8_t cardlimit, uint8_t ba
  *   1 card     home (3), SUCI (9 to 64)
  *   2 start    access, manual, network (3), area code (3)
  *   3 message  access, protected, draw for T3247 (2, the low one first), the message's octets
- *   4 timer    1 T3510, 2 T3511, 3 T3502, 4 T3247; access (0 for T3247)
+ *   4 timer    1 T3510, 2 T3511, 3 T3502, 4 T3247, 5 T3512; access (0 for T3247 and T3512)
  *   5 power
  *   6 key      access, set
+ *   7 update   access, type (2 mobility, 3 periodic), network (3), area code (3), uplink data status (2), PDU session status (2), as sent, session 0 clear
  * The answer's number, 0 for taken. Every answer but 0 leaves r as it was; notice is always written.
  */
 uint32_t tjernfaug_event(struct tjernfaug_record *r, uint32_t kind, const uint8_t *body, size_t len,
@@ -147,7 +160,7 @@ uint32_t tjernfaug_event(struct tjernfaug_record *r, uint32_t kind, const uint8_
 
 /*
  * The registration request of an access in state 4, written from buffer[0] on. r and what lies behind the request stay as they were.
- * How many octets it has, at most 102; or 256 plus the refusal's number, and then the whole buffer is as it was:
+ * How many octets it has, at most 110; or 256 plus the refusal's number, and then the whole buffer is as it was:
  *   257  access is not 0 or 1, or r is invalid
  *   262  the access is not in state 4
  *   268  the buffer is shorter than the request

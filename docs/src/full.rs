@@ -1,19 +1,22 @@
 // The whole reply and the whole record as a line of text, for `--full`.
 //
 // One line after each event's line, three parts split by ` | `, words split by spaces:
-//   = ANSWER T3510 C C T3511 C C T3502 C C T3247 C restart A leave A update A
-//   | card C home HEX suci HEX limits CARD BAN N1 cap HEX sec HEX T3247 B
-//     roaming AREAS regional AREAS
+//   = ANSWER T3510 C C T3511 C C T3502 C C T3247 C T3512 C restart A leave A update A
+//   | card C home HEX suci HEX limits CARD BAN N1 cap HEX sec HEX T3247 B T3512 B
+//     length SECONDS due B roaming AREAS regional AREAS
 //   | 0 state N status N attempts N T3510 B T3511 B T3502 B length SECONDS
-//     pending HEX guti HEX last HEX ksi N equivalents NETWORKS cards N entries ENTRIES
+//     pending HEX type N uplink HEX sessions HEX guti HEX last HEX ksi N
+//     equivalents NETWORKS cards N entries ENTRIES
 //   | 1 ... (the same for access 1)
 // C of a timer, access 0 then 1: `left`, `stopped` or `started:SECONDS`. A: the access a
-// request is meant for, or `-`. B, C of the card: 0 or 1. HEX: lower case, `-` if none.
+// request is meant for, or `-`. B, C of the card: 0 or 1. HEX: lower case, `-` if none;
+// uplink and sessions are the two octets as sent, 0000 for no session. The length before
+// `due` is the time kept for T3512, the one of an access its T3502's.
 // Lists: `-` if empty, else joined by commas in the order held. AREAS: six octets and `:p`
 // (protected) or `:u`. ENTRIES: network, ban counter, N1 counter and marks joined by
 // colons, the marks `F` or `-` (forbidden) then `N` or `-` (N1 not allowed).
 
-use crate::record::{Access, Areas, Change, Record, Reply};
+use crate::record::{Access, Areas, Change, Record, Reply, T3247, T3512};
 use std::fmt::Write;
 
 /// Writing to a string never fails.
@@ -71,7 +74,9 @@ pub fn reply(text: &mut String, reply: &Reply) {
         change(text, reply.timers[2 * kind + 1]);
     }
     text.push_str(" T3247");
-    change(text, reply.timers[6]);
+    change(text, reply.timers[T3247]);
+    text.push_str(" T3512");
+    change(text, reply.timers[T3512]);
     asked(text, "restart", reply.restart);
     asked(text, "leave", reply.leave);
     asked(text, "update", reply.update);
@@ -90,6 +95,10 @@ fn access(text: &mut String, access: &Access) {
     put!(text, " T3510 {} T3511 {} T3502 {}", running[0], running[1], running[2]);
     put!(text, " length {} pending ", access.t3502_length);
     hex(text, &access.pending);
+    put!(text, " type {} uplink ", access.regtype);
+    hex(text, &access.uplink);
+    text.push_str(" sessions ");
+    hex(text, &access.sessions);
     text.push_str(" guti ");
     hex(text, access.guti.as_ref().map_or(&[], |guti| guti));
     text.push_str(" last ");
@@ -115,7 +124,8 @@ pub fn record(text: &mut String, record: &Record) {
     hex(text, &record.capability);
     text.push_str(" sec ");
     hex(text, &record.security);
-    put!(text, " T3247 {} roaming ", record.t3247 as u8);
+    put!(text, " T3247 {} T3512 {}", record.t3247 as u8, record.t3512 as u8);
+    put!(text, " length {} due {} roaming ", record.t3512_length, record.due as u8);
     areas(text, &record.roaming);
     text.push_str(" regional ");
     areas(text, &record.regional);

@@ -1,10 +1,12 @@
-// Reading accepts and rejects: the optional elements and the timer octet.
+// Reading accepts and rejects: the optional elements and the timer octets.
 
 /// What an accept says; `equivalents` are whole triplets or less than one.
 pub struct Accept<'a> {
     pub guti: Option<[u8; 10]>,
     pub equivalents: &'a [u8],
     pub t3502: Option<u16>,
+    /// 0 also where T3512 is deactivated: both say that it does not run.
+    pub t3512: Option<u32>,
 }
 
 pub enum Message<'a> {
@@ -57,6 +59,23 @@ pub fn seconds(octet: u8) -> Option<u16> {
     }
 }
 
+/// The units of GPRS timer 3 by the top three bits, in seconds; the last is deactivated.
+const UNITS: [Option<u32>; 8] = [
+    Some(10 * 60),
+    Some(3600),
+    Some(10 * 3600),
+    Some(2),
+    Some(30),
+    Some(60),
+    Some(320 * 3600),
+    None,
+];
+
+/// GPRS timer 3 in seconds; None is deactivated.
+pub fn long_seconds(octet: u8) -> Option<u32> {
+    UNITS[(octet >> 5) as usize].map(|unit| unit * (octet & 31) as u32)
+}
+
 /// An accept or a reject; None if malformed or of another type.
 pub fn read(octets: &[u8]) -> Option<Message<'_>> {
     match octets {
@@ -85,12 +104,14 @@ fn accept(mut rest: &[u8]) -> Option<Accept<'_>> {
     take(&mut rest, length)?;
     let mut guti = None;
     let mut equivalents = None;
-    let mut timer = None;
+    let mut t3502 = None;
+    let mut t3512 = None;
     while !rest.is_empty() {
         match element(&mut rest, Within::Other)? {
             (0x77, contents) => guti = guti.or(Some(contents)),
             (0x4A, contents) => equivalents = equivalents.or(Some(contents)),
-            (0x16, contents) => timer = timer.or(Some(contents)),
+            (0x16, contents) => t3502 = t3502.or(Some(contents)),
+            (0x5E, contents) => t3512 = t3512.or(Some(contents)),
             _ => {}
         }
     }
@@ -100,8 +121,12 @@ fn accept(mut rest: &[u8]) -> Option<Accept<'_>> {
             _ => None,
         },
         equivalents: equivalents.unwrap_or(&[]),
-        t3502: match timer {
+        t3502: match t3502 {
             Some([octet, ..]) => seconds(*octet),
+            _ => None,
+        },
+        t3512: match t3512 {
+            Some([octet, ..]) => Some(long_seconds(*octet).unwrap_or(0)),
             _ => None,
         },
     })

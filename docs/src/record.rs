@@ -1,4 +1,5 @@
-// The registration record of document 01 and its six events, updated in place.
+// The registration record of document 01 with the updates of request R-5, and its seven
+// events, updated in place.
 
 use crate::message::{self, Accept, Message};
 
@@ -36,10 +37,19 @@ pub const T3510: usize = 0;
 pub const T3511: usize = 2;
 pub const T3502: usize = 4;
 pub const T3247: usize = 6;
+pub const T3512: usize = 7;
+/// How many places there are.
+pub const TIMERS: usize = 8;
 
-const T3510_SECONDS: u16 = 15;
-const T3511_SECONDS: u16 = 10;
+// Types of a registration, as in octet 4 of its request.
+pub const INITIAL: u8 = 1;
+pub const MOBILITY: u8 = 2;
+pub const PERIODIC: u8 = 3;
+
+const T3510_SECONDS: u32 = 15;
+const T3511_SECONDS: u32 = 10;
 const T3502_SECONDS: u16 = 720;
+const T3512_SECONDS: u32 = 3240;
 const MOST_ATTEMPTS: u8 = 5;
 const NO_KEY: u8 = 7;
 
@@ -131,6 +141,8 @@ pub struct Listed {
 }
 
 pub type Areas = List<Listed, 40>;
+/// A bit for each of sixteen sessions, as sent: session 0 is bit 1 of the first octet.
+pub type Sessions = [u8; 2];
 
 #[derive(Clone, Copy)]
 pub struct Access {
@@ -143,6 +155,11 @@ pub struct Access {
     pub t3502: bool,
     pub t3502_length: u16,
     pub pending: Area,
+    /// The pending registration's type, of meaning in state 4 only.
+    pub regtype: u8,
+    /// The pending registration's uplink data status and PDU session status.
+    pub uplink: Sessions,
+    pub sessions: Sessions,
     pub guti: Option<Guti>,
     pub last: Option<Area>,
     pub ksi: u8,
@@ -160,6 +177,11 @@ pub struct Record {
     pub capability: List<u8, 13>,
     pub security: List<u8, 8>,
     pub t3247: bool,
+    pub t3512: bool,
+    /// The time kept for T3512, 0 if the network wants no periodic updates.
+    pub t3512_length: u32,
+    /// T3512 ran out and no accept on access 0 came since.
+    pub due: bool,
     pub roaming: Areas,
     pub regional: Areas,
     pub access: [Access; 2],
@@ -169,14 +191,14 @@ pub struct Record {
 pub enum Change {
     Left,
     Stopped,
-    Started(u16),
+    Started(u32),
 }
 
 /// What an event returns; a request names the access it is meant for.
 #[derive(Clone, Copy, PartialEq, Debug)]
 pub struct Reply {
     pub answer: u8,
-    pub timers: [Change; 7],
+    pub timers: [Change; TIMERS],
     pub restart: Option<u8>,
     pub leave: Option<u8>,
     pub update: Option<u8>,
@@ -184,7 +206,7 @@ pub struct Reply {
 
 impl Reply {
     pub const fn of(answer: u8) -> Reply {
-        Reply { answer, timers: [Change::Left; 7], restart: None, leave: None, update: None }
+        Reply { answer, timers: [Change::Left; TIMERS], restart: None, leave: None, update: None }
     }
 
     fn stop(&mut self, timer: usize, running: &mut bool) {
@@ -194,7 +216,7 @@ impl Reply {
         }
     }
 
-    fn start(&mut self, timer: usize, running: &mut bool, seconds: u16) {
+    fn start(&mut self, timer: usize, running: &mut bool, seconds: u32) {
         *running = true;
         self.timers[timer] = Change::Started(seconds);
     }
@@ -210,6 +232,11 @@ pub fn is_network(code: &Network) -> bool {
         && low(code[1]) < 10
         && high(code[2]) < 10
         && low(code[2]) < 10
+}
+
+/// Session 0 is reserved and never set.
+fn are_sessions(octets: &Sessions) -> bool {
+    octets[0] & 1 == 0
 }
 
 pub fn network_of(area: &Area) -> Network {
@@ -259,6 +286,9 @@ impl Access {
             t3502: false,
             t3502_length: T3502_SECONDS,
             pending: [0; 6],
+            regtype: INITIAL,
+            uplink: [0; 2],
+            sessions: [0; 2],
             guti: None,
             last: None,
             ksi: NO_KEY,
@@ -284,6 +314,16 @@ impl Access {
             }
         };
         Some(&mut self.entries[place])
+    }
+
+    /// An update is pending.
+    fn updating(&self) -> bool {
+        self.state == INITIATED && self.regtype != INITIAL
+    }
+
+    /// What the two-access rule asks of the other access.
+    fn registered(&self) -> bool {
+        self.state == REGISTERED || self.updating()
     }
 
     fn clear_identity(&mut self) {
@@ -320,20 +360,42 @@ impl Access {
         true
     }
 
-    /// T3510 out, once T3510 is stopped.
+    /// T3510 out, once T3510 is stopped. An update falls back to the registration that
+    /// stands, so the identity that goes with it stays.
     fn failed(&mut self, a: usize, reply: &mut Reply) {
         if self.attempts < MOST_ATTEMPTS {
             self.attempts += 1;
         }
-        self.state = ATTEMPTING;
-        if self.attempts < MOST_ATTEMPTS {
-            reply.start(T3511 + a, &mut self.t3511, T3511_SECONDS);
-        } else {
-            self.clear_identity();
-            self.equivalents.clear();
+        let last = self.attempts == MOST_ATTEMPTS;
+        if self.updating() {
             self.status = 2;
-            reply.start(T3502 + a, &mut self.t3502, self.t3502_length);
+            self.state = REGISTERED;
+        } else {
+            self.state = ATTEMPTING;
+            if last {
+                self.status = 2;
+                self.clear_identity();
+            }
         }
+        if last {
+            self.equivalents.clear();
+            reply.start(T3502 + a, &mut self.t3502, self.t3502_length.into());
+        } else {
+            reply.start(T3511 + a, &mut self.t3511, T3511_SECONDS);
+        }
+    }
+
+    /// State 4 for a registration that passed its checks.
+    fn initiate(&mut self, a: usize, area: Area, regtype: u8, statuses: [Sessions; 2]) -> Reply {
+        let mut reply = Reply::of(TAKEN);
+        self.state = INITIATED;
+        self.pending = area;
+        self.regtype = regtype;
+        [self.uplink, self.sessions] = statuses;
+        reply.start(T3510 + a, &mut self.t3510, T3510_SECONDS);
+        reply.stop(T3511 + a, &mut self.t3511);
+        reply.stop(T3502 + a, &mut self.t3502);
+        reply
     }
 }
 
@@ -347,6 +409,9 @@ impl Record {
             capability: List::of(capability),
             security: List::of(security),
             t3247: false,
+            t3512: false,
+            t3512_length: T3512_SECONDS,
+            due: false,
             roaming: List::new(),
             regional: List::new(),
             access: [Access::new(); 2],
@@ -360,6 +425,7 @@ impl Record {
             reply.stop(T3502 + a, &mut access.t3502);
         }
         reply.stop(T3247, &mut self.t3247);
+        reply.stop(T3512, &mut self.t3512);
     }
 
     pub fn card(&mut self, home: Network, suci: &[u8]) -> Reply {
@@ -371,43 +437,78 @@ impl Record {
         self.card = true;
         self.home = home;
         self.suci = List::of(suci);
+        self.t3512_length = T3512_SECONDS;
+        self.due = false;
         self.roaming.clear();
         self.regional.clear();
         self.access = [Access { state: NORMAL, ..Access::new() }; 2];
         reply
     }
 
+    /// Checks 7, 8 and 9, which a start and an update share: an answer, TAKEN if none holds.
+    #[inline]
+    fn place(&self, a: usize, manual: bool, area: &Area) -> u8 {
+        let network = network_of(area);
+        let other = &self.access[1 - a];
+        if other.state == INITIATED && network_of(&other.pending) == network {
+            return CONCURRENT;
+        }
+        if let Some(entry) = self.access[a].entry(&network) {
+            if entry.n1_barred || entry.forbidden && !manual {
+                return NETWORK_LISTED;
+            }
+        }
+        if a == 0 && (holds(&self.roaming, area) || holds(&self.regional, area)) {
+            return AREA_LISTED;
+        }
+        TAKEN
+    }
+
     pub fn start(&mut self, access: u8, manual: u8, area: Area) -> Reply {
-        let network = network_of(&area);
-        if access > 1 || manual > 1 || !is_network(&network) {
+        if access > 1 || manual > 1 || !is_network(&network_of(&area)) {
             return Reply::of(RANGE);
         }
         let a = access as usize;
-        let other = &self.access[1 - a];
-        let this = &self.access[a];
-        match this.state {
+        match self.access[a].state {
             NO_SUPI => return Reply::of(NO_CARD),
             INITIATED | REGISTERED => return Reply::of(STATE),
             _ => {}
         }
-        if other.state == INITIATED && network_of(&other.pending) == network {
-            return Reply::of(CONCURRENT);
+        match self.place(a, manual == 1, &area) {
+            TAKEN => self.access[a].initiate(a, area, INITIAL, [[0; 2]; 2]),
+            answer => Reply::of(answer),
         }
-        if let Some(entry) = this.entry(&network) {
-            if entry.n1_barred || entry.forbidden && manual == 0 {
-                return Reply::of(NETWORK_LISTED);
-            }
+    }
+
+    /// A mobility or periodic update; `statuses` are uplink data status and PDU session status.
+    pub fn update(
+        &mut self,
+        access: u8,
+        regtype: u8,
+        area: Area,
+        statuses: [Sessions; 2],
+    ) -> Reply {
+        let typed = matches!(regtype, MOBILITY | PERIODIC);
+        if access > 1 || !typed || !is_network(&network_of(&area)) {
+            return Reply::of(RANGE);
         }
-        if a == 0 && (holds(&self.roaming, &area) || holds(&self.regional, &area)) {
-            return Reply::of(AREA_LISTED);
+        if !statuses.iter().all(are_sessions) {
+            return Reply::of(RANGE);
         }
-        let this = &mut self.access[a];
-        let mut reply = Reply::of(TAKEN);
-        this.state = INITIATED;
-        this.pending = area;
-        reply.start(T3510 + a, &mut this.t3510, T3510_SECONDS);
-        reply.stop(T3511 + a, &mut this.t3511);
-        reply.stop(T3502 + a, &mut this.t3502);
+        let a = access as usize;
+        // T3512 is access 0's, so a periodic update of access 1 is never due.
+        let due = a == 0 && self.due;
+        if self.access[a].state != REGISTERED || regtype == PERIODIC && !due {
+            return Reply::of(STATE);
+        }
+        match self.place(a, false, &area) {
+            TAKEN => {}
+            answer => return Reply::of(answer),
+        }
+        let mut reply = self.access[a].initiate(a, area, regtype, statuses);
+        if a == 0 {
+            reply.stop(T3512, &mut self.t3512);
+        }
         reply
     }
 
@@ -447,11 +548,25 @@ impl Record {
         if let Some(entry) = this.entries.iter_mut().find(|entry| entry.network == network) {
             entry.forbidden = false;
         }
+        if a == 0 {
+            self.begin_period(accept.t3512, &mut reply);
+        }
         reply
     }
 
+    /// An accept on access 0: T3512 begins with the time given, else the one kept, if not zero.
+    fn begin_period(&mut self, given: Option<u32>, reply: &mut Reply) {
+        self.due = false;
+        if let Some(seconds) = given {
+            self.t3512_length = seconds;
+        }
+        if self.t3512_length > 0 {
+            reply.start(T3512, &mut self.t3512, self.t3512_length);
+        }
+    }
+
     fn reject(&mut self, a: usize, cause: u8, protected: bool, draw: u16) -> Reply {
-        if matches!(cause, 3 | 6 | 7) && !protected && self.access[1 - a].state == REGISTERED {
+        if matches!(cause, 3 | 6 | 7) && !protected && self.access[1 - a].registered() {
             let mut reply = Reply::of(IGNORED);
             reply.leave = Some(a as u8);
             reply.update = Some(1 - a as u8);
@@ -464,7 +579,7 @@ impl Record {
         reply.stop(T3510 + a, &mut self.access[a].t3510);
         let starts = matches!(cause, 3 | 6 | 7 | 11 | 12 | 13 | 15 | 27 | 72 | 73);
         if starts && !protected && !self.t3247 {
-            reply.start(T3247, &mut self.t3247, draw);
+            reply.start(T3247, &mut self.t3247, draw.into());
         }
         reply
     }
@@ -533,9 +648,10 @@ impl Record {
         list(areas, this.pending, protected);
     }
 
-    /// Timer numbers as in the log: 1 T3510, 2 T3511, 3 T3502, 4 T3247 (access 0).
+    /// Timer numbers as in the log: 1 T3510, 2 T3511, 3 T3502; of access 0 alone 4 T3247 and
+    /// 5 T3512.
     pub fn timer(&mut self, number: u8, access: u8) -> Reply {
-        if !(1..=4).contains(&number) || access > 1 || number == 4 && access != 0 {
+        if !(1..=5).contains(&number) || access > 1 || number >= 4 && access != 0 {
             return Reply::of(RANGE);
         }
         let a = access as usize;
@@ -544,7 +660,8 @@ impl Record {
             1 => (T3510 + a, &mut this.t3510),
             2 => (T3511 + a, &mut this.t3511),
             3 => (T3502 + a, &mut this.t3502),
-            _ => (T3247, &mut self.t3247),
+            4 => (T3247, &mut self.t3247),
+            _ => (T3512, &mut self.t3512),
         };
         if !*running {
             return Reply::of(NOT_RUNNING);
@@ -558,7 +675,8 @@ impl Record {
                 reply.restart = Some(access);
                 this.attempts = 0;
             }
-            _ => self.lift(),
+            4 => self.lift(),
+            _ => self.due = true,
         }
         reply
     }

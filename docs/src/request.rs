@@ -1,11 +1,13 @@
 // The registration request: choosing the identity, writing and reading back.
 
 use crate::message::{element, Within};
-use crate::record::{network_of, Network, Record, INITIATED, MALFORMED, RANGE, SHORT, STATE};
+use crate::record::{
+    network_of, Network, Record, INITIAL, INITIATED, MALFORMED, PERIODIC, RANGE, SHORT, STATE,
+};
 use std::ops::Range;
 
-/// The longest request: head, SUCI of 64, 10 of 13, 2E of 8 and 52.
-pub const LONGEST: usize = 6 + 64 + 15 + 10 + 7;
+/// The longest request: head, SUCI of 64, 10 of 13, 2E of 8, 52, 40 and 50.
+pub const LONGEST: usize = 6 + 64 + 15 + 10 + 7 + 4 + 4;
 
 /// Two identities as sent, F2 and ten octets, for access 0 then 1; zeros where none is held.
 pub fn gutis(record: &Record) -> [u8; 22] {
@@ -52,17 +54,27 @@ fn build(record: &Record, a: usize) -> ([u8; LONGEST], usize) {
         octets[used..used + part.len()].copy_from_slice(part);
         used += part.len();
     };
-    put(&[0x7E, 0x00, 0x41, access.ksi * 16 + 1, 0, identity.len() as u8]);
+    // Without a key set only 2E follows the identity.
+    let bare = access.ksi == 7;
+    put(&[0x7E, 0x00, 0x41, access.ksi * 16 + access.regtype, 0, identity.len() as u8]);
     put(identity);
-    if access.ksi < 7 {
+    if !bare {
         put(&[0x10, record.capability.len() as u8]);
         put(&record.capability);
     }
     put(&[0x2E, record.security.len() as u8]);
     put(&record.security);
-    if let (true, Some(area)) = (access.ksi < 7, access.last) {
+    if let (false, Some(area)) = (bare, access.last) {
         put(&[0x52]);
         put(&area);
+    }
+    if !bare && access.regtype != INITIAL {
+        let [u1, u2] = access.uplink;
+        let [s1, s2] = access.sessions;
+        if access.uplink != [0; 2] {
+            put(&[0x40, 2, u1, u2]);
+        }
+        put(&[0x50, 2, s1, s2]);
     }
     (octets, used)
 }
@@ -85,11 +97,19 @@ pub fn write(record: &Record, access: u8, buffer: &mut [u8]) -> Result<usize, u8
 /// What a request says, each part by its place in the octets.
 #[derive(Clone, PartialEq, Debug)]
 pub struct Request {
+    pub regtype: u8,
     pub ksi: u8,
     pub identity: Range<usize>,
     pub capability: Option<Range<usize>>,
     pub security: Range<usize>,
     pub area: Option<Range<usize>>,
+    pub uplink: Option<Range<usize>>,
+    pub sessions: Option<Range<usize>>,
+}
+
+/// The two octets of 40 or 50 in its contents; further ones are ignored, fewer are none.
+fn statuses(contents: Range<usize>) -> Option<Range<usize>> {
+    (contents.len() >= 2).then_some(contents.start..contents.start + 2)
 }
 
 /// Reads a request back, elements in any order; all that breaks the layout is answer 3.
@@ -97,22 +117,19 @@ pub fn read(octets: &[u8]) -> Result<Request, u8> {
     parse(octets).ok_or(MALFORMED)
 }
 
-fn parse(octets: &[u8]) -> Option<Request> {
-    let [0x7E, 0, 0x41, fourth, high, low, rest @ ..] = octets else { return None };
-    if fourth & 15 != 1 || fourth >> 4 > 7 {
-        return None;
-    }
-    let length = u16::from_be_bytes([*high, *low]) as usize;
-    let fits = match rest.first()? {
-        0xF2 => length == 11,
-        0x01 => (9..=64).contains(&length),
+/// Whether an identity of `length` octets, of one of the two kinds, stands whole at the front.
+fn identified(rest: &[u8], length: usize) -> bool {
+    let fits = match rest.first() {
+        Some(0xF2) => length == 11,
+        Some(0x01) => (9..=64).contains(&length),
         _ => false,
     };
-    if !fits || rest.len() < length {
-        return None;
-    }
-    let mut rest = &rest[length..];
-    let mut first: [Option<Range<usize>>; 3] = [None, None, None];
+    fits && length <= rest.len()
+}
+
+/// Where the contents of the first 10, 2E, 52, 40 and 50 lie; None if an element is malformed.
+fn elements(octets: &[u8], mut rest: &[u8]) -> Option<[Option<Range<usize>>; 5]> {
+    let mut first = [const { None }; 5];
     while !rest.is_empty() {
         let (identifier, contents) = element(&mut rest, Within::Request)?;
         let end = octets.len() - rest.len();
@@ -120,15 +137,39 @@ fn parse(octets: &[u8]) -> Option<Request> {
             0x10 => 0,
             0x2E => 1,
             0x52 => 2,
+            0x40 => 3,
+            0x50 => 4,
             _ => continue,
         };
         first[kind].get_or_insert(end - contents.len()..end);
     }
-    let [capability, security, area] = first;
+    Some(first)
+}
+
+fn parse(octets: &[u8]) -> Option<Request> {
+    let [0x7E, 0, 0x41, fourth, high, low, rest @ ..] = octets else { return None };
+    let (ksi, regtype) = (fourth >> 4, fourth & 15);
+    if !(INITIAL..=PERIODIC).contains(&regtype) || ksi > 7 {
+        return None;
+    }
+    let length = u16::from_be_bytes([*high, *low]) as usize;
+    if !identified(rest, length) {
+        return None;
+    }
+    let [capability, security, area, uplink, sessions] = elements(octets, &rest[length..])?;
     let capability = capability.filter(|part| !part.is_empty());
     let security = security.filter(|part| part.len() >= 2)?;
     if capability.as_ref().is_some_and(|part| part.len() > 13) || security.len() > 8 {
         return None;
     }
-    Some(Request { ksi: fourth >> 4, identity: 6..6 + length, capability, security, area })
+    Some(Request {
+        regtype,
+        ksi,
+        identity: 6..6 + length,
+        capability,
+        security,
+        area,
+        uplink: uplink.and_then(statuses),
+        sessions: sessions.and_then(statuses),
+    })
 }

@@ -1,4 +1,4 @@
-// Scenarios worked out by hand from document 01: rustc --test docs/src/main.rs
+// Scenarios worked out by hand from document 01 and request R-5: rustc --test docs/src/main.rs
 
 use crate::log::{apply, Input, Next};
 use crate::message::{self, Message};
@@ -120,7 +120,7 @@ fn reply(a: usize, t3247: bool, started: Started) -> Reply {
     reply
 }
 
-type Started = Option<(usize, u16)>;
+type Started = Option<(usize, u32)>;
 type Case = (&'static [u8], usize, u8, Network, &'static str, bool, Started);
 
 const FAILED: &str = "3 5U1 a3 + eq1 c11 e[] r[] g[]";
@@ -542,6 +542,7 @@ fn accept_event() {
     let other = record.access[1];
     let mut expected = Reply::of(0);
     expected.timers[T3510] = Change::Stopped;
+    expected.timers[T3512] = Change::Started(3240);
     assert_eq!(record.message(0, 1, 3600, &octets), expected);
     let this = &record.access[0];
     assert_eq!((this.state, this.status, this.attempts, this.t3510), (5, 1, 0, false));
@@ -698,7 +699,7 @@ fn timers_of_a_record_handed_in() {
 fn timer_checks() {
     let mut record = limited(3);
     for (number, access, answer) in
-        [(0, 0, 1), (5, 0, 1), (1, 2, 1), (4, 1, 1), (4, 2, 1), (4, 0, 11)]
+        [(0, 0, 1), (6, 0, 1), (1, 2, 1), (4, 1, 1), (4, 2, 1), (4, 0, 11), (5, 1, 1), (5, 0, 11)]
     {
         assert_eq!(out(&mut record, number, access), Reply::of(answer));
     }
@@ -903,7 +904,13 @@ fn requests() {
     record.access[0].last = Some(area(AWAY));
     record.access[0].ksi = 7;
     assert_eq!(written(&record, 0)[17..], [0x2E, 0x02, 0xF0, 0xF0]);
+}
 
+#[test]
+fn longest_requests() {
+    let mut record = pending(0, AWAY);
+    record.access[1].guti = None;
+    record.access[0].ksi = 7;
     let mut suci = [7; 64];
     suci[0] = 1;
     record.suci = List::of(&suci);
@@ -912,8 +919,13 @@ fn requests() {
     record.security = List::of(&[6; 8]);
     assert_eq!(written(&record, 0).len(), 80);
     record.access[0].ksi = 0;
-    assert_eq!(written(&record, 0).len(), request::LONGEST);
-    assert_eq!(request::LONGEST, 102);
+    assert_eq!(written(&record, 0).len(), 102);
+    assert!(request::read(&written(&record, 0)).is_ok());
+    record.access[0].regtype = 2;
+    assert_eq!(written(&record, 0).len(), 106);
+    record.access[0].uplink = [0x00, 0x80];
+    assert_eq!(written(&record, 0).len(), 110);
+    assert_eq!(request::LONGEST, 110);
     assert!(request::read(&written(&record, 0)).is_ok());
 }
 
@@ -964,7 +976,7 @@ fn requests_read_back() {
     let suci = "00 09 01 00 F1 10 F0 FF 00 00 07";
     let security = "2E 02 F0 F0";
     assert!(with("71", suci, security).is_ok());
-    for fourth in ["72", "81", "F1", "70", "79"] {
+    for fourth in ["74", "81", "82", "F1", "F3", "70", "79", "7A"] {
         assert_eq!(with(fourth, suci, security), Err(3), "{fourth}");
     }
     assert!(with("01", suci, security).is_ok());
@@ -1081,6 +1093,9 @@ fn kinds_and_lengths() {
         (&[4, 0, 1], 1),
         (&[4, 0, 1, 0, 0], 1),
         (&[4, 0, 2, 0], 11),
+        (&[4, 0, 5, 0], 11),
+        (&[4, 0, 5, 1], 1),
+        (&[4, 0, 6, 0], 1),
         (&[6, 0, 0], 1),
         (&[6, 0, 0, 4, 0], 1),
         (&[6, 0, 0, 4], 0),
@@ -1101,6 +1116,7 @@ fn valid(record: &Record) {
     let limits = record.limits;
     assert!([limits.card, limits.ban, limits.n1].iter().all(|limit| (1..=10).contains(limit)));
     assert!(is_network(&record.home));
+    assert!(record.t3512_length <= 35_712_000);
     assert!(!record.card || (9..=64).contains(&record.suci.len()) && record.suci[0] == 1);
     for access in &record.access {
         assert!(access.state <= 6 && (access.state == 0 || record.card));
@@ -1108,6 +1124,8 @@ fn valid(record: &Record) {
         assert!(access.t3502_length <= 11160 && access.ksi <= 7);
         assert!(access.cards <= limits.card && is_network(&network_of(&access.pending)));
         assert!(!access.t3510 || access.state == 4);
+        assert!((1..=3).contains(&access.regtype));
+        assert!(access.uplink[0] & 1 == 0 && access.sessions[0] & 1 == 0);
         for (place, entry) in access.entries.iter().enumerate() {
             assert!(entry.ban <= limits.ban && entry.n1 <= limits.n1 && is_network(&entry.network));
             assert!(access.entries[..place].iter().all(|before| before.network != entry.network));
@@ -1120,43 +1138,732 @@ fn valid(record: &Record) {
     }
 }
 
-/// A refusal changes nothing and names no timer; every event keeps the record valid.
-#[test]
-fn events_at_random() {
-    let mut word: u64 = 1;
-    let mut below = |bound: u64| {
-        word = word.wrapping_mul(6364136223846793005).wrapping_add(1442695040888963407);
-        ((word >> 33) % bound) as u8
-    };
-    let causes = [3, 6, 7, 11, 12, 13, 15, 22, 27, 72, 73, 95];
-    let mut record = limited(2);
-    for _ in 0..200_000 {
-        let before = record;
-        let a = below(2);
-        let reply = match below(12) {
-            0..=4 => record.start(
-                a,
-                below(4) / 3,
-                [below(30) / 10 * 16, 0xF1, 0x10, 0, below(4), below(20)],
-            ),
-            5..=7 => {
-                let cause = causes[below(12) as usize];
-                record.message(a, below(2), 2000, &[0x7E, 0, 0x44, cause])
-            }
-            8 => record.message(a, 1, 2000, &[0x7E, 0, 0x42, 1, 1, 0x16, 1, below(256)]),
-            9 => record.timer(1 + below(3), a),
-            10 => record.key(a, below(8)),
-            _ => match below(40) {
+struct Draws(u64);
+
+impl Draws {
+    fn below(&mut self, bound: u64) -> u8 {
+        self.0 = self.0.wrapping_mul(6364136223846793005).wrapping_add(1442695040888963407);
+        ((self.0 >> 33) % bound) as u8
+    }
+
+    fn area(&mut self) -> Area {
+        let mut below = |bound| self.below(bound);
+        [below(30) / 10 * 16, 0xF1, 0x10, 0, below(4), below(20)]
+    }
+
+    /// Some to a listed area, few with session 0.
+    fn update(&mut self, record: &mut Record, a: u8) -> Reply {
+        let listed = record.roaming.first().filter(|_| self.below(4) == 0);
+        let area = listed.map_or_else(|| self.area(), |held| held.area);
+        let uplink = [self.below(128) << 1 | self.below(20) / 19, self.below(256)];
+        record.update(a, 2 + self.below(2), area, [uplink, [0, self.below(256)]])
+    }
+
+    fn message(&mut self, record: &mut Record, a: u8) -> Reply {
+        let causes = [3, 6, 7, 11, 12, 13, 15, 22, 27, 72, 73, 95];
+        if self.below(5) > 1 {
+            let reject = [0x7E, 0, 0x44, causes[self.below(12) as usize]];
+            return record.message(a, self.below(2), 2000, &reject);
+        }
+        let timer = [0x16, 0x5E][self.below(2) as usize];
+        record.message(a, 1, 2000, &[0x7E, 0, 0x42, 1, 1, timer, 1, self.below(256)])
+    }
+
+    fn event(&mut self, record: &mut Record) -> Reply {
+        let a = self.below(2);
+        match self.below(15) {
+            0..=4 => record.start(a, self.below(4) / 3, self.area()),
+            5..=9 => self.message(record, a),
+            10 => record.timer(1 + self.below(3), a),
+            11 => record.key(a, self.below(8)),
+            12 | 13 => self.update(record, a),
+            _ => match self.below(40) {
                 0 => record.card(HOME, &SUCI),
                 1..=4 => record.power(),
+                5..=20 => record.timer(5, 0),
                 _ => record.timer(4, 0),
             },
-        };
+        }
+    }
+}
+
+/// A refusal changes nothing and names no timer; every event keeps the record valid. T3512
+/// runs in state 5 of access 0 alone, since each event that leaves it stops T3512.
+#[test]
+fn events_at_random() {
+    let mut draws = Draws(1);
+    let mut record = limited(2);
+    let mut updates = [0; 2];
+    for _ in 0..200_000 {
+        let before = record;
+        let reply = draws.event(&mut record);
         valid(&record);
+        assert!(!record.t3512 || record.access[0].state == 5);
         if reply.answer != 0 {
-            assert_eq!(reply.timers, [Change::Left; 7]);
+            assert_eq!(reply.timers, [Change::Left; TIMERS]);
             assert_eq!(reply.leave.is_some(), reply.answer == 2);
             assert_eq!(text(&record), text(&before));
         }
+        for a in 0..2 {
+            if before.access[a].state == 5 && record.access[a].state == 4 {
+                updates[record.access[a].regtype as usize - 2] += 1;
+            }
+        }
     }
+    assert!(updates.iter().all(|&taken| taken > 100), "{updates:?}");
+}
+
+// Request R-5: updates and T3512.
+
+/// Differs from AWAY in the first octet alone.
+const NEAR: Network = [0x62, 0xF2, 0x20];
+const MOVED: [Sessions; 2] = [[0x20, 0x00], [0xA0, 0x01]];
+const BEGUN: Change = Change::Started(3240);
+
+fn update(record: &mut Record, a: u8, regtype: u8, network: Network) -> u8 {
+    record.update(a, regtype, area(network), MOVED).answer
+}
+
+/// A protected accept with elements.
+fn accept_with(record: &mut Record, a: u8, elements: &[u8]) -> Reply {
+    record.message(a, 1, 1800, &[&[0x7E, 0x00, 0x42, 0x01, 0x01], elements].concat())
+}
+
+fn states(record: &Record) -> (u8, u8) {
+    (record.access[0].state, record.access[1].state)
+}
+
+/// A card, and access `a` registered on `network`.
+fn registered(a: u8, network: Network) -> Record {
+    let mut record = limited(3);
+    register(&mut record, a, network);
+    record
+}
+
+fn register(record: &mut Record, a: u8, network: Network) {
+    assert_eq!(start(record, a, network), 0);
+    assert_eq!(accept(record, a), 0);
+}
+
+/// As `pending`, but with an update pending, not a start.
+fn updating(a: usize, network: Network) -> Record {
+    let mut record = pending(a, AWAY);
+    record.access[a].state = 5;
+    record.access[a].t3510 = false;
+    assert_eq!(update(&mut record, a as u8, 2, network), 0);
+    record
+}
+
+/// A reject takes the same rows; where a start falls to state 3, an update falls to 5.
+#[test]
+fn rows_of_rejects_in_an_update() {
+    for &(causes, a, protected, network, start, t3247, started) in ROWS {
+        let after = match started {
+            None => start,
+            RETRY => "5 5U2 a3 + eq1 c11 e[] r[] g[]",
+            _ => "5 5U2 a5 + eq0 c11 e[] r[] g[]",
+        };
+        for &cause in causes {
+            for regtype in [2, 3] {
+                let mut record = updating(a, network);
+                record.access[a].regtype = regtype;
+                record.due = regtype == 3;
+                let got = reject(&mut record, a as u8, protected, cause);
+                let what = format!("cause {cause} access {a} protected {protected} {network:?}");
+                assert_eq!(shown(&record, a), after, "{what}");
+                assert_eq!(got, reply(a, t3247, started), "{what}");
+                assert_eq!(record.access[a].pending, area(network));
+                assert_eq!((record.due, record.t3512), (regtype == 3, false));
+                assert_eq!([record.access[a].uplink, record.access[a].sessions], MOVED);
+                valid(&record);
+            }
+        }
+    }
+}
+
+/// All of a record for which checks 7, 8 and 9 hold of an update of access 0 to AWAY.
+fn thrice_refused() -> Record {
+    let mut record = registered(0, HOME);
+    assert_eq!(start(&mut record, 1, AWAY), 0);
+    let entry = Entry { network: AWAY, ban: 1, n1: 0, forbidden: true, n1_barred: false };
+    record.access[0].entries.push(entry);
+    record.roaming.push(Listed { area: area(AWAY), protected: false });
+    record
+}
+
+#[test]
+fn updates_are_checked_in_order() {
+    let mut record = thrice_refused();
+    let refused = |record: &mut Record, regtype: u8, answer: u8| {
+        let before = text(record);
+        assert_eq!(record.update(0, regtype, area(AWAY), MOVED), Reply::of(answer));
+        assert_eq!(text(record), before);
+    };
+    refused(&mut record, 3, 6);
+    refused(&mut record, 2, 7);
+    record.due = true;
+    refused(&mut record, 3, 7);
+    record.access[1].state = 5;
+    refused(&mut record, 3, 8);
+    record.access[0].entries[0].forbidden = false;
+    record.access[0].entries[0].n1_barred = true;
+    refused(&mut record, 2, 8);
+    record.access[0].entries.clear();
+    refused(&mut record, 2, 9);
+    std::mem::swap(&mut record.roaming, &mut record.regional);
+    refused(&mut record, 3, 9);
+    record.due = false;
+    refused(&mut record, 3, 6);
+    record.access[0].state = 4;
+    refused(&mut record, 2, 6);
+    record.regional.clear();
+    refused(&mut record, 2, 6);
+    record.access[0].state = 5;
+    assert_eq!(update(&mut record, 0, 2, AWAY), 0);
+}
+
+#[test]
+fn updates_of_access_1_are_checked_by_its_own_table() {
+    let mut record = registered(1, HOME);
+    let entry = Entry { network: NEAR, ban: 1, n1: 0, forbidden: true, n1_barred: false };
+    record.access[0].entries.push(entry);
+    record.regional.push(Listed { area: area(NEAR), protected: true });
+    let mut passed = record;
+    assert_eq!(update(&mut passed, 1, 2, NEAR), 0);
+    assert_eq!(start(&mut record, 0, AWAY), 0);
+    assert_eq!(update(&mut record, 1, 2, AWAY), 7);
+    record.access[1].entries.push(entry);
+    assert_eq!(update(&mut record, 1, 2, NEAR), 8);
+    assert_eq!(update(&mut record, 1, 2, HOME), 0);
+}
+
+#[test]
+fn updates_from_state_5_only() {
+    let mut bare = Record::new(Limits { card: 3, ban: 3, n1: 3 }, &[0], &[0xF0, 0xF0]);
+    assert_eq!(update(&mut bare, 0, 2, AWAY), 6);
+    for state in 0..=6 {
+        for a in 0..2 {
+            let mut record = limited(3);
+            record.access[1 - a].state = 5;
+            record.access[a].state = state;
+            let answer = if state == 5 { 0 } else { 6 };
+            assert_eq!(update(&mut record, a as u8, 2, AWAY), answer, "state {state}");
+        }
+    }
+}
+
+/// Of the range, before the state.
+#[test]
+fn ranges_of_updates() {
+    let mut bare = Record::new(Limits { card: 3, ban: 3, n1: 3 }, &[0], &[0xF0, 0xF0]);
+    let clear = [[0xFE, 0xFF]; 2];
+    assert_eq!(bare.update(0, 2, area(AWAY), clear), Reply::of(6));
+    assert_eq!(bare.update(0, 2, area(AWAY), [[1, 0], [0, 0]]), Reply::of(1));
+    let mut record = registered(0, AWAY);
+    record.due = true;
+    let mut bad = area(AWAY);
+    bad[2] = 0x2A;
+    for (access, regtype, place, statuses) in [
+        (2, 2, area(AWAY), clear),
+        (0, 0, area(AWAY), clear),
+        (0, 1, area(AWAY), clear),
+        (0, 4, area(AWAY), clear),
+        (0, 0x12, area(AWAY), clear),
+        (0, 2, bad, clear),
+        (0, 2, area(AWAY), [[0xFF, 0xFF], [0; 2]]),
+        (0, 3, area(AWAY), [[0; 2], [0x01, 0x00]]),
+    ] {
+        let before = text(&record);
+        assert_eq!(record.update(access, regtype, place, statuses), Reply::of(1));
+        assert_eq!(text(&record), before);
+    }
+    let mut first = [[0x00, 0x01]; 2];
+    assert_eq!(record.update(0, 3, area(AWAY), first).answer, 0);
+    register(&mut record, 1, NEAR);
+    first[0] = [0xFE, 0xFF];
+    assert_eq!(record.update(1, 2, area(NEAR), first).answer, 0);
+}
+
+/// A taken update sets state, pending registration and timers, and nothing else.
+#[test]
+fn an_update_taken() {
+    for a in 0..2 {
+        let mut record = pending(a, AWAY);
+        let this = &mut record.access[a];
+        (this.state, this.t3510, this.t3511, this.t3502) = (5, false, true, true);
+        (record.t3512, record.t3512_length, record.due) = (true, 77, true);
+        let mut after = record;
+        let mut place = area(NEAR);
+        place[3] = 9;
+        let this = &mut after.access[a];
+        (this.state, this.t3510, this.t3511, this.t3502) = (4, true, false, false);
+        (this.pending, this.regtype) = (place, if a == 0 { 3 } else { 2 });
+        [this.uplink, this.sessions] = MOVED;
+        after.t3512 = a == 1;
+        let mut expected = Reply::of(0);
+        expected.timers[T3510 + a] = Change::Started(15);
+        expected.timers[T3511 + a] = Change::Stopped;
+        expected.timers[T3502 + a] = Change::Stopped;
+        if a == 0 {
+            expected.timers[T3512] = Change::Stopped;
+        }
+        let regtype = after.access[a].regtype;
+        assert_eq!(record.update(a as u8, regtype, place, MOVED), expected);
+        assert_eq!(text(&record), text(&after));
+    }
+    let mut quiet = registered(0, AWAY);
+    quiet.t3512 = false;
+    let mut expected = Reply::of(0);
+    expected.timers[T3510] = Change::Started(15);
+    assert_eq!(quiet.update(0, 2, area(AWAY), MOVED), expected);
+}
+
+#[test]
+fn a_periodic_update_is_never_due_on_access_1() {
+    let mut record = registered(0, AWAY);
+    assert_eq!(out(&mut record, 5, 0).answer, 0);
+    register(&mut record, 1, NEAR);
+    assert!(record.due);
+    assert_eq!(update(&mut record, 1, 3, NEAR), 6);
+    assert_eq!(update(&mut record, 1, 2, NEAR), 0);
+}
+
+/// T3512 out: it stops, a periodic update is due, and no request is named.
+#[test]
+fn t3512_out() {
+    let mut record = registered(0, AWAY);
+    assert_eq!(update(&mut record, 0, 3, AWAY), 6);
+    let mut after = record;
+    (after.t3512, after.due) = (false, true);
+    let mut expected = Reply::of(0);
+    expected.timers[T3512] = Change::Stopped;
+    assert_eq!(out(&mut record, 5, 0), expected);
+    assert_eq!(text(&record), text(&after));
+    assert_eq!(out(&mut record, 5, 0), Reply::of(11));
+    assert_eq!(update(&mut record, 0, 3, AWAY), 0);
+}
+
+/// Due until the next accept on access 0: over failures, other updates and a power cycle.
+#[test]
+fn due() {
+    let mut record = registered(0, AWAY);
+    out(&mut record, 5, 0);
+    assert_eq!(update(&mut record, 0, 3, AWAY), 0);
+    assert_eq!(out(&mut record, 1, 0).answer, 0);
+    assert_eq!((record.due, record.t3512), (true, false));
+    assert_eq!(update(&mut record, 0, 3, AWAY), 0);
+    assert_eq!(record.power().answer, 0);
+    assert!(record.due);
+    assert_eq!(start(&mut record, 0, AWAY), 0);
+    assert!(record.due);
+    register(&mut record, 1, NEAR);
+    assert_eq!(update(&mut record, 1, 2, NEAR), 0);
+    assert_eq!(accept(&mut record, 1), 0);
+    assert!(record.due);
+    assert_eq!(accept(&mut record, 0), 0);
+    assert!(!record.due);
+    assert_eq!(update(&mut record, 0, 3, AWAY), 6);
+
+    out(&mut record, 5, 0);
+    assert_eq!(update(&mut record, 0, 2, AWAY), 0);
+    assert!(record.due);
+    assert_eq!(accept(&mut record, 0), 0);
+    assert_eq!(update(&mut record, 0, 3, AWAY), 6);
+    out(&mut record, 5, 0);
+    assert_eq!(record.card(HOME, &SUCI).answer, 0);
+    assert!(!record.due);
+}
+
+/// T3510 out in an update: 5U2 below 5 too, the identity stays, T3512 stays stopped.
+#[test]
+fn attempts_of_an_update() {
+    for a in 0..2 {
+        let mut record = updating(a, NEAR);
+        for attempts in 3..5 {
+            assert_eq!(out(&mut record, 1, a as u8), reply(a, false, RETRY));
+            let after = format!("5 5U2 a{attempts} + eq1 c11 e[] r[] g[]");
+            assert_eq!(shown(&record, a), after);
+            assert!(!record.t3512 && record.access[a].t3511);
+            record.access[a].status = 1;
+            assert_eq!(update(&mut record, a as u8, 2, NEAR), 0);
+            assert_eq!((record.access[a].t3511, record.access[a].attempts), (false, attempts));
+        }
+        for _ in 0..2 {
+            assert_eq!(out(&mut record, 1, a as u8), reply(a, false, LATER));
+            assert_eq!(shown(&record, a), "5 5U2 a5 + eq0 c11 e[] r[] g[]");
+            assert_eq!(update(&mut record, a as u8, 2, NEAR), 0);
+            assert!(!record.access[a].t3502);
+        }
+        assert_eq!(out(&mut record, 1, a as u8).answer, 0);
+        let mut expected = Reply::of(0);
+        expected.timers[T3502 + a] = Change::Stopped;
+        expected.restart = Some(a as u8);
+        assert_eq!(out(&mut record, 3, a as u8), expected);
+        assert_eq!((record.access[a].state, record.access[a].attempts), (5, 0));
+    }
+}
+
+#[test]
+fn a_retry_of_an_update_is_asked_for_in_state_5() {
+    let mut record = registered(0, AWAY);
+    assert_eq!(update(&mut record, 0, 2, AWAY), 0);
+    assert_eq!(out(&mut record, 1, 0).timers[T3511], Change::Started(10));
+    assert_eq!(states(&record), (5, 1));
+    assert_eq!(out(&mut record, 2, 0).restart, Some(0));
+    assert_eq!((record.access[0].state, record.access[0].attempts), (5, 1));
+    assert_eq!(update(&mut record, 0, 2, AWAY), 0);
+    assert_eq!(reject(&mut record, 0, 0, 111).timers[T3502], Change::Started(720));
+    assert_eq!(states(&record), (5, 1));
+    assert_eq!(out(&mut record, 3, 0).restart, Some(0));
+}
+
+/// The T3247 rule holds for a pair that has no row of its own.
+#[test]
+fn a_failed_update_may_start_t3247() {
+    let mut record = registered(1, AWAY);
+    assert_eq!(update(&mut record, 1, 2, AWAY), 0);
+    assert_eq!(reject(&mut record, 1, 0, 12), reply(1, true, RETRY));
+    assert_eq!(states(&record), (1, 5));
+}
+
+/// A start after an update is a start: its failure falls to state 3, and 40 and 50 are gone.
+#[test]
+fn a_start_sets_the_type() {
+    let mut record = registered(0, AWAY);
+    assert_eq!(update(&mut record, 0, 2, NEAR), 0);
+    assert_eq!(reject(&mut record, 0, 0, 11).answer, 0);
+    assert_eq!(states(&record), (6, 1));
+    assert_eq!(record.access[0].regtype, 2);
+    assert_eq!(start(&mut record, 0, AWAY), 0);
+    let this = &record.access[0];
+    assert_eq!((this.regtype, this.uplink, this.sessions), (1, [0; 2], [0; 2]));
+    assert_eq!(out(&mut record, 1, 0).answer, 0);
+    assert_eq!(states(&record), (3, 1));
+}
+
+/// The type of an update means nothing outside state 4.
+#[test]
+fn an_update_ended_by_power_does_not_count_as_registered() {
+    let mut record = registered(0, AWAY);
+    assert_eq!(update(&mut record, 0, 2, AWAY), 0);
+    assert_eq!(record.power().answer, 0);
+    let this = &record.access[0];
+    assert_eq!((this.state, this.regtype), (1, 2));
+    assert_eq!([this.uplink, this.sessions], MOVED);
+    assert_eq!(start(&mut record, 1, AWAY), 0);
+    assert_eq!(reject(&mut record, 1, 0, 3).answer, 0);
+    assert_eq!(states(&record), (1, 2));
+}
+
+#[test]
+fn a_pending_update_counts_as_registered() {
+    for cause in [3, 6, 7] {
+        let mut record = registered(0, AWAY);
+        register(&mut record, 1, NEAR);
+        assert_eq!(update(&mut record, 0, 2, AWAY), 0);
+        assert_eq!(update(&mut record, 1, 2, AWAY), 7);
+        assert_eq!(update(&mut record, 1, 2, NEAR), 0);
+        for a in 0..2 {
+            let mut asks = Reply::of(2);
+            asks.leave = Some(a);
+            asks.update = Some(1 - a);
+            let before = text(&record);
+            assert_eq!(reject(&mut record, a, 0, cause), asks);
+            assert_eq!(text(&record), before);
+        }
+        assert_eq!(reject(&mut record, 0, 1, cause).answer, 0);
+        assert_eq!(states(&record), (0, 4));
+        assert_eq!(reject(&mut record, 1, 0, cause).answer, 0);
+    }
+    let mut record = registered(0, AWAY);
+    out(&mut record, 5, 0);
+    assert_eq!(update(&mut record, 0, 3, AWAY), 0);
+    assert_eq!(start(&mut record, 1, AWAY), 7);
+    assert_eq!(start(&mut record, 1, NEAR), 0);
+    assert_eq!(reject(&mut record, 1, 0, 3).answer, 2);
+    assert_eq!(reject(&mut record, 0, 0, 3).answer, 0);
+    assert_eq!(states(&record), (2, 4));
+}
+
+/// The rule asks of the other access: an update's own reject counts.
+#[test]
+fn a_reject_of_an_update_counts() {
+    let mut record = registered(0, AWAY);
+    assert_eq!(update(&mut record, 0, 2, AWAY), 0);
+    assert_eq!(reject(&mut record, 0, 0, 3), reply(0, true, None));
+    assert_eq!(states(&record), (2, 1));
+    assert_eq!((record.access[0].cards, record.roaming.len()), (1, 1));
+    assert!(!record.t3512);
+}
+
+#[test]
+fn an_accept_of_an_update() {
+    let mut record = updating(0, NEAR);
+    record.due = true;
+    let mut expected = Reply::of(0);
+    expected.timers[T3510] = Change::Stopped;
+    expected.timers[T3512] = BEGUN;
+    assert_eq!(accept_with(&mut record, 0, &[]), expected);
+    let this = &record.access[0];
+    assert_eq!((this.state, this.status, this.attempts), (5, 1, 0));
+    assert_eq!((this.guti, this.last), (Some(GUTI), Some(area(NEAR))));
+    assert_eq!((record.t3512, record.due), (true, false));
+    assert_eq!(update(&mut record, 0, 2, NEAR), 0);
+    let away = accept_with(&mut record, 0, &[0x5E, 0x01, 0xDF]);
+    assert_eq!(away.timers[T3512], Change::Started(35_712_000));
+    valid(&record);
+}
+
+/// Neither an accept nor an update of access 1 touches T3512, its time or what is due.
+#[test]
+fn access_1_has_no_t3512() {
+    let mut record = limited(3);
+    assert_eq!(start(&mut record, 1, AWAY), 0);
+    let reply = accept_with(&mut record, 1, &[0x5E, 0x01, 0x21]);
+    assert_eq!((reply.answer, reply.timers[T3512]), (0, Change::Left));
+    assert_eq!((record.t3512, record.t3512_length), (false, 3240));
+    assert_eq!(start(&mut record, 0, NEAR), 0);
+    assert_eq!(accept_with(&mut record, 0, &[]).timers[T3512], BEGUN);
+    let update = record.update(1, 2, area(AWAY), MOVED);
+    assert_eq!((update.answer, update.timers[T3512]), (0, Change::Left));
+    assert!(record.t3512);
+}
+
+/// The time given is kept, zero and deactivated as 0: then nothing starts until one is given.
+#[test]
+fn the_time_of_t3512_is_kept() {
+    for none in [0x00, 0x20, 0xC0, 0xE0, 0xE5, 0xFF] {
+        let mut record = limited(3);
+        assert_eq!(start(&mut record, 0, AWAY), 0);
+        let given: [(&[u8], u32); 6] = [
+            (&[], 3240),
+            (&[0x5E, 0x01, 0x21], 3600),
+            (&[0x5E, 0x00, 0x5E, 0x01, 0x22], 3600),
+            (&[0x5E, 0x01, none], 0),
+            (&[], 0),
+            (&[0x16, 0x01, 0x3F, 0x5E, 0x01, 0x61], 2),
+        ];
+        for (elements, length) in given {
+            let reply = accept_with(&mut record, 0, elements);
+            let begun = if length > 0 { Change::Started(length) } else { Change::Left };
+            assert_eq!((reply.answer, reply.timers[T3512]), (0, begun), "{elements:?}");
+            assert_eq!((record.t3512, record.t3512_length), (length > 0, length));
+            assert_eq!(update(&mut record, 0, 2, AWAY), 0);
+            assert!(!record.t3512);
+        }
+    }
+}
+
+/// A power cycle stops T3512 and keeps its time; a card change stops it and forgets.
+#[test]
+fn power_and_card_stop_t3512() {
+    let mut record = limited(3);
+    assert_eq!(start(&mut record, 0, AWAY), 0);
+    assert_eq!(accept_with(&mut record, 0, &[0x5E, 0x01, 0x21]).answer, 0);
+    let mut expected = Reply::of(0);
+    expected.timers[T3512] = Change::Stopped;
+    let mut other = record;
+    assert_eq!(record.power(), expected);
+    assert_eq!((record.t3512, record.t3512_length), (false, 3600));
+    assert_eq!(start(&mut record, 0, AWAY), 0);
+    assert_eq!(accept_with(&mut record, 0, &[]).timers[T3512], Change::Started(3600));
+
+    other.due = true;
+    assert_eq!(update(&mut other, 0, 2, NEAR), 0);
+    other.t3512 = true;
+    assert_eq!(other.card(HOME, &SUCI).timers[T3512], Change::Stopped);
+    assert_eq!(text(&other), text(&limited(3)));
+}
+
+/// Of records handed in: a start leaves a running T3512, and an accept that gives zero does
+/// not start it, which is not to stop it.
+#[test]
+fn a_running_t3512_of_a_record_handed_in() {
+    let mut record = limited(3);
+    (record.t3512, record.due) = (true, true);
+    assert_eq!(record.start(0, 0, area(AWAY)).timers[T3512], Change::Left);
+    let mut again = record;
+    assert_eq!(accept_with(&mut again, 0, &[]).timers[T3512], BEGUN);
+    assert_eq!(accept_with(&mut record, 0, &[0x5E, 0x01, 0xE0]).timers[T3512], Change::Left);
+    assert_eq!((record.t3512, record.t3512_length, record.due), (true, 0, false));
+}
+
+/// Each unit of GPRS timer 3 with 0, 1 and 31.
+#[test]
+fn long_timer_octets() {
+    for (top, unit) in [600, 3600, 36_000, 2, 30, 60, 1_152_000].into_iter().enumerate() {
+        for count in [0, 1, 31] {
+            let octet = (top as u8) << 5 | count;
+            assert_eq!(message::long_seconds(octet), Some(unit * count as u32), "{octet:02X}");
+        }
+    }
+    for octet in 0xE0..=0xFF {
+        assert_eq!(message::long_seconds(octet), None);
+    }
+    assert_eq!(message::long_seconds(0x2A), Some(36_000));
+    assert_eq!(message::long_seconds(0x49), Some(324_000));
+    assert_eq!(message::long_seconds(0x9F), Some(930));
+    assert_eq!(message::long_seconds(0xDF), Some(35_712_000));
+}
+
+/// What an accept with these elements gives for T3512.
+fn given(elements: &[u8]) -> Option<u32> {
+    match message::read(&[&[0x7E, 0x00, 0x42, 0x01, 0x01], elements].concat()) {
+        Some(Message::Accept(accept)) => accept.t3512,
+        _ => panic!("an accept"),
+    }
+}
+
+#[test]
+fn t3512_in_accepts() {
+    for (elements, seconds) in [
+        (&[][..], None),
+        (&[0x5E, 0x01, 0x21], Some(3600)),
+        (&[0x5E, 0x01, 0x00], Some(0)),
+        (&[0x5E, 0x01, 0xE1], Some(0)),
+        (&[0x5E, 0x00], None),
+        (&[0x5E, 0x03, 0x61, 0x21, 0x21], Some(2)),
+        (&[0x5E, 0x00, 0x5E, 0x01, 0x21], None),
+        (&[0x5E, 0x01, 0xE1, 0x5E, 0x01, 0x21], Some(0)),
+        (&[0x5E, 0x01, 0x22, 0x5E, 0x01, 0x21], Some(7200)),
+        (&[0x16, 0x01, 0x21], None),
+        (&[0x9E, 0x16, 0x01, 0x21, 0x5E, 0x01, 0x81, 0x4A, 0x00], Some(30)),
+    ] {
+        assert_eq!(given(elements), seconds, "{elements:02X?}");
+    }
+    let mut record = pending(0, AWAY);
+    let cut = [0x7E, 0x00, 0x42, 0x01, 0x01, 0x5E, 0x02, 0x21];
+    assert_eq!(record.message(0, 1, 1800, &cut), Reply::of(3));
+}
+
+/// Requests of all types: 40 and 50 stand beside 10 and after 52, in updates alone.
+#[test]
+fn requests_of_updates() {
+    let mut record = limited(3);
+    register(&mut record, 0, AWAY);
+    record.due = true;
+    record.access[0].guti = Some(GUTI);
+    record.update(0, 3, area(NEAR), [[0x20, 0x00]; 2]);
+    let identity = "00 0B F2 00 F1 10 80 01 C5 D1 C2 B3 A4";
+    let with = |fourth: &str, rest: &str| octets(&format!("7E 00 41 {fourth} {identity} {rest}"));
+    assert_eq!(written(&record, 0), with("73", "2E 02 F0 F0"));
+    assert_eq!(record.key(0, 3).answer, 0);
+    let first = "10 01 00 2E 02 F0 F0";
+    let last = "52 00 F2 20 00 00 2A";
+    let both = "40 02 20 00 50 02 20 00";
+    assert_eq!(written(&record, 0), with("33", &format!("{first} {last} {both}")));
+    record.access[0].regtype = 2;
+    assert_eq!(written(&record, 0), with("32", &format!("{first} {last} {both}")));
+    record.access[0].last = None;
+    assert_eq!(written(&record, 0), with("32", &format!("{first} {both}")));
+    record.access[0].last = Some(area(AWAY));
+    for (uplink, sessions, rest) in [
+        ([0x00, 0x00], [0x00, 0x00], "50 02 00 00"),
+        ([0x00, 0x00], [0x80, 0x01], "50 02 80 01"),
+        ([0x00, 0x80], [0x00, 0x00], "40 02 00 80 50 02 00 00"),
+        ([0x02, 0x00], [0xFE, 0xFF], "40 02 02 00 50 02 FE FF"),
+    ] {
+        (record.access[0].uplink, record.access[0].sessions) = (uplink, sessions);
+        assert_eq!(written(&record, 0), with("32", &format!("{first} {last} {rest}")));
+    }
+    record.access[0].regtype = 1;
+    assert_eq!(written(&record, 0), with("31", &format!("{first} {last}")));
+    record.access[0].regtype = 2;
+    record.access[0].ksi = 7;
+    assert_eq!(written(&record, 0), with("72", "2E 02 F0 F0"));
+}
+
+/// What is written reads back to the record's own words.
+#[test]
+fn requests_of_updates_read_back() {
+    let mut record = updating(1, AWAY);
+    for ksi in [0, 6, 7] {
+        for (regtype, uplink) in [(2, [0x20, 0x01]), (3, [0x02, 0x00]), (2, [0; 2])] {
+            let this = &mut record.access[1];
+            (this.ksi, this.regtype, this.uplink) = (ksi, regtype, uplink);
+            let octets = written(&record, 1);
+            let read = request::read(&octets).unwrap();
+            let part = |part: Option<std::ops::Range<usize>>| part.map(|part| &octets[part]);
+            assert_eq!((read.regtype, read.ksi), (regtype, ksi));
+            let hidden = ksi == 7;
+            let sent = (!hidden && uplink != [0; 2]).then_some(&uplink[..]);
+            assert_eq!(part(read.uplink), sent);
+            assert_eq!(part(read.sessions), (!hidden).then_some(&MOVED[1][..]));
+            assert_eq!(part(read.area), (!hidden).then_some(&OLD[..]));
+        }
+    }
+}
+
+#[test]
+fn statuses_read_back() {
+    let head = "00 09 01 00 F1 10 F0 FF 00 00 07 2E 02 F0 F0";
+    for fourth in ["71", "72", "73", "01", "02", "03", "61", "62", "63"] {
+        for (rest, uplink, sessions) in [
+            ("", None, None),
+            ("40 02 20 00 50 02 A0 01", Some(21..23), Some(25..27)),
+            ("50 02 A0 01 40 02 20 00", Some(25..27), Some(21..23)),
+            ("50 04 20 00 00 00", None, Some(21..23)),
+            ("40 01 20 50 00", None, None),
+            ("40 00 40 02 20 00", None, None),
+            ("50 01 20 50 02 20 00", None, None),
+            ("50 02 20 00 50 02 40 00", None, Some(21..23)),
+            ("9F 40 05 02 03 04 05 06", Some(22..24), None),
+            ("40 02 01 00 50 02 FF FF", Some(21..23), Some(25..27)),
+            ("40 02 00 00", Some(21..23), None),
+        ] {
+            let read = request::read(&octets(&format!("7E 00 41 {fourth} {head} {rest}"))).unwrap();
+            let fourth = u8::from_str_radix(fourth, 16).unwrap();
+            assert_eq!((read.regtype, read.ksi), (fourth & 15, fourth >> 4));
+            assert_eq!((read.uplink, read.sessions), (uplink, sessions), "{rest}");
+            assert_eq!((read.security, read.capability, read.area), (17..19, None, None));
+        }
+    }
+    let cut = format!("7E 00 41 72 {head} 40 02 20");
+    assert_eq!(request::read(&octets(&cut)), Err(3));
+}
+
+/// Kind 7 of the log: 12 octets of body, in this order.
+#[test]
+fn updates_in_logs() {
+    let mut record = registered(0, AWAY);
+    let body = octets("07 00 00 02 62 F2 20 01 02 03 20 40 80 08 00");
+    for length in (2..14).chain([15]) {
+        assert_eq!(apply(&mut record, &body[..length]), Reply::of(1));
+    }
+    assert_eq!(apply(&mut record, &octets("07 01 00 02 62 F2 20 01 02 03 20 40 80 08")).answer, 1);
+    assert_eq!(apply(&mut record, &octets("07 00 00 03 62 F2 20 01 02 03 20 40 80 08")).answer, 6);
+    assert_eq!(apply(&mut record, &octets("04 00 05 01")).answer, 1);
+    assert_eq!(apply(&mut record, &octets("04 00 05 00")).answer, 0);
+    assert_eq!(apply(&mut record, &octets("04 00 05 00")).answer, 11);
+    let mut periodic = record;
+    let taken = octets("07 00 00 03 62 F2 20 01 02 03 20 40 80 08");
+    assert_eq!(apply(&mut periodic, &taken).answer, 0);
+    assert_eq!(periodic.access[0].regtype, 3);
+    assert_eq!(apply(&mut record, &body[..14]).answer, 0);
+    let this = &record.access[0];
+    assert_eq!((this.regtype, this.pending), (2, [0x62, 0xF2, 0x20, 1, 2, 3]));
+    assert_eq!((this.uplink, this.sessions), ([0x20, 0x40], [0x80, 0x08]));
+}
+
+/// The line of `--full`, which another program prints too.
+#[test]
+fn full_line() {
+    let mut record = registered(0, AWAY);
+    accept_with(&mut record, 0, &[]);
+    let reply = record.update(0, 2, area(NEAR), MOVED);
+    let mut line = String::new();
+    crate::full::reply(&mut line, &reply);
+    crate::full::record(&mut line, &record);
+    let parts = [
+        "= 0 T3510 started:15 left T3511 left left T3502 left left T3247 left T3512 stopped \
+         restart - leave - update -",
+        "card 1 home 00f110 suci 0100f110f0ff000007 limits 3 3 3 cap 00 sec f0f0 T3247 0 T3512 0 \
+         length 3240 due 0 roaming - regional -",
+        "0 state 4 status 1 attempts 0 T3510 1 T3511 0 T3502 0 length 720 pending 62f22000002a \
+         type 2 uplink 2000 sessions a001 guti - last 00f22000002a ksi 7 equivalents - cards 0 \
+         entries -",
+        "1 state 1 status 2 attempts 0 T3510 0 T3511 0 T3502 0 length 720 pending 000000000000 \
+         type 1 uplink 0000 sessions 0000 guti - last - ksi 7 equivalents - cards 0 entries -",
+    ];
+    assert_eq!(line, parts.join(" | "));
 }

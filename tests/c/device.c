@@ -1,14 +1,22 @@
 /*
  * A device and a false cell. The cell rejects three registrations with cause 11 and no protection; the device waits for T3247 each time and tries again,
- * until the ban counter is at its limit and it stays quiet. It writes what it was told to a log, from which the lab's program replays the same states.
+ * until the ban counter is at its limit and it stays quiet. Then its home network takes it, and it moves: a mobility update in the next area, and a periodic one
+ * once T3512 has run out. It writes what it was told to a log, from which the lab's program replays the same states.
  * Usage: device LOG; the states go to standard output as the lab's program prints them.
  */
 #include <stdio.h>
 #include <string.h>
 #include "tjernfaug.h"
 
-enum { CARD = 1, START, MESSAGE, TIMER };
+enum { CARD = 1, START, MESSAGE, TIMER, KEY = 6, UPDATE };
+enum { T3247 = 4, T3512 };
+enum { MOBILITY = 2, PERIODIC };
 enum { TAKEN = 0, RANGE = 1, STATE = 6, LISTED = 8, SHORT = 12, REFUSED = 256 };
+
+/* Areas: a network's three octets and an area code's. */
+static const uint8_t away[] = {0x00, 0xF2, 0x20, 0x00, 0x00, 0x2A};
+static const uint8_t home[] = {0x00, 0xF1, 0x10, 0x00, 0x00, 0x2A};
+static const uint8_t next[] = {0x00, 0xF1, 0x10, 0x00, 0x00, 0x2B};
 
 struct device {
     struct tjernfaug_record record;
@@ -36,10 +44,19 @@ static uint32_t card(struct device *d)
     return hand(d, CARD, body, sizeof body);
 }
 
-static uint32_t start(struct device *d)
+static uint32_t start(struct device *d, const uint8_t *area)
 {
-    static const uint8_t body[] = {0x00, 0x00, 0x00, 0xF2, 0x20, 0x00, 0x00, 0x2A};
+    uint8_t body[8] = {0x00, 0x00};
+    memcpy(body + 2, area, 6);
     return hand(d, START, body, sizeof body);
+}
+
+/* Session 5 stands, and has data to send. */
+static uint32_t update(struct device *d, uint8_t type, const uint8_t *area)
+{
+    uint8_t body[12] = {0x00, type, [8] = 0x20, 0x00, 0x20, 0x00};
+    memcpy(body + 2, area, 6);
+    return hand(d, UPDATE, body, sizeof body);
 }
 
 /* The request that the device sends, with ngKSI 7 and the card's SUCI; what lies behind it stays, and in too short a buffer all of it. */
@@ -47,7 +64,7 @@ static int request(const struct device *d)
 {
     static const uint8_t octets[] = {0x7E, 0x00, 0x41, 0x71, 0x00, 0x09, 0x01, 0x00, 0xF1, 0x10,
                                      0xF0, 0xFF, 0x00, 0x00, 0x07, 0x2E, 0x02, 0xF0, 0xF0};
-    uint8_t sent[102], kept[102];
+    uint8_t sent[110], kept[110];
     memset(sent, 0xA5, sizeof sent);
     memset(kept, 0xA5, sizeof kept);
     int right = tjernfaug_request(&d->record, 0, sent, sizeof octets - 1) == REFUSED + SHORT;
@@ -66,32 +83,78 @@ static uint32_t reject(struct device *d)
     return hand(d, MESSAGE, body, sizeof body);
 }
 
-/* The clock goes on by what T3247 was started for; then the event is handed over. */
-static uint32_t wait(struct device *d)
+/* The clock goes on by what the timer was started for; then the event is handed over. */
+static uint32_t wait(struct device *d, uint8_t timer, uint32_t seconds)
 {
-    static const uint8_t body[] = {0x04, 0x00};
-    d->now += d->notice.t3247.seconds;
+    const uint8_t body[] = {timer, 0x00};
+    d->now += seconds;
     return hand(d, TIMER, body, sizeof body);
+}
+
+static uint32_t key(struct device *d)
+{
+    static const uint8_t body[] = {0x00, 0x00};
+    return hand(d, KEY, body, sizeof body);
+}
+
+/* Protected, and T3512 is an hour (5E 01 21); the accept of an update leaves it out, and the hour is kept. */
+static uint32_t accept(struct device *d, int whole)
+{
+    static const uint8_t body[] = {0x00, 0x01, 0x08, 0x07, 0x7E, 0x00, 0x42, 0x01, 0x01, 0x5E, 0x01, 0x21};
+    return hand(d, MESSAGE, body, whole ? sizeof body : sizeof body - 3);
+}
+
+/* The false cell, until the device is quiet. */
+static int quiet(struct device *d)
+{
+    int wrong = card(d) != TAKEN;
+    unsigned rejects = 0;
+    while (start(d, away) == TAKEN && rejects < 10) {
+        wrong |= d->notice.c0.t3510.told != 2 || d->notice.c0.t3510.seconds != 15 || !request(d);
+        wrong |= reject(d) != TAKEN || d->notice.t3247.told != 2 || d->notice.c0.t3510.told != 1;
+        rejects++;
+        wrong |= wait(d, T3247, d->notice.t3247.seconds) != TAKEN || d->notice.t3247.told != 1;
+    }
+    wrong |= rejects != 3 || d->now != 5400 || start(d, away) != LISTED;
+    wrong |= d->record.e0.bans[0] != 3 || d->record.e0.forbidden[0] != 1 || d->record.hot.dev.t3247 != 0;
+    fprintf(stderr, "device: %u rejects, quiet after %lu s\n", rejects, d->now);
+    return wrong;
+}
+
+/* An update and its accept. The request has the type beside ngKSI 0, and ends with the last area, the uplink data status and the session status. */
+static int moved(struct device *d, uint8_t type, const uint8_t *from, const uint8_t *to)
+{
+    uint8_t tail[] = {0x52, 0, 0, 0, 0, 0, 0, 0x40, 0x02, 0x20, 0x00, 0x50, 0x02, 0x20, 0x00};
+    uint8_t sent[110];
+    memcpy(tail + 1, from, 6);
+    int right = update(d, type, to) == TAKEN && d->notice.c0.t3510.told == 2;
+    uint32_t len = tjernfaug_request(&d->record, 0, sent, sizeof sent);
+    right &= len == 37 && sent[3] == type && memcmp(sent + len - sizeof tail, tail, sizeof tail) == 0;
+    return right && accept(d, 0) == TAKEN && d->notice.t3512.told == 2 && d->notice.t3512.seconds == 3600;
+}
+
+/* At home: registered, moved to the next area, and an update when T3512 has run out, not before. */
+static int moves(struct device *d)
+{
+    int wrong = start(d, home) != TAKEN || key(d) != TAKEN || accept(d, 1) != TAKEN || d->notice.t3512.seconds != 3600;
+    wrong |= update(d, PERIODIC, home) != STATE || !moved(d, MOBILITY, home, next);
+    wrong |= wait(d, T3512, d->notice.t3512.seconds) != TAKEN || d->record.hot.dev.due != 1;
+    wrong |= !moved(d, PERIODIC, next, next) || d->record.hot.dev.due != 0 || d->now != 9000;
+    fprintf(stderr, "device: moved, and updated after %lu s\n", d->now);
+    return wrong;
 }
 
 int main(int argc, char **argv)
 {
     static struct device d;
     static const uint8_t capability[] = {0x00}, security[] = {0xF0, 0xF0};
-    unsigned rejects = 0;
     if (argc != 2 || !(d.log = fopen(argv[1], "wb")))
         return 2;
     int wrong = tjernfaug_new(&d.record, 3, 3, 3, capability, sizeof capability, security, sizeof security) != TAKEN;
-    wrong |= card(&d) != TAKEN;
-    while (start(&d) == TAKEN && rejects < 10) {
-        wrong |= d.notice.c0.t3510.told != 2 || d.notice.c0.t3510.seconds != 15 || !request(&d);
-        wrong |= reject(&d) != TAKEN || d.notice.t3247.told != 2 || d.notice.c0.t3510.told != 1;
-        rejects++;
-        wrong |= wait(&d) != TAKEN || d.notice.t3247.told != 1;
-    }
-    wrong |= rejects != 3 || d.now != 5400 || start(&d) != LISTED;
-    wrong |= d.record.e0.bans[0] != 3 || d.record.e0.forbidden[0] != 1 || d.record.hot.dev.t3247 != 0;
+    wrong |= quiet(&d);
+    wrong |= moves(&d);
     wrong |= fclose(d.log) != 0;
-    fprintf(stderr, "device: %u rejects, quiet after %lu s%s\n", rejects, d.now, wrong ? ", and that is wrong" : "");
+    if (wrong)
+        fprintf(stderr, "device: that is wrong\n");
     return wrong;
 }

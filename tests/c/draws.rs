@@ -6,7 +6,9 @@ const BODY: u32 = 96;
 const BUFFER: u32 = 120;
 /// The first differs from each of the next three in one octet alone.
 const NETS: [[u8; 3]; 6] = [[0x00, 0xF1, 0x10], [0x10, 0xF1, 0x10], [0x00, 0x11, 0x10], [0x00, 0xF1, 0x20], [0x12, 0x34, 0x56], [0x99, 0x99, 0x99]];
-const CAUSES: [u8; 13] = [3, 6, 7, 11, 12, 13, 15, 22, 27, 72, 73, 95, 111];
+const CAUSES: [u8; 16] = [3, 6, 7, 11, 12, 13, 15, 22, 27, 72, 73, 95, 96, 97, 99, 111];
+/// T3512's longest time.
+const MOST: u32 = 35_712_000;
 
 /// A call and all that is lent to it.
 pub struct Ask {
@@ -58,6 +60,11 @@ impl Draw {
 
     fn net(&mut self) -> u32 {
         number(NETS[self.below(6) as usize])
+    }
+
+    /// A status of no session, of sessions in either octet alone, or of any; session 0 is clear.
+    fn sessions(&mut self) -> u16 {
+        [0, 0x00FE, 0xFF00, 0xFFFE][self.below(4) as usize] & self.next() as u16
     }
 
     fn ask(&mut self, call: u8, record: CRecord) -> Ask {
@@ -114,33 +121,70 @@ fn card(last: u8) -> Vec<u8> {
     vec![0x00, 0xF1, 0x10, 0x01, 0x00, 0xF1, 0x10, 0xF0, 0xFF, 0x00, 0x00, last]
 }
 
+/// A message with an accept, mostly protected: an equivalent network, T3502, often a GUTI and T3512.
+fn accept(d: &mut Draw, access: u8, [n1, n2, n3]: [u8; 3]) -> Vec<u8> {
+    let (any, long) = (d.octet(256), d.octet(256));
+    let head = [access, (d.below(8) > 0) as u8, 0x08, 0x07, 0x7E, 0x00, 0x42, 0x01, 0x01, 0x4A, 0x03, n1, n2, n3, 0x16, 0x01, any];
+    let guti = [0x77, 0x00, 0x0B, 0xF2, n1, n2, n3, 1, 2, 3, 4, 5, 6, any];
+    let t3512 = match d.below(5) {
+        0 => vec![],
+        1 => vec![0x5E, 0x00, 0x5E, 0x01, long],
+        2 => vec![0x5E, 0x01, long, 0x5E, 0x01, any],
+        3 => vec![0x5E, 0x02, long, any],
+        _ => vec![0x5E, 0x01, long],
+    };
+    [&head[..], &guti[..guti.len() * d.below(2) as usize], &t3512].concat()
+}
+
+/// An update, mostly of one of the two types and with session 0 clear.
+fn update(d: &mut Draw, access: u8, [n1, n2, n3]: [u8; 3]) -> Vec<u8> {
+    let regtype = if d.below(8) == 0 { d.octet(5) } else { 2 + d.octet(2) };
+    let [[u1, u2], [s1, s2]] = [0; 2].map(|_| (d.sessions() | (d.below(16) == 0) as u16).to_le_bytes());
+    vec![access, regtype, n1, n2, n3, 0x00, 0x00, d.octet(16), u1, u2, s1, s2]
+}
+
 /// An event that is often right: its kind, and the octets that matter from small sets.
 fn event(d: &mut Draw) -> (u32, Vec<u8>) {
-    let [n1, n2, n3] = NETS[d.below(6) as usize];
-    let (access, sure, any, cause) = (d.octet(2), d.octet(2), d.octet(256), CAUSES[d.below(13) as usize]);
-    let accept = [access, (d.below(8) > 0) as u8, 0x08, 0x07, 0x7E, 0x00, 0x42, 0x01, 0x01, 0x4A, 0x03, n1, n2, n3, 0x16, 0x01, any];
-    let guti = [0x77, 0x00, 0x0B, 0xF2, n1, n2, n3, 1, 2, 3, 4, 5, 6, any];
-    match d.below(16) {
+    let net = NETS[d.below(6) as usize];
+    let (access, sure, any, cause) = (d.octet(2), d.octet(2), d.octet(256), CAUSES[d.below(16) as usize]);
+    match d.below(20) {
         0 if d.below(20) == 0 => (1, card(any)),
         0 => (5, vec![]),
         1 => (6, vec![access, any & 7]),
-        2 | 3 => (4, vec![1 + d.octet(4), access]),
-        4 => (3, accept.to_vec()),
-        5 => (3, [&accept[..], &guti].concat()),
-        6 => (3, [&[access, sure, 0x08, 0x07, 0x7E, 0x00, 0x42 + 2 * sure][..], &d.octets(any as u32 % 24)].concat()),
-        7..=9 => (3, vec![access, sure, 0x08, 0x07, 0x7E, 0x00, 0x44, cause]),
-        _ => (2, vec![access, sure, n1, n2, n3, 0x00, 0x00, any & 15]),
+        2..=4 => (4, vec![[1, 2, 3, 4, 5, d.octet(7)][d.below(6) as usize], access]),
+        5..=7 => (3, accept(d, access, net)),
+        8 => (3, [&[access, sure, 0x08, 0x07, 0x7E, 0x00, 0x42 + 2 * sure][..], &d.octets(any as u32 % 24)].concat()),
+        9..=11 => (3, vec![access, sure, 0x08, 0x07, 0x7E, 0x00, 0x44, cause]),
+        12..=14 => (7, update(d, access, net)),
+        _ => (2, [&[access, sure][..], &net, &[0x00, 0x00, any & 15]].concat()),
     }
 }
 
-/// Any octets as a body; or a right one whose kind has a high bit too.
+/// The octet one up, one down or drawn anew.
+fn bent(d: &mut Draw, octet: u8) -> u8 {
+    let any = d.octet(256);
+    [octet.wrapping_add(1), octet.wrapping_sub(1), any, any][d.below(4) as usize]
+}
+
+/// Any octets as a body; or a right one whose kind has a high bit too, which has an octet more or less, or another one in an octet's place.
 fn wild(d: &mut Draw) -> (u32, Vec<u8>) {
-    if d.below(8) == 0 {
-        let (kind, body) = event(d);
-        return (kind | 1 << (8 + d.below(24)), body);
+    if d.below(4) > 0 {
+        let (kind, len) = (d.below(9), d.below(BODY + 1));
+        return (kind, d.octets(len));
     }
-    let (kind, len) = (d.below(9), d.below(BODY + 1));
-    (kind, d.octets(len))
+    let (kind, mut body) = event(d);
+    let at = d.below(body.len().max(1) as u32) as usize;
+    match d.below(4) {
+        0 => return (kind | 1 << (8 + d.below(24)), body),
+        1 => body.push(d.octet(256)),
+        2 => drop(body.pop()),
+        _ => {
+            if let Some(octet) = body.get_mut(at) {
+                *octet = bent(d, *octet);
+            }
+        }
+    }
+    (kind, body)
 }
 
 /// The record with a card, any state, any timers and its lists up to full, numbers often at their ends: valid where `live` is.
@@ -153,6 +197,7 @@ fn filled(d: &mut Draw, live: &CRecord) -> CRecord {
     }
     (r.roaming, r.regional, r.dev.roaming, r.dev.regional, r.dev.t3247) = (roaming, regional, d.upto(40), d.upto(40), d.upto(1));
     (r.dev.card, r.dev.suci, r.suci[0]) = (1, 9 + d.upto(55), 1);
+    (r.dev.t3512, r.dev.due, r.dev.t3512length) = (d.upto(1), d.upto(1), [0, 3240, MOST, d.below(MOST + 1)][d.below(4) as usize]);
     r.equivalents = [0; 2].map(|_| [0; 15].map(|_| d.net()));
     for (a, e) in r.access.iter_mut().zip(&mut r.entries) {
         fill(d, r.dev.limits, a, e);
@@ -166,6 +211,7 @@ fn fill(d: &mut Draw, [cards, bans, n1s]: [u8; 3], a: &mut CAccess, e: &mut CEnt
     (a.t3510, a.t3511, a.t3502) = ((a.state == 4) as u8 & d.upto(1), d.upto(1), d.upto(1));
     (a.net, a.code, a.ksi, a.entries) = (d.net(), d.below(16), d.upto(7), d.upto(16));
     (a.guti, a.visited, a.equivalents) = (d.upto(1), d.upto(1), d.upto(15));
+    (a.regtype, a.uplink, a.sessions) = (1 + d.upto(2), d.sessions(), d.sessions());
     let known = d.below(7) as usize;
     e.nets = std::array::from_fn(|i| if i < known { number(NETS[i]) } else { 0x00F500 + (i as u32 / 10 * 16 + i as u32 % 10) });
     for i in 0..16 {
@@ -173,7 +219,22 @@ fn fill(d: &mut Draw, [cards, bans, n1s]: [u8; 3], a: &mut CAccess, e: &mut CEnt
     }
 }
 
-/// A record that is often one that writes a request: an identity of each kind, with and without a last area, lengths from end to end.
+/// The record with one number of an update or of T3512 about the ends of its range, half the time outside it.
+fn strained(d: &mut Draw, full: &CRecord) -> CRecord {
+    let (mut r, at) = (*full, d.below(2) as usize);
+    let a = &mut r.access[at];
+    match d.below(6) {
+        0 => a.regtype = d.octet(6),
+        1 => a.uplink |= d.below(2) as u16,
+        2 => a.sessions |= d.below(2) as u16,
+        3 => r.dev.t3512 = d.octet(3),
+        4 => r.dev.due = d.octet(3),
+        _ => r.dev.t3512length = [MOST - 1, MOST, MOST + 1, d.below(MOST) | 1 << (26 + d.below(6))][d.below(4) as usize],
+    }
+    r
+}
+
+/// A record that is often one that writes a request: of each type, an identity of each kind, with and without a last area, lengths from end to end.
 fn writing(d: &mut Draw, live: &CRecord) -> Ask {
     let mut r = *live;
     let at = d.below(2) as usize;
@@ -197,15 +258,15 @@ fn writing(d: &mut Draw, live: &CRecord) -> Ask {
     let a = &mut r.access[at];
     (a.state, a.ksi, a.visited, a.equivalents) = (4 * r.dev.card, d.octet(8), d.octet(2), d.octet(16));
     (a.lastnet, a.lastcode) = (d.below(1 << 24), d.below(1 << 24));
+    (a.regtype, a.uplink, a.sessions) = (1 + d.octet(3), d.sessions(), d.sessions());
     let access = if d.below(20) == 0 { d.octet(256) } else { at as u8 };
     d.request(r, access)
 }
 
-/// The record with one octet of its first `end` one up, one down or drawn anew.
+/// The record with one octet of its first `end` bent.
 fn changed(d: &mut Draw, live: &CRecord, end: usize) -> CRecord {
-    let (mut r, at, any, how) = (*live, d.below(end as u32) as usize, d.octet(256), d.below(4) as usize);
-    let was = r.octets()[at];
-    r.octets_mut()[at] = [was.wrapping_add(1), was.wrapping_sub(1), any, any][how];
+    let (mut r, at) = (*live, d.below(end as u32) as usize);
+    r.octets_mut()[at] = bent(d, r.octets()[at]);
     r
 }
 
@@ -217,7 +278,8 @@ pub fn round(d: &mut Draw, live: &CRecord) -> Vec<Ask> {
     let (access, right, again, any, other) = (d.octet(2), event(d), event(d), wild(d), wild(d));
     let often = if live.dev.card == 0 && d.below(4) > 0 { (1, card(access)) } else { right };
     let (scattered, end) = (random(d), [HOT, ALL][d.below(2) as usize]);
-    let broken = changed(d, &full, end);
+    let (broken, odd, net) = (changed(d, &full, end), strained(d, &full), NETS[d.below(6) as usize]);
+    let moving = (7, update(d, access, net));
     let over = [*live, full, scattered][d.below(3) as usize];
     vec![
         d.hand(*live, often),
@@ -229,6 +291,9 @@ pub fn round(d: &mut Draw, live: &CRecord) -> Vec<Ask> {
         d.hand(scattered, other),
         d.hand(full, again.clone()),
         d.hand(broken, again),
+        d.hand(full, moving),
+        d.hand(odd, (5, vec![])),
+        d.request(odd, access),
         opening(d, over),
     ]
 }

@@ -67,6 +67,7 @@ struct Tally {
     made: u64,
     requests: u64,
     written: u64,
+    deeds: [u64; 5],
 }
 
 fn fail(what: &str) -> ! {
@@ -202,6 +203,18 @@ fn judge_request(ask: &Ask, got: &Got) -> Result<(), String> {
     hold(read, "the request does not read back")
 }
 
+/// What R-5 is about: a mobility update, a periodic one, an update that fell back to state 5, T3512 started, T3512 out.
+fn deeds(ask: &Ask, got: &Got) -> [bool; 5] {
+    let taken = |kind: u32| ask.call == EVENT && got.answer == 0 && ask.kind == kind;
+    let update = |regtype: u8| taken(7) && ask.arrays[0][1] == regtype;
+    let fell = |i: usize| {
+        let (was, now) = (ask.record.access[i], got.record.access[i]);
+        (was.state, was.regtype > 1, now.state, now.status) == (4, true, 5, 2)
+    };
+    let started = taken(3) && got.notice.t3512[0] == 2;
+    [update(2), update(3), (taken(3) || taken(4)) && (fell(0) || fell(1)), started, taken(4) && ask.arrays[0][0] == 5]
+}
+
 fn judge(ask: &Ask, got: &Got, tally: &mut Tally) -> Result<(), String> {
     equal("the count of octets written before what is lent", got.harm, 0)?;
     if ask.call != EVENT {
@@ -220,6 +233,9 @@ fn judge(ask: &Ask, got: &Got, tally: &mut Tally) -> Result<(), String> {
     tally.made += (ask.call == NEW && got.answer == 0) as u64;
     tally.requests += (ask.call == REQUEST) as u64;
     tally.written += (ask.call == REQUEST && got.answer < 256) as u64;
+    for (count, came) in tally.deeds.iter_mut().zip(deeds(ask, got)) {
+        *count += came as u64;
+    }
     if ask.call == EVENT {
         tally.answers[got.answer as usize] += 1;
         tally.invalid += !valid(&ask.record) as u64;
@@ -279,11 +295,13 @@ fn main() {
         group(&mut side, words, first..first + LIVES, &mut tally);
     }
     side.end();
-    let Tally { cases, answers, invalid, news, made, requests, written } = tally;
+    let Tally { cases, answers, invalid, news, made, requests, written, deeds } = tally;
+    let [mobility, periodic, fell, started, out] = deeds;
     println!("fuzz: {cases} cases, {} events, {invalid} of them on an invalid record", answers.iter().sum::<u64>());
     println!("fuzz: {made} of {news} new records made, {written} of {requests} requests written");
+    println!("fuzz: {mobility} mobility and {periodic} periodic updates taken, {fell} failed; T3512 started {started} times, out {out} times");
     println!("fuzz: answers 0 to 11 came {answers:?} times");
-    if seconds > 0 && (answers.contains(&0) || [invalid, made, news - made, written].contains(&0)) {
-        fail("some answer never came");
+    if seconds > 0 && (answers.contains(&0) || deeds.contains(&0) || [invalid, made, news - made, written].contains(&0)) {
+        fail("some answer or deed never came");
     }
 }

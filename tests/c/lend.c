@@ -23,13 +23,13 @@ struct head {
 };
 
 #define AT(field) {offsetof(struct tjernfaug_record, field), sizeof ((struct tjernfaug_record *)0)->field}
-#define ACCESS(a) AT(a.net), AT(a.code), AT(a.lastnet), AT(a.lastcode), AT(a.t3502length), AT(a.state), AT(a.status), AT(a.attempts), AT(a.cardcounter), \
-    AT(a.t3510), AT(a.t3511), AT(a.t3502), AT(a.guti), AT(a.visited), AT(a.ksi), AT(a.equivalents), AT(a.entries)
+#define ACCESS(a) AT(a.net), AT(a.code), AT(a.lastnet), AT(a.lastcode), AT(a.t3502length), AT(a.uplink), AT(a.sessions), AT(a.state), AT(a.status), AT(a.attempts), \
+    AT(a.cardcounter), AT(a.t3510), AT(a.t3511), AT(a.t3502), AT(a.guti), AT(a.visited), AT(a.ksi), AT(a.equivalents), AT(a.entries), AT(a.regtype)
 #define ENTRIES(e) AT(e.nets), AT(e.bans), AT(e.n1s), AT(e.forbidden), AT(e.barred)
 
 static const struct { size_t at, len; } fields[] = {
-    AT(hot.dev.home), AT(hot.dev.card), AT(hot.dev.suci), AT(hot.dev.cardlimit), AT(hot.dev.banlimit), AT(hot.dev.n1limit), AT(hot.dev.t3247),
-    AT(hot.dev.capability), AT(hot.dev.security), AT(hot.dev.roaming), AT(hot.dev.regional),
+    AT(hot.dev.home), AT(hot.dev.t3512length), AT(hot.dev.card), AT(hot.dev.suci), AT(hot.dev.cardlimit), AT(hot.dev.banlimit), AT(hot.dev.n1limit),
+    AT(hot.dev.t3247), AT(hot.dev.t3512), AT(hot.dev.due), AT(hot.dev.capability), AT(hot.dev.security), AT(hot.dev.roaming), AT(hot.dev.regional),
     ACCESS(hot.a0), ACCESS(hot.a1), ENTRIES(e0), ENTRIES(e1), AT(roaming), AT(regional),
     AT(guti0), AT(guti1), AT(equivalents0), AT(equivalents1), AT(suci), AT(capability), AT(security),
 };

@@ -1,5 +1,5 @@
 // The second program of docs/src on records as the C side sends them. It takes valid records only.
-use crate::record::{Access, Areas, Change, Entry, Limits, List, Listed, Record, Reply, RANGE, T3247, T3502, T3510, T3511};
+use crate::record::{Access, Areas, Change, Entry, Limits, List, Listed, Record, Reply, INITIAL, RANGE, T3247, T3502, T3510, T3511, T3512};
 use crate::{log, request};
 
 // The structs of include/tjernfaug.h without their gaps.
@@ -7,10 +7,13 @@ use crate::{log, request};
 #[derive(Clone, Copy)]
 pub struct CDevice {
     pub home: u32,
+    pub t3512length: u32,
     pub card: u8,
     pub suci: u8,
     pub limits: [u8; 3],
     pub t3247: u8,
+    pub t3512: u8,
+    pub due: u8,
     pub capability: u8,
     pub security: u8,
     pub roaming: u8,
@@ -25,6 +28,8 @@ pub struct CAccess {
     pub lastnet: u32,
     pub lastcode: u32,
     pub t3502length: u16,
+    pub uplink: u16,
+    pub sessions: u16,
     pub state: u8,
     pub status: u8,
     pub attempts: u8,
@@ -37,6 +42,7 @@ pub struct CAccess {
     pub ksi: u8,
     pub equivalents: u8,
     pub entries: u8,
+    pub regtype: u8,
 }
 
 #[repr(C, packed)]
@@ -69,6 +75,7 @@ pub struct CRecord {
 pub struct CNotice {
     pub clocks: [[[u32; 2]; 3]; 2],
     pub t3247: [u32; 2],
+    pub t3512: [u32; 2],
     pub requests: [u32; 3],
 }
 
@@ -146,6 +153,9 @@ fn access_in(r: &CRecord, i: usize) -> Access {
         t3502: a.t3502 == 1,
         t3502_length: a.t3502length,
         pending: area(a.net, a.code),
+        regtype: a.regtype,
+        uplink: a.uplink.to_le_bytes(),
+        sessions: a.sessions.to_le_bytes(),
         guti: (a.guti == 1).then_some(r.guti[i]),
         last: (a.visited == 1).then_some(area(a.lastnet, a.lastcode)),
         ksi: a.ksi,
@@ -166,6 +176,9 @@ fn record_in(r: &CRecord) -> Record {
         capability: List::of(&r.capability[..d.capability as usize]),
         security: List::of(&r.security[..d.security as usize]),
         t3247: d.t3247 == 1,
+        t3512: d.t3512 == 1,
+        t3512_length: d.t3512length,
+        due: d.due == 1,
         roaming: areas(&roaming[..d.roaming as usize]),
         regional: areas(&regional[..d.regional as usize]),
         access: [access_in(r, 0), access_in(r, 1)],
@@ -185,6 +198,9 @@ fn access_out(a: &Access) -> CAccess {
         t3502length: a.t3502_length,
         net: number(&a.pending[..3]),
         code: number(&a.pending[3..]),
+        regtype: a.regtype,
+        uplink: u16::from_le_bytes(a.uplink),
+        sessions: u16::from_le_bytes(a.sessions),
         guti: a.guti.is_some() as u8,
         visited: a.last.is_some() as u8,
         lastnet: number(&last[..3]),
@@ -224,6 +240,9 @@ fn record_out(r: &Record) -> CRecord {
             suci: r.suci.len() as u8,
             limits: [r.limits.card, r.limits.ban, r.limits.n1],
             t3247: r.t3247 as u8,
+            t3512: r.t3512 as u8,
+            t3512length: r.t3512_length,
+            due: r.due as u8,
             capability: r.capability.len() as u8,
             security: r.security.len() as u8,
             roaming: r.roaming.len() as u8,
@@ -245,14 +264,19 @@ fn told(change: Change) -> [u32; 2] {
     match change {
         Change::Left => [0, 0],
         Change::Stopped => [1, 0],
-        Change::Started(seconds) => [2, seconds as u32],
+        Change::Started(seconds) => [2, seconds],
     }
 }
 
 fn notice_out(p: &Reply) -> CNotice {
     let clocks = |a: usize| [T3510, T3511, T3502].map(|timer| told(p.timers[timer + a]));
     let request = |asked: Option<u8>| asked.map_or(0, |access| 1 + access as u32);
-    CNotice { clocks: [clocks(0), clocks(1)], t3247: told(p.timers[T3247]), requests: [p.restart, p.leave, p.update].map(request) }
+    CNotice {
+        clocks: [clocks(0), clocks(1)],
+        t3247: told(p.timers[T3247]),
+        t3512: told(p.timers[T3512]),
+        requests: [p.restart, p.leave, p.update].map(request),
+    }
 }
 
 /// A new record over any octets: the answer and the record after it.
@@ -290,10 +314,12 @@ pub fn reads(r: &CRecord, access: u8, octets: &[u8]) -> bool {
     let a = &held.access[access as usize];
     let Ok(said) = request::read(octets) else { return false };
     let shown = a.ksi < 7;
-    let capability = said.capability.map(|part| &octets[part]);
-    let area = said.area.map(|part| &octets[part]);
-    said.ksi == a.ksi
+    let update = shown && a.regtype != INITIAL;
+    let [capability, area, uplink, sessions] = [said.capability, said.area, said.uplink, said.sessions].map(|part| part.map(|part| &octets[part]));
+    (said.ksi, said.regtype) == (a.ksi, a.regtype)
         && octets[said.security] == held.security[..]
         && capability == shown.then_some(&held.capability[..])
         && area == a.last.as_ref().filter(|_| shown).map(|last| &last[..])
+        && uplink == (update && a.uplink != [0; 2]).then_some(&a.uplink[..])
+        && sessions == update.then_some(&a.sessions[..])
 }

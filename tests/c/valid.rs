@@ -1,4 +1,4 @@
-// Whether document 01 takes the octets of a record as a valid one.
+// Whether document 01, with R-5's fields, takes the octets of a record as a valid one.
 use crate::second::{CAccess, CDevice, CEntries, CRecord};
 
 fn network(n: u32) -> bool {
@@ -30,6 +30,9 @@ fn access(d: &CDevice, a: &CAccess, equivalents: [u32; 15]) -> bool {
         && (a.t3510 == 0 || a.state == 4)
         && network(a.net)
         && a.code >> 24 == 0
+        && (1..=3).contains(&a.regtype)
+        && a.uplink % 2 == 0
+        && a.sessions % 2 == 0
         && a.ksi <= 7
         && a.equivalents <= 15
         && equivalents[..a.equivalents as usize].iter().all(|net| net >> 24 == 0)
@@ -38,8 +41,8 @@ fn access(d: &CDevice, a: &CAccess, equivalents: [u32; 15]) -> bool {
 
 fn device(r: &CRecord) -> bool {
     let d = &r.dev;
-    d.card <= 1
-        && d.t3247 <= 1
+    [d.card, d.t3247, d.t3512, d.due].iter().all(|&flag| flag <= 1)
+        && d.t3512length <= 35_712_000
         && network(d.home)
         && (d.card == 0 || ((9..=64).contains(&d.suci) && r.suci[0] == 1))
         && d.limits.iter().all(|limit| (1..=10).contains(limit))

@@ -1,5 +1,5 @@
-// A second reading of accepts and rejects, written from document 01 alone. It writes the messages that the program `reading` is
-// run on, and what it has to print: `reading DIR` makes DIR/reading.stdin and DIR/reading.stdout.
+// A second reading of accepts and rejects, written from document 01 and R-5 alone. It writes the messages that the program
+// `reading` is run on, and what it has to print: `reading DIR` makes DIR/reading.stdin and DIR/reading.stdout.
 use std::fmt;
 use std::fs;
 
@@ -19,6 +19,7 @@ enum Reading {
         guti: Option<usize>,
         triplets: Option<(usize, usize)>,
         t3502: Option<u32>,
+        t3512: Option<u32>,
     },
     Reject(u8),
     Bad(Fault, usize),
@@ -46,6 +47,7 @@ impl fmt::Display for Reading {
                 guti,
                 triplets,
                 t3502,
+                t3512,
             } => {
                 let (count, start) = triplets.unwrap_or((0, 0));
                 write!(
@@ -55,7 +57,13 @@ impl fmt::Display for Reading {
                     guti.unwrap_or(0)
                 )?;
                 write!(f, " equivalents {count} {start}")?;
-                write!(f, " wait {} {}", t3502.is_some() as u8, t3502.unwrap_or(0))
+                write!(f, " wait {} {}", t3502.is_some() as u8, t3502.unwrap_or(0))?;
+                write!(
+                    f,
+                    " pace {} {}",
+                    t3512.is_some() as u8,
+                    t3512.unwrap_or(0)
+                )
             }
             Reading::Reject(cause) => write!(f, "reject {cause}"),
             Reading::Bad(fault, at) => write!(f, "{fault} {at}"),
@@ -109,6 +117,12 @@ fn seconds(octet: u8) -> Option<u32> {
     Some(u32::from(octet & 0x1F) * unit)
 }
 
+// GPRS timer 3: deactivated is a time given, of 0 s, since no T3512 runs then.
+fn period(octet: u8) -> u32 {
+    const UNITS: [u32; 8] = [600, 3600, 36000, 2, 30, 60, 320 * 3600, 0];
+    u32::from(octet & 0x1F) * UNITS[usize::from(octet >> 5)]
+}
+
 fn accept(msg: &[u8]) -> Result<Reading, (Fault, usize)> {
     let len = match msg.get(3) {
         None | Some(0) => return Err((Fault::Cut, 3)),
@@ -126,11 +140,15 @@ fn accept(msg: &[u8]) -> Result<Reading, (Fault, usize)> {
     let t3502 = first(0x16)
         .and_then(|e| e.contents.first())
         .and_then(|&t| seconds(t));
+    let t3512 = first(0x5E)
+        .and_then(|e| e.contents.first())
+        .map(|&t| period(t));
     Ok(Reading::Accept {
         result,
         guti,
         triplets,
         t3502,
+        t3512,
     })
 }
 
@@ -186,6 +204,7 @@ fn sent(all: &mut Vec<Message>) {
     accepted(all, &format!("9F {GUTI} 9F 16 01 3F"), 0);
     for timer in ["3F", "5F", "E5", "00"] {
         accepted(all, &format!("16 01 {timer}"), 0);
+        accepted(all, &format!("5E 01 {timer}"), 0);
     }
     plain(all, WHOLE);
     plain(
@@ -240,7 +259,7 @@ fn bounds(all: &mut Vec<Message>) {
             }
         }
     }
-    for text in ["20", "75", "75 00", "16", "4A", "77 00"] {
+    for text in ["20", "75", "75 00", "16", "4A", "77 00", "5E", "5E 01"] {
         accepted(all, text, 0);
     }
     rejected(all, "75 FF FE 00", 65535);
@@ -272,14 +291,18 @@ fn known(all: &mut Vec<Message>) {
         "16 00",
         "16 02 3F 00",
         "16 02 E5 3F",
+        "5E 00",
         "5E 01 2A",
+        "5E 02 21 00",
+        "5E 02 E5 21",
+        "5E 03 00 21 21",
         "5F 01 2F",
     ] {
         accepted(all, text, 0);
     }
 }
 
-// the first of a repeat counts, even where it reads as absent; order is free
+// the first of a repeat counts, even where it reads as absent
 fn repeats(all: &mut Vec<Message>) {
     let other = "77 00 0B F2 00 F2 20 01 02 03 04 05 06 07";
     for text in [
@@ -292,9 +315,25 @@ fn repeats(all: &mut Vec<Message>) {
         "16 01 E5 16 01 3F".to_string(),
         "16 00 16 01 3F".to_string(),
         "16 01 21 16 01 3F".to_string(),
+        "5E 01 E5 5E 01 21".to_string(),
+        "5E 00 5E 01 21".to_string(),
+        "5E 01 00 5E 01 21".to_string(),
+        "5E 01 21 5E 01 E5".to_string(),
+        "5E 01 21 5E 00".to_string(),
+        "16 01 5E 5E 01 16".to_string(),
+        "5E 01 16 16 01 5E".to_string(),
+        "20 03 5E 01 21".to_string(),
+        "5E 01 5E 01 21".to_string(),
     ] {
         accepted(all, &text, 0);
     }
+    rejected(all, "52 00 F2 20 00 00 2A", 0);
+    rejected(all, "52 03 F2 20 00", 0);
+    rejected(all, "5E 01 21", 0);
+}
+
+// order is free
+fn orders(all: &mut Vec<Message>) {
     let three = [GUTI, EQUIVALENTS, "16 01 5F"];
     for order in [
         [0, 1, 2],
@@ -305,9 +344,12 @@ fn repeats(all: &mut Vec<Message>) {
         [2, 1, 0],
     ] {
         accepted(all, &order.map(|i| three[i]).join(" "), 0);
+        for place in 0..=3 {
+            let mut four = order.map(|i| three[i]).to_vec();
+            four.insert(place, "5E 01 2A");
+            accepted(all, &four.join(" "), 0);
+        }
     }
-    rejected(all, "52 00 F2 20 00 00 2A", 0);
-    rejected(all, "52 03 F2 20 00", 0);
 }
 
 // every identifier and every timer octet
@@ -317,14 +359,15 @@ fn octets(all: &mut Vec<Message>) {
         rejected(all, &format!("{octet:02X} 00 00"), 0);
         accepted(all, &format!("{octet:02X} 01 01 16 01 3F"), 0);
         accepted(all, &format!("16 01 {octet:02X}"), 0);
+        accepted(all, &format!("5E 01 {octet:02X}"), 0);
     }
 }
 
 // messages by chance: a few elements, known ones often, one message in eight cut by an octet
 fn chance(all: &mut Vec<Message>) {
-    const IDS: [u8; 16] = [
-        0x77, 0x77, 0x77, 0x4A, 0x4A, 0x4A, 0x16, 0x16, 0x16, 0x75, 0x9F, 0xF2, 0x20, 0x52, 0x5E,
-        0x0F,
+    const IDS: [u8; 18] = [
+        0x77, 0x77, 0x77, 0x4A, 0x4A, 0x4A, 0x16, 0x16, 0x16, 0x5E, 0x5E, 0x5E, 0x75, 0x9F, 0xF2,
+        0x20, 0x52, 0x0F,
     ];
     const CONTENTS: [u8; 8] = [0xF2, 0xF2, 0xF2, 0xF2, 0x3F, 0xE5, 0x16, 0x00];
     let mut seed: u64 = 1;
@@ -341,7 +384,7 @@ fn chance(all: &mut Vec<Message>) {
             "7E 00 42 01 01"
         });
         for _ in 0..1 + draw(6) {
-            let id = IDS[draw(16) as usize];
+            let id = IDS[draw(18) as usize];
             let len = match id {
                 0x77 => 8 + draw(6) as u8,
                 0x80..=0xFF => 0,
@@ -367,7 +410,7 @@ fn chance(all: &mut Vec<Message>) {
 fn main() {
     let dir = std::env::args().nth(1).expect("a folder");
     let mut all = Vec::new();
-    for part in [sent, opened, bounds, known, repeats, octets, chance] {
+    for part in [sent, opened, bounds, known, repeats, orders, octets, chance] {
         part(&mut all);
     }
     let (mut input, mut output) = (Vec::new(), String::new());

@@ -9,18 +9,21 @@
 //
 //   card NETWORK SUCI
 //   start ACCESS NETWORK area CODE [manual]
+//   update ACCESS mobility|periodic NETWORK area CODE [uplink OCTETS] [sessions OCTETS]
 //   reject ACCESS CAUSE protected|unprotected [draw SECONDS]
 //   accept ACCESS protected|unprotected [draw SECONDS] [guti OCTETS]
-//          [equivalents NETWORK,NETWORK..] [T3502 OCTET]
+//          [equivalents NETWORK,NETWORK..] [T3502 OCTET] [T3512 OCTET]
 //   message ACCESS protected|unprotected [draw SECONDS] OCTETS
 //   timer T3510|T3511|T3502 ACCESS
-//   timer T3247
+//   timer T3247|T3512
 //   power
 //   key ACCESS SET
 //   raw OCTETS            any other record: kind and body
 //
-// A draw left out is 1800. Octets of `message` and `raw` may be split by spaces. A log and
-// its text hold the same: to-text and then to-log gives the log back, octet for octet.
+// A draw left out is 1800. `uplink` and `sessions` are the two octets of 40 and of 50 as sent,
+// session 0 the lowest bit of the first; left out they are 0000. An accept's elements stand in
+// the order of their words, which is free. Octets of `message` and `raw` may be split by spaces.
+// A log and its text hold the same: to-text and then to-log gives the log back, octet for octet.
 
 use std::fmt::Write as _;
 use std::io::{self, Read, Write};
@@ -28,7 +31,12 @@ use std::process::ExitCode;
 
 type Parsed<T> = Result<T, String>;
 
-const TIMERS: [&str; 4] = ["T3510", "T3511", "T3502", "T3247"];
+/// By their numbers in a log, from 1; those from T3247 on are the device's.
+const TIMERS: [&str; 5] = ["T3510", "T3511", "T3502", "T3247", "T3512"];
+const FIRST_OF_DEVICE: usize = 3;
+
+/// By their numbers in a log, from 2.
+const UPDATES: [&str; 2] = ["mobility", "periodic"];
 
 fn octets(word: &str) -> Parsed<Vec<u8>> {
     let bad = || format!("`{word}` is not a row of hex octets");
@@ -104,6 +112,23 @@ impl<'a> Words<'a> {
         }
     }
 
+    /// A network, `area` and the area code.
+    fn area(&mut self) -> Parsed<Vec<u8>> {
+        let named = network(self.next("the network")?)?;
+        if !self.takes("area") {
+            return Err("`area` and the area code are missing".into());
+        }
+        Ok([named, sized(self.next("the area code")?, 3)?].concat())
+    }
+
+    /// Two octets of sessions behind this word, or none of the sixteen.
+    fn sessions(&mut self, word: &str) -> Parsed<Vec<u8>> {
+        if !self.takes(word) {
+            return Ok(vec![0, 0]);
+        }
+        sized(self.next("two octets of sessions")?, 2)
+    }
+
     fn draw(&mut self) -> Parsed<u16> {
         if !self.takes("draw") {
             return Ok(1800);
@@ -113,25 +138,30 @@ impl<'a> Words<'a> {
     }
 }
 
-/// The accept's octets, its elements in the order of the format above.
+fn equivalents(list: &str) -> Parsed<Vec<u8>> {
+    let networks: Parsed<Vec<_>> = list.split(',').map(network).collect();
+    let held = networks?.concat();
+    let length = u8::try_from(held.len()).map_err(|_| "more than 85 equivalent networks")?;
+    Ok([vec![0x4A, length], held].concat())
+}
+
+/// The accept's octets, its elements in the order of their words.
 fn accept(words: &mut Words) -> Parsed<Vec<u8>> {
     let mut message = vec![0x7E, 0x00, 0x42, 0x01, 0x01];
-    if words.takes("guti") {
-        message.extend([0x77, 0x00, 0x0B, 0xF2]);
-        message.extend(sized(words.next("the GUTI")?, 10)?);
+    loop {
+        if words.takes("guti") {
+            message.extend([0x77, 0x00, 0x0B, 0xF2]);
+            message.extend(sized(words.next("the GUTI")?, 10)?);
+        } else if words.takes("equivalents") {
+            message.extend(equivalents(words.next("the equivalent networks")?)?);
+        } else if words.takes("T3502") {
+            message.extend([0x16, 0x01, sized(words.next("T3502's octet")?, 1)?[0]]);
+        } else if words.takes("T3512") {
+            message.extend([0x5E, 0x01, sized(words.next("T3512's octet")?, 1)?[0]]);
+        } else {
+            return Ok(message);
+        }
     }
-    if words.takes("equivalents") {
-        let list = words.next("the equivalent networks")?;
-        let networks: Parsed<Vec<_>> = list.split(',').map(network).collect();
-        let held = networks?.concat();
-        let length = u8::try_from(held.len()).map_err(|_| "more than 85 equivalent networks")?;
-        message.extend([0x4A, length]);
-        message.extend(held);
-    }
-    if words.takes("T3502") {
-        message.extend([0x16, 0x01, sized(words.next("T3502's octet")?, 1)?[0]]);
-    }
-    Ok(message)
 }
 
 fn heard(access: u8, protected: u8, draw: u16, message: &[u8]) -> Vec<u8> {
@@ -146,13 +176,19 @@ fn card(words: &mut Words) -> Parsed<Vec<u8>> {
 
 fn start(words: &mut Words) -> Parsed<Vec<u8>> {
     let access = words.access()?;
-    let started = network(words.next("the network")?)?;
-    if !words.takes("area") {
-        return Err("`area` and the area code are missing".into());
-    }
-    let code = sized(words.next("the area code")?, 3)?;
+    let area = words.area()?;
     let manual = u8::from(words.takes("manual"));
-    Ok([vec![2, 0, access, manual], started, code].concat())
+    Ok([vec![2, 0, access, manual], area].concat())
+}
+
+fn update(words: &mut Words) -> Parsed<Vec<u8>> {
+    let access = words.access()?;
+    let name = words.next("`mobility` or `periodic`")?;
+    let place = UPDATES.iter().position(|update| *update == name);
+    let place = place.ok_or_else(|| format!("`{name}` stands for {}", UPDATES.join(" or ")))?;
+    let area = words.area()?;
+    let (uplink, sessions) = (words.sessions("uplink")?, words.sessions("sessions")?);
+    Ok([vec![7, 0, access, place as u8 + 2], area, uplink, sessions].concat())
 }
 
 fn reject(words: &mut Words) -> Parsed<Vec<u8>> {
@@ -166,7 +202,8 @@ fn timer(words: &mut Words) -> Parsed<Vec<u8>> {
     let name = words.next("the timer")?;
     let place = TIMERS.iter().position(|timer| *timer == name);
     let place = place.ok_or_else(|| format!("`{name}` is no timer: {}", TIMERS.join(", ")))?;
-    let access = if place == 3 && words.0.is_empty() { 0 } else { words.access()? };
+    let bare = place >= FIRST_OF_DEVICE && words.0.is_empty();
+    let access = if bare { 0 } else { words.access()? };
     Ok(vec![4, 0, place as u8 + 1, access])
 }
 
@@ -183,6 +220,7 @@ fn record(words: &mut Words) -> Parsed<Vec<u8>> {
     match words.next("the event")? {
         "card" => card(words),
         "start" => start(words),
+        "update" => update(words),
         "reject" => reject(words),
         "accept" => {
             let (access, protected) = (words.access()?, words.protection()?);
@@ -200,7 +238,8 @@ fn record(words: &mut Words) -> Parsed<Vec<u8>> {
         }
         "raw" => raw(words),
         word => Err(format!(
-            "`{word}` is no event: card, start, reject, accept, message, timer, power, key or raw"
+            "`{word}` is no event: card, start, update, reject, accept, message, timer, power, \
+             key or raw"
         )),
     }
 }
@@ -244,27 +283,32 @@ fn network_text(held: &[u8]) -> String {
     format!("{}{}{}-{mnc}", digit(0), digit(1), digit(2))
 }
 
-/// The words of an accept with these elements, if they are written as the format has them.
+/// The words of an accept's first element and the octets behind it, if there are words for it.
+fn element_text(rest: &[u8]) -> Option<(String, &[u8])> {
+    match rest {
+        [0x77, 0x00, 0x0B, 0xF2, behind @ ..] => {
+            Some((format!(" guti {}", hex(behind.get(..10)?)), &behind[10..]))
+        }
+        [0x4A, length, behind @ ..] if *length > 0 && length % 3 == 0 => {
+            let list = behind.get(..*length as usize)?;
+            let networks: Vec<_> = list.chunks(3).map(network_text).collect();
+            Some((format!(" equivalents {}", networks.join(",")), &behind[list.len()..]))
+        }
+        [0x16, 0x01, octet, behind @ ..] => Some((format!(" T3502 {octet:02X}"), behind)),
+        [0x5E, 0x01, octet, behind @ ..] => Some((format!(" T3512 {octet:02X}"), behind)),
+        _ => None,
+    }
+}
+
+/// The words of an accept with these elements, if there are words for each.
 fn accept_text(mut rest: &[u8]) -> Option<String> {
     let mut text = String::new();
-    if let [0x77, 0x00, 0x0B, 0xF2, behind @ ..] = rest {
-        let _ = write!(text, " guti {}", hex(behind.get(..10)?));
-        rest = &behind[10..];
-    }
-    if let [0x4A, length, behind @ ..] = rest {
-        let list = behind.get(..*length as usize)?;
-        if list.is_empty() || list.len() % 3 != 0 {
-            return None;
-        }
-        let networks: Vec<_> = list.chunks(3).map(network_text).collect();
-        let _ = write!(text, " equivalents {}", networks.join(","));
-        rest = &behind[list.len()..];
-    }
-    if let [0x16, 0x01, octet, behind @ ..] = rest {
-        let _ = write!(text, " T3502 {octet:02X}");
+    while !rest.is_empty() {
+        let (words, behind) = element_text(rest)?;
+        text.push_str(&words);
         rest = behind;
     }
-    rest.is_empty().then_some(text)
+    Some(text)
 }
 
 fn message_text(access: u8, protected: u8, draw: u16, message: &[u8]) -> String {
@@ -280,6 +324,13 @@ fn message_text(access: u8, protected: u8, draw: u16, message: &[u8]) -> String 
     format!("message {access} {way} draw {draw} {}", hex(message)).trim_end().into()
 }
 
+/// The body is the network, the area code and the octets of 40 and 50.
+fn update_text(access: u8, kind: u8, body: &[u8]) -> String {
+    let (name, network) = (UPDATES[kind as usize - 2], network_text(&body[..3]));
+    let [code, uplink, sessions] = [&body[3..6], &body[6..8], &body[8..]].map(hex);
+    format!("update {access} {name} {network} area {code} uplink {uplink} sessions {sessions}")
+}
+
 fn text_of(held: &[u8]) -> String {
     match held {
         [1, 0, h1, h2, h3, suci @ ..] if !suci.is_empty() => {
@@ -292,12 +343,15 @@ fn text_of(held: &[u8]) -> String {
         [3, 0, access, protected @ (0 | 1), low, high, message @ ..] => {
             message_text(*access, *protected, u16::from_le_bytes([*low, *high]), message)
         }
-        [4, 0, 4, 0] => "timer T3247".into(),
-        [4, 0, number @ 1..=4, access] => {
+        [4, 0, number @ (4 | 5), 0] => format!("timer {}", TIMERS[*number as usize - 1]),
+        [4, 0, number @ 1..=5, access] => {
             format!("timer {} {access}", TIMERS[*number as usize - 1])
         }
         [5, 0] => "power".into(),
         [6, 0, access, set] => format!("key {access} {set}"),
+        [7, 0, access, kind @ (2 | 3), body @ ..] if body.len() == 10 => {
+            update_text(*access, *kind, body)
+        }
         _ => format!("raw {}", hex(held)),
     }
 }

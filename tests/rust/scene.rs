@@ -1,4 +1,4 @@
-// Scenes: an event log as text, each event with what document 01 says comes of it.
+// Scenes: an event log as text, each event with what documents 01 and 02 say comes of it.
 //
 //   scene make SCENES           the log, on standard output
 //   scene check SCENES OUTPUT   holds the output of `--full` on that log to the expectations
@@ -13,14 +13,30 @@ use std::io::Write;
 type Fields = BTreeMap<String, String>;
 
 const TIMERS: [&str; 3] = ["T3510", "T3511", "T3502"];
-const DEVICE: [&str; 9] =
-    ["card", "home", "suci", "limits", "cap", "sec", "T3247", "roaming", "regional"];
+/// The device's own, told once and not for each access.
+const CLOCKS: [&str; 2] = ["T3247", "T3512"];
+/// `T3512length` is `length` in the device's part of a line; a bare `length` is an access's T3502.
+const DEVICE: [&str; 12] = [
+    "card",
+    "home",
+    "suci",
+    "limits",
+    "cap",
+    "sec",
+    "T3247",
+    "T3512",
+    "T3512length",
+    "due",
+    "roaming",
+    "regional",
+];
 const ASKED: [&str; 3] = ["restart", "leave", "update"];
 
 struct Scene {
     place: String,
     access: u8,
-    area: String,
+    /// What `sent` says of the access: the pending area, type, uplink and sessions.
+    pending: Vec<(&'static str, String)>,
     record: Vec<u8>,
     hope: Vec<String>,
 }
@@ -68,7 +84,7 @@ fn expand(lines: &[(usize, String)]) -> Vec<(usize, String)> {
     out
 }
 
-/// A line, or for `do NAME ARGUMENTS` the lines of that definition.
+/// A line, or for `do NAME ARGUMENTS` the lines of that definition, which may name others.
 fn put_in(
     number: usize,
     line: String,
@@ -84,7 +100,7 @@ fn put_in(
         for (i, word) in words[2..].iter().enumerate() {
             text = text.replace(&format!("{{{}}}", i + 1), word);
         }
-        out.push((number, text));
+        out.extend(put_in(number, text, defined));
     }
     out
 }
@@ -102,6 +118,7 @@ fn number_of(timer: &str) -> u8 {
         "T3511" => 2,
         "T3502" => 3,
         "T3247" => 4,
+        "T3512" => 5,
         other => decimal(other) as u8,
     }
 }
@@ -144,6 +161,7 @@ fn record(words: &[&str]) -> Vec<u8> {
             let area = octets(&words[2..4].concat());
             [vec![2, 0, decimal(words[1]) as u8, manual], area].concat()
         }
+        "update" => [vec![7, 0, decimal(words[1]) as u8, decimal(words[2]) as u8], hex(3)].concat(),
         "reject" => reject(words),
         "accept" => accept(words),
         "message" => message(words[1], decimal(words[2]) as u8, decimal(words[3]), &hex(4)),
@@ -155,18 +173,28 @@ fn record(words: &[&str]) -> Vec<u8> {
     }
 }
 
+/// A start is of type 1 and takes the octets of 40 and 50 back to none.
+fn pending(words: &[&str]) -> Vec<(&'static str, String)> {
+    let values = match words[0] {
+        "start" => [words[2..4].concat(), "1".into(), "0000".into(), "0000".into()],
+        "update" => [words[3..5].concat(), words[2].into(), words[5].into(), words[6].into()],
+        _ => return Vec::new(),
+    };
+    ["pending", "type", "uplink", "sessions"].into_iter().zip(values).collect()
+}
+
 fn scene(number: usize, line: &str) -> Scene {
     let (event, hope) = line.split_once("->").unwrap_or((line, ""));
     let words: Vec<&str> = event.split_whitespace().collect();
     let access = match words[0] {
         "timer" => words[2],
-        "start" | "reject" | "accept" | "message" | "key" => words[1],
+        "start" | "update" | "reject" | "accept" | "message" | "key" => words[1],
         _ => "0",
     };
     Scene {
         place: format!("line {number}: {}", line.trim()),
         access: decimal(access) as u8,
-        area: if words[0] == "start" { words[2..4].concat() } else { String::new() },
+        pending: pending(&words),
         record: record(&words),
         hope: hope.split_whitespace().map(str::to_string).collect(),
     }
@@ -218,9 +246,11 @@ fn first() -> Fields {
 /// "A new record has": all but the card and the states.
 fn fresh() -> Fields {
     let mut fields = Fields::new();
-    let device = "limits=3_3_3 cap=00 sec=f0f0 T3247=0 roaming=- regional=-";
+    let device = "limits=3_3_3 cap=00 sec=f0f0 T3247=0 T3512=0 T3512length=3240 due=0 roaming=- \
+                  regional=-";
     let access = "status=2 attempts=0 T3510=0 T3511=0 T3502=0 length=720 pending=000000000000 \
-                  guti=- last=- ksi=7 equivalents=- cards=0 entries=-";
+                  type=1 uplink=0000 sessions=0000 guti=- last=- ksi=7 equivalents=- cards=0 \
+                  entries=-";
     let mut put = |front: &str, words: &str| {
         for word in words.split_whitespace() {
             let (name, value) = word.split_once('=').expect("a value");
@@ -235,17 +265,20 @@ fn fresh() -> Fields {
 
 fn read_reply(part: &str, fields: &mut Fields) {
     let words: Vec<&str> = part.split(' ').collect();
-    assert!(words.len() == 19 && words[0] == "=", "a reply of {} words", words.len());
+    assert!(words.len() == 21 && words[0] == "=", "a reply of {} words", words.len());
     fields.insert("answer".to_string(), words[1].to_string());
     for (i, timer) in TIMERS.iter().enumerate() {
         assert!(words[2 + 3 * i] == *timer);
         fields.insert(format!("told0.{timer}"), words[3 + 3 * i].to_string());
         fields.insert(format!("told1.{timer}"), words[4 + 3 * i].to_string());
     }
-    fields.insert("told.T3247".to_string(), words[12].to_string());
+    for (i, timer) in CLOCKS.iter().enumerate() {
+        assert!(words[11 + 2 * i] == *timer);
+        fields.insert(format!("told.{timer}"), words[12 + 2 * i].to_string());
+    }
     for (i, name) in ASKED.iter().enumerate() {
-        assert!(words[13 + 2 * i] == *name);
-        fields.insert(name.to_string(), words[14 + 2 * i].to_string());
+        assert!(words[15 + 2 * i] == *name);
+        fields.insert(name.to_string(), words[16 + 2 * i].to_string());
     }
 }
 
@@ -264,6 +297,8 @@ fn read(line: &str) -> Fields {
     let parts: Vec<&str> = line.split(" | ").collect();
     read_reply(parts[0], &mut fields);
     read_part("", &parts[1].split(' ').collect::<Vec<_>>(), &mut fields);
+    let length = fields.remove("length").expect("T3512's length");
+    fields.insert("T3512length".to_string(), length);
     for a in 0..2 {
         let words: Vec<&str> = parts[2 + a].split(' ').collect();
         assert!(words[0] == a.to_string());
@@ -311,27 +346,41 @@ impl Hope<'_> {
             Some((access, timer)) => (access.to_string(), timer),
             None => (self.scene.access.to_string(), timer),
         };
-        if timer == "T3247" {
-            self.set("T3247", flag);
-            self.set("told.T3247", told);
+        if CLOCKS.contains(&timer) {
+            self.set(timer, flag);
+            self.set(&format!("told.{timer}"), told);
         } else {
             self.set(&format!("{access}.{timer}"), flag);
             self.set(&format!("told{access}.{timer}"), told);
         }
     }
 
-    /// A card change: a new record, and every running timer is told as stopped.
-    fn new_record(&mut self) {
-        for timer in TIMERS {
-            for a in 0..2 {
-                if self.fields[&format!("{a}.{timer}")] == "1" {
-                    self.set(&format!("told{a}.{timer}"), "stopped");
-                }
+    /// Every running timer is stopped, and told so.
+    fn off(&mut self) {
+        let own = |a: u8| TIMERS.map(|timer| format!("{a}.{timer}"));
+        let clocks = CLOCKS.map(str::to_string);
+        for timer in own(0).iter().chain(&own(1)).chain(&clocks) {
+            if self.fields[timer] == "1" {
+                self.timer(timer, "0", "stopped");
             }
         }
-        if self.fields["T3247"] == "1" {
-            self.set("told.T3247", "stopped");
+    }
+
+    /// An accept that gives no T3512, over access 0: the length kept, unless it is zero.
+    fn paced(&mut self) {
+        if self.scene.access == 1 {
+            return;
         }
+        self.set("due", "0");
+        let length = self.fields["T3512length"].clone();
+        if length != "0" {
+            self.timer("T3512", "1", &format!("started:{length}"));
+        }
+    }
+
+    /// A card change: a new record.
+    fn new_record(&mut self) {
+        self.off();
         self.fields.extend(fresh());
         let record = &self.scene.record;
         let hex = |octets: &[u8]| octets.iter().map(|o| format!("{o:02x}")).collect::<String>();
@@ -361,13 +410,16 @@ impl Hope<'_> {
     }
 
     fn word(&mut self, word: &str) {
-        let area = self.scene.area.clone();
         let access = self.scene.access;
         match word {
             "new" => return self.new_record(),
+            "off" => return self.off(),
+            "paced" => return self.paced(),
             "sent" => {
                 self.set(&format!("{access}.state"), "4");
-                self.set(&format!("{access}.pending"), &area);
+                for (name, value) in &self.scene.pending {
+                    self.set(&format!("{access}.{name}"), value);
+                }
                 return self.timer("T3510", "1", "started:15");
             }
             "clear" => {
@@ -396,7 +448,9 @@ impl Hope<'_> {
 fn hoped(scene: &Scene, before: &Fields) -> Fields {
     let mut fields = before.clone();
     fields.insert("answer".to_string(), scene.hope[0].clone());
-    fields.insert("told.T3247".to_string(), "left".to_string());
+    for timer in CLOCKS {
+        fields.insert(format!("told.{timer}"), "left".to_string());
+    }
     for timer in TIMERS {
         fields.insert(format!("told0.{timer}"), "left".to_string());
         fields.insert(format!("told1.{timer}"), "left".to_string());

@@ -4,8 +4,9 @@
 //
 // FULL is what `regrun-rust --full` prints (docs/src/full.rs has its format); EVENTS has a line
 // of text for each event, as `scenario to-text` writes it. Columns: the event and its answer;
-// the state of access 0 and of access 1 with the attempt counter; T3247; and for each network
-// that an access ever held an entry of, its counters against their limits and its marks.
+// the state of access 0 and of access 1 with the attempt counter; T3247; T3512 and whether a
+// periodic update is due, if it ever ran; and for each network that an access ever held an entry
+// of, its counters against their limits and its marks.
 
 use std::collections::BTreeMap;
 use std::fmt::Write as _;
@@ -23,6 +24,10 @@ const STATES: [(&str, &str); 7] = [
     ("registered", "#93c47d"),
     ("search", "#f4cccc"),
 ];
+
+/// State 4 while an update is pending, by its type from 2 on.
+const UPDATES: [&str; 2] = ["update", "periodic update"];
+const UPDATING: &str = "#b4d7c8";
 
 const ANSWERS: [&str; 13] = [
     "taken",
@@ -55,6 +60,8 @@ struct Entry {
 /// What is drawn of one access after an event.
 struct Access {
     state: usize,
+    /// The pending registration's type, 1 to 3.
+    kind: usize,
     attempts: String,
     cards: String,
     entries: BTreeMap<String, Entry>,
@@ -64,6 +71,8 @@ struct Access {
 struct Step {
     answer: usize,
     t3247: bool,
+    t3512: bool,
+    due: bool,
     told: String,
     limits: [String; 3],
     areas: [usize; 2],
@@ -99,14 +108,17 @@ fn entry(text: &str) -> Parsed<(String, Entry)> {
     Ok((digits(network), held))
 }
 
+/// The number behind `name`, if it is in the range.
+fn number(part: &[&str], name: &str, range: std::ops::Range<usize>) -> Parsed<usize> {
+    let word = after(part, name)?;
+    let number = word.parse().ok().filter(|number| range.contains(number));
+    number.ok_or(format!("{name} {word}"))
+}
+
 fn access(part: &[&str]) -> Parsed<Access> {
-    let state = after(part, "state")?;
     Ok(Access {
-        state: state
-            .parse()
-            .ok()
-            .filter(|state| *state < STATES.len())
-            .ok_or(format!("state {state}"))?,
+        state: number(part, "state", 0..STATES.len())?,
+        kind: number(part, "type", 1..2 + UPDATES.len())?,
         attempts: after(part, "attempts")?.into(),
         cards: after(part, "cards")?.into(),
         entries: listed(after(part, "entries")?).map(entry).collect::<Parsed<_>>()?,
@@ -116,7 +128,7 @@ fn access(part: &[&str]) -> Parsed<Access> {
 /// Timers started and stopped, and what is asked, in words.
 fn told(part: &[&str]) -> Parsed<String> {
     let mut text = Vec::new();
-    for (name, count) in [("T3510", 2), ("T3511", 2), ("T3502", 2), ("T3247", 1)] {
+    for (name, count) in [("T3510", 2), ("T3511", 2), ("T3502", 2), ("T3247", 1), ("T3512", 1)] {
         let at = part.iter().position(|word| *word == name).ok_or(format!("no `{name}`"))?;
         for change in part.iter().skip(at + 1).take(count).filter(|change| **change != "left") {
             let seconds =
@@ -139,17 +151,14 @@ fn step(line: &str) -> Parsed<Step> {
     let [reply, device, zero, one] = &parts[..] else {
         return Err("four parts are expected".into());
     };
-    let answer = after(reply, "=")?;
     let at = device.iter().position(|word| *word == "limits").ok_or("no `limits`")?;
     let limit =
         |place| device.get(at + place).map_or(String::new(), |word: &&str| word.to_string());
     Ok(Step {
-        answer: answer
-            .parse()
-            .ok()
-            .filter(|n| *n < ANSWERS.len())
-            .ok_or(format!("answer {answer}"))?,
+        answer: number(reply, "=", 0..ANSWERS.len())?,
         t3247: after(device, "T3247")? == "1",
+        t3512: after(device, "T3512")? == "1",
+        due: after(device, "due")? == "1",
         told: told(reply)?,
         limits: [limit(1), limit(2), limit(3)],
         areas: [
@@ -189,14 +198,22 @@ fn head(picture: &mut Picture, x: usize, first: &str, second: &str) {
     picture.text(x + 6, TOP - 10, r##"fill="#555""##, second);
 }
 
+/// The name of an access's state and its colour; an update is not an initial registration.
+fn shown(held: &Access) -> (&'static str, &'static str) {
+    if held.state == 4 && held.kind > 1 {
+        return (UPDATES[held.kind - 2], UPDATING);
+    }
+    STATES[held.state]
+}
+
 fn state_lane(picture: &mut Picture, x: usize, which: usize, steps: &[Step]) {
     head(picture, x, &format!("access {which}"), if which == 0 { "mobile" } else { "Wi-Fi" });
     for (row, step) in steps.iter().enumerate() {
         let held = &step.access[which];
-        let (name, fill) = STATES[held.state];
+        let (name, fill) = shown(held);
         let y = TOP + row * ROW;
         picture.bar(x, y, LANE - 8, fill);
-        let first = row == 0 || steps[row - 1].access[which].state != held.state;
+        let first = row == 0 || shown(&steps[row - 1].access[which]).0 != name;
         if first {
             picture.text(x + 6, y + 17, "", &format!("{} {name}", held.state));
         }
@@ -219,6 +236,21 @@ fn clock_lane(picture: &mut Picture, x: usize, steps: &[Step]) {
         let text = areas.iter().filter(|(_, n)| *n != 0).map(|(name, n)| format!("{name} {n}"));
         let text: Vec<String> = text.collect();
         picture.text(x + 20, y + 17, r#"font-size="10""#, &text.join(" "));
+    }
+}
+
+/// T3512 as a bar beside that of a periodic update that is due.
+fn period_lane(picture: &mut Picture, x: usize, steps: &[Step]) {
+    head(picture, x, "T3512", "and periodic update due");
+    for (row, step) in steps.iter().enumerate() {
+        let y = TOP + row * ROW;
+        if step.t3512 {
+            picture.bar(x, y, 14, "#0b7285");
+        }
+        if step.due {
+            picture.bar(x + 16, y, 14, "#f1c232");
+            picture.text(x + 36, y + 17, r#"font-size="10""#, "due");
+        }
     }
 }
 
@@ -268,7 +300,7 @@ fn events(picture: &mut Picture, labels: &[&str], steps: &[Step]) {
 fn legend(picture: &mut Picture, y: usize) {
     let lines = [
         "Counters stand against their limits. A row shows the record after its event; rows are events, not times.",
-        "Red: forbidden. Orange: N1 not allowed. Dark red: both. Grey: entry without a mark. Violet: T3247 runs.",
+        "Red: forbidden. Orange: N1 not allowed. Dark red: both. Grey: entry without a mark. Violet: T3247 runs. Teal: T3512 runs. Yellow: due.",
     ];
     for (place, text) in lines.iter().enumerate() {
         picture.text(6, y + 20 + place * 16, r##"font-size="11" fill="#333""##, text);
@@ -290,7 +322,9 @@ fn held(steps: &[Step]) -> Vec<(usize, &String)> {
 
 fn draw(labels: &[&str], steps: &[Step]) -> String {
     let lanes = held(steps);
-    let width = (EVENT + (3 + lanes.len()) * LANE + 8).max(780);
+    let period = steps.iter().any(|step| step.t3512 || step.due);
+    let first = EVENT + (3 + period as usize) * LANE;
+    let width = (first + lanes.len() * LANE + 8).max(780);
     let bottom = TOP + steps.len() * ROW;
     let mut picture = Picture(String::from("<svg xmlns=\"http://www.w3.org/2000/svg\" "));
     let _ = write!(picture.0, r#"width="{width}" height="{}" "#, bottom + 48);
@@ -301,8 +335,11 @@ fn draw(labels: &[&str], steps: &[Step]) -> String {
     state_lane(&mut picture, EVENT, 0, steps);
     state_lane(&mut picture, EVENT + LANE, 1, steps);
     clock_lane(&mut picture, EVENT + 2 * LANE, steps);
+    if period {
+        period_lane(&mut picture, EVENT + 3 * LANE, steps);
+    }
     for (place, (which, name)) in lanes.iter().enumerate() {
-        entry_lane(&mut picture, EVENT + (3 + place) * LANE, *which, name, steps);
+        entry_lane(&mut picture, first + place * LANE, *which, name, steps);
     }
     for row in 0..=steps.len() {
         let y = TOP + row * ROW;

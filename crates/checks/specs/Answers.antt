@@ -1,11 +1,12 @@
--- Answers: "Checks go 1, 5, 6, 7, 8, 9 for a start; 1, 6, 3, 10, 2, 4 for a message; 1, 11 for a timer; 1, 6 for a key set; 1 for a card or a power cycle".
+-- Answers: "Checks go 1, 5, 6, 7, 8, 9 for a start; 1, 6, 3, 10, 2, 4 for a message; 1, 11 for a timer; 1, 6 for a key set; 1 for a card or a power cycle";
+-- and for an update (document 02, R-5) 1, 6, "the other checks as for a start not manual".
 -- Each check passes on to the next; the last one is taken. The record itself is tested before. An event's `protected` is 1 or 0. Assumes nothing.
 use Prim.Native.Nat.{ℕ}
 use mathlib.Core.Bool.{Bool, cond}
 use mathlib.Core.List.{List}
 use lib.ListN.{length, getD}
 use lib.Dec.{ltb, leb, eqb}
-use Rattle.record.specs.Tests.{both, either, flip, within, isFlag, isShort}
+use Rattle.record.specs.Tests.{both, either, flip, within, isFlag, isShort, isClear0}
 use Rattle.record.specs.Network.{isNetwork}
 use Rattle.record.specs.declared.Access.{Access}
 use Rattle.record.specs.declared.Hot.{Hot}
@@ -15,7 +16,7 @@ use Rattle.entries.specs.declared.Seen.{Seen}
 use Rattle.messages.specs.declared.Reading.{Reading}
 use Rattle.messages.specs.declared.Reading.the-variants as reading
 use Rattle.turns.specs.declared.Row.{Row}
-use Rattle.turns.specs.Timers.{isDeviceTimer, runsOn}
+use Rattle.turns.specs.Timers.{isDeviceTimer, runsIn, runsOn}
 use Rattle.turns.specs.Rejects.{isIgnored, rowOf, needsEntry}
 use Rattle.record.specs.Sides.{accessOf, otherOf}
 
@@ -54,6 +55,22 @@ startAnswer h w manual net code s listed =
     (check (mayStart (accessOf h w .state)) answer.State
     (placeAnswer (otherOf h w) manual net s listed)))
 
+-- Update (access, type 2 mobility or 3 periodic, network, area code, 40 and 50 with session 0 clear)
+unfoldable pub updateRange : ℕ → ℕ → ℕ → ℕ → ℕ → ℕ → Bool
+updateRange w regtype net code uplink sessions =
+    both (isFlag w) (both (within 2 3 regtype) (both (isNetwork net) (both (isShort code) (both (isClear0 uplink) (isClear0 sessions)))))
+
+-- "6 for an update outside state 5 or a periodic one not due": T3512 is access 0's, so over access 1 none is due
+unfoldable pub mayUpdate : Hot → ℕ → ℕ → Bool
+mayUpdate h w regtype = both (eqb (accessOf h w .state) 5) (either (eqb regtype 2) (both (eqb w 0) (eqb (h .dev .due) 1)))
+
+-- Update: 1, 6, 7, 8, 9
+unfoldable pub updateAnswer : Hot → ℕ → ℕ → ℕ → ℕ → ℕ → ℕ → Seen → Bool → Answer
+updateAnswer h w regtype net code uplink sessions s listed =
+    check (updateRange w regtype net code uplink sessions) answer.Range
+    (check (mayUpdate h w regtype) answer.State
+    (placeAnswer (otherOf h w) 0 net s listed))
+
 -- the row of a reject that comes over access w now
 unfoldable pub rowNow : Hot → ℕ → ℕ → ℕ → Row
 rowNow h w protected cause =
@@ -87,12 +104,12 @@ messageAnswer h w protected draw m s =
     (check (eqb (accessOf h w .state) 4) answer.State
     (readAnswer h w protected m s))
 
--- timers 1 to 4; access 0 for T3247
+-- timers 1 to 5; access 0 for T3247 and T3512
 unfoldable pub timerRange : ℕ → ℕ → Bool
-timerRange number w = both (within 1 4 number) (both (isFlag w) (either (flip (isDeviceTimer number)) (eqb w 0)))
+timerRange number w = both (within 1 5 number) (both (isFlag w) (either (flip (isDeviceTimer number)) (eqb w 0)))
 
 unfoldable pub runs : Hot → ℕ → ℕ → ℕ
-runs h number w = cond (isDeviceTimer number) (h .dev .t3247) (runsOn number (accessOf h w))
+runs h number w = cond (isDeviceTimer number) (runsIn number (h .dev)) (runsOn number (accessOf h w))
 
 -- Timer: 1, 11
 unfoldable pub timerAnswer : Hot → ℕ → ℕ → Answer

@@ -14,8 +14,10 @@ use record::other_of;
 use record::pick;
 use turns::Row;
 use turns::is_device_timer;
+use turns::is_registered;
 use turns::needs_entry;
 use turns::row_of;
+use turns::runs_in;
 use turns::runs_on;
 ghost use mathlib.Core.Path.{_≡_};
 ghost use Rattle.turns.specs.Rejects.{isIgnored};
@@ -83,6 +85,41 @@ pub fn start_answer(h: Hot, w: u8, manual: u8, net: u32, code: u32, s: Seen, lis
     check(start_range(w, manual, net, code), Answer::Range, state)
 }
 
+fn update_range(w: u8, regtype: u8, net: u32, code: u32, uplink: u16, sessions: u16) -> bool
+    ensures { λ r. ⌜ r ≡ rules.updateRange w regtype net code uplink sessions ⌝ }
+{
+    let clear = and(uplink % 2 == 0, sessions % 2 == 0);
+    let place = and(network(net), and(code < 16777216, clear));
+    and(w <= 1, and(and(2 <= regtype, regtype <= 3), place))
+}
+
+fn may_update(h: Hot, w: u8, regtype: u8) -> bool
+    ensures { λ r. ⌜ r ≡ rules.mayUpdate h w regtype ⌝ }
+{
+    let a = access_of(h, w);
+    let due = and(w == 0, h.dev.due == 1);
+    and(a.state == 5, or(regtype == 2, due))
+}
+
+pub fn update_answer(
+    h: Hot,
+    w: u8,
+    regtype: u8,
+    net: u32,
+    code: u32,
+    uplink: u16,
+    sessions: u16,
+    s: Seen,
+    listed: bool,
+) -> Answer
+    ensures { λ r. ⌜ r ≡ rules.updateAnswer h w regtype net code uplink sessions s listed ⌝ }
+{
+    let place = place_answer(other_of(h, w), 0, net, s, listed);
+    let range = update_range(w, regtype, net, code, uplink, sessions);
+    let may = may_update(h, w, regtype);
+    checks(range, Answer::Range, may, Answer::State, place)
+}
+
 pub fn row_now(h: Hot, w: u8, protected: u8, cause: u8) -> Row
     ensures { λ r. ⌜ r ≡ rules.rowNow h w protected cause ⌝ }
 {
@@ -99,7 +136,10 @@ pub fn row_now(h: Hot, w: u8, protected: u8, cause: u8) -> Row
 fn is_ignored(protected: u8, cause: u8, other: Access) -> bool
     ensures { λ r. ⌜ r ≡ isIgnored protected cause other ⌝ }
 {
-    and(turns::is_card(cause), and(protected == 0, other.state == 5))
+    and(
+        turns::is_card(cause),
+        and(protected == 0, is_registered(other)),
+    )
 }
 
 fn is_full(row: Row, s: Seen, a: Access) -> bool
@@ -147,14 +187,15 @@ fn timer_range(number: u8, w: u8) -> bool
     ensures { λ r. ⌜ r ≡ rules.timerRange number w ⌝ }
 {
     let access = and(w <= 1, or(not(is_device_timer(number)), w == 0));
-    and(and(1 <= number, number <= 4), access)
+    and(and(1 <= number, number <= 5), access)
 }
 
 fn runs(h: Hot, number: u8, w: u8) -> u8
     ensures { λ r. ⌜ r ≡ rules.runs h number w ⌝ }
 {
-    let a = access_of(h, w);
-    pick(is_device_timer(number), h.dev.t3247, runs_on(number, a))
+    let device = runs_in(number, h.dev);
+    let own = runs_on(number, access_of(h, w));
+    pick(is_device_timer(number), device, own)
 }
 
 pub fn timer_answer(h: Hot, number: u8, w: u8) -> Answer

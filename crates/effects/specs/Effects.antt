@@ -14,54 +14,80 @@ use Rattle.entries.specs.declared.Deed.the-variants as deed
 use Rattle.areas.specs.declared.Task.{Task}
 use Rattle.areas.specs.declared.Task.the-variants as task
 use Rattle.turns.specs.declared.Order.{Order}
-use Rattle.turns.specs.declared.Order.the-variants.{Leave, Stop}
+use Rattle.turns.specs.declared.Order.the-variants.{Leave, Stop, Run}
 use Rattle.turns.specs.declared.Turn.{Turn}
 use Rattle.turns.specs.declared.Row.{Row}
 use Rattle.turns.specs.Timers.{isDeviceTimer}
 use Rattle.turns.specs.Words.{Mark, noMark, forbiddenAndCounted, n1NotAllowedAndCounted, markIn}
 use Rattle.turns.specs.Rejects.{rejectT3247, rowText, toRoaming, toRegional}
-use Rattle.turns.specs.Turns.{still, started, keySet, accepted, t3510Out, t3511Out, t3502Out, cycled, renewed, rowTurn, otherTurn}
+use Rattle.turns.specs.Turns.{still, started, updated, keySet, accepted, t3510Out, t3511Out, t3502Out, cycled, renewed, rowTurn, otherTurn}
 use Rattle.effects.specs.declared.Work.{Work}
 use Rattle.effects.specs.declared.Sides.{Sides}
 use Rattle.effects.specs.declared.Keep.{Keep}
 use Rattle.effects.specs.declared.Keep.the-variants as keep
 use Rattle.record.specs.Sides.{accessOf, otherOf}
 
--- a taken event: the device's numbers, the turn of its access and of the other one, T3247, the work, and whether a restart is asked
+-- a taken event: the device's numbers, the turn of its access and of the other one, T3247, T3512, the work, and whether a restart is asked
 pub record Effect : Type 0 where
   pub dev : Device
   pub mine : Turn
   pub theirs : Turn
   pub t3247 : Order
+  pub t3512 : Order
   pub work : Work
   pub restart : Bool
 
--- the device's numbers with T3247 running or not
-unfoldable pub ticked : ℕ → Device → Device
-ticked t3247 d = record {
+-- the device's numbers with T3247 and T3512 running or not
+unfoldable pub ticked : ℕ → ℕ → Device → Device
+ticked t3247 t3512 d = record {
   card = d .card;
   home = d .home;
+  t3512length = d .t3512length;
   suci = d .suci;
   cardlimit = d .cardlimit;
   banlimit = d .banlimit;
   n1limit = d .n1limit;
   t3247 = t3247;
+  t3512 = t3512;
+  due = d .due;
   capability = d .capability;
   security = d .security;
   roaming = d .roaming;
   regional = d .regional;
 }
 
--- this card; limits and capabilities stay. T3247 and the lists' counts become those of a new record by the order and the tasks of the effect
+-- T3512's time that is kept, and whether a periodic update is due
+unfoldable pub scheduled : ℕ → ℕ → Device → Device
+scheduled t3512length due d = record {
+  card = d .card;
+  home = d .home;
+  t3512length = t3512length;
+  suci = d .suci;
+  cardlimit = d .cardlimit;
+  banlimit = d .banlimit;
+  n1limit = d .n1limit;
+  t3247 = d .t3247;
+  t3512 = d .t3512;
+  due = due;
+  capability = d .capability;
+  security = d .security;
+  roaming = d .roaming;
+  regional = d .regional;
+}
+
+-- this card; limits and capabilities stay. The timers and the lists' counts become those of a new record by the orders and the tasks of the effect
 unfoldable pub carded : ℕ → ℕ → Device → Device
 carded home suci d = record {
   card = 1;
   home = home;
+  t3512length = 3240;
   suci = suci;
   cardlimit = d .cardlimit;
   banlimit = d .banlimit;
   n1limit = d .n1limit;
   t3247 = d .t3247;
+  t3512 = d .t3512;
+  due = 0;
   capability = d .capability;
   security = d .security;
   roaming = d .roaming;
@@ -76,28 +102,55 @@ idle = record { mine = deed.Nothing; theirs = deed.Nothing; roaming = task.Nothi
 abbrev pub onBoth : Deed → Task → Keep → Work
 onBoth d t k = record { mine = d; theirs = d; roaming = t; regional = t; keep = k }
 
--- an event of one access that touches no array and not T3247
+-- an event of one access that touches no array and no timer of the device
 abbrev pub plain : Hot → ℕ → Turn → Bool → Effect
-plain h w t restart = record { dev = h .dev; mine = t; theirs = still (otherOf h w); t3247 = Leave; work = idle; restart = restart }
+plain h w t restart = record { dev = h .dev; mine = t; theirs = still (otherOf h w); t3247 = Leave; t3512 = Leave; work = idle; restart = restart }
 
 -- Card change: a new record with the same limits and capabilities, this card, both states 1
 unfoldable pub cardEffect : Hot → ℕ → ℕ → Effect
-cardEffect h home suci = record { dev = carded home suci (h .dev); mine = renewed; theirs = renewed; t3247 = Stop; work = onBoth deed.Fresh task.Clear keep.Card; restart = false }
+cardEffect h home suci = record { dev = carded home suci (h .dev); mine = renewed; theirs = renewed; t3247 = Stop; t3512 = Stop; work = onBoth deed.Fresh task.Clear keep.Card; restart = false }
 
 unfoldable pub startEffect : Hot → ℕ → ℕ → ℕ → Effect
 startEffect h w net code = plain h w (started net code (accessOf h w)) false
 
+-- Update (document 02, R-5): "on access 0 also T3512" stops
+unfoldable pub updateEffect : Hot → ℕ → ℕ → ℕ → ℕ → ℕ → ℕ → Effect
+updateEffect h w regtype net code uplink sessions = record {
+  dev = h .dev;
+  mine = updated regtype net code uplink sessions (accessOf h w);
+  theirs = still (otherOf h w);
+  t3247 = Leave;
+  t3512 = cond (eqb w 0) Stop Leave;
+  work = idle;
+  restart = false;
+}
+
 unfoldable pub keyEffect : Hot → ℕ → ℕ → Effect
 keyEffect h w set = plain h w (keySet set (accessOf h w)) false
+
+-- Document 02, R-5: "An accept on access 0 starts T3512: the time given, which is kept, else the one kept, ..; not if zero or deactivated",
+-- which is kept as zero; a periodic update is "due until the next accept"
+unfoldable pub t3512Time : Accept → Device → ℕ
+t3512Time g d = cond (g .paced) (g .t3512length) (d .t3512length)
+
+unfoldable pub acceptT3512 : ℕ → ℕ → Order
+acceptT3512 w time = cond (eqb w 0) (cond (eqb time 0) Leave (Run time)) Leave
+
+unfoldable pub acceptDevice : ℕ → ℕ → Device → Device
+acceptDevice w time d = cond (eqb w 0) (scheduled time 0 d) d
+
+abbrev pub acceptWork : Seat → Accept → Work
+acceptWork s g = record { mine = deed.Accept s; theirs = deed.Nothing; roaming = task.Nothing; regional = task.Nothing; keep = keep.Gift g }
 
 -- Accept: T3502 length from the message, else 720 s; the network's forbidden mark on this access clears
 unfoldable pub acceptEffect : Hot → ℕ → Accept → Seen → Effect
 acceptEffect h w g s = record {
-  dev = h .dev;
+  dev = acceptDevice w (t3512Time g (h .dev)) (h .dev);
   mine = accepted (g .given) (g .count) (cond (g .timed) (g .t3502length) 720) (accessOf h w);
   theirs = still (otherOf h w);
   t3247 = Leave;
-  work = record { mine = deed.Accept (seatOf s (accessOf h w .net) 1); theirs = deed.Nothing; roaming = task.Nothing; regional = task.Nothing; keep = keep.Gift g };
+  t3512 = acceptT3512 w (t3512Time g (h .dev));
+  work = acceptWork (seatOf s (accessOf h w .net) 1) g;
   restart = false;
 }
 
@@ -110,18 +163,34 @@ clockEffect h number w =
 
 -- T3247 out: stops; both accesses' entries and both lists are gone through
 unfoldable pub t3247Effect : Hot → ℕ → Effect
-t3247Effect h w = record { dev = h .dev; mine = still (accessOf h w); theirs = still (otherOf h w); t3247 = Stop; work = onBoth deed.Sweep task.Sweep keep.Nothing; restart = false }
+t3247Effect h w = record { dev = h .dev; mine = still (accessOf h w); theirs = still (otherOf h w); t3247 = Stop; t3512 = Leave; work = onBoth deed.Sweep task.Sweep keep.Nothing; restart = false }
+
+-- T3512 out (document 02, R-5): "stops it and makes a periodic update due"
+unfoldable pub t3512Effect : Hot → ℕ → Effect
+t3512Effect h w = record {
+  dev = scheduled (h .dev .t3512length) 1 (h .dev);
+  mine = still (accessOf h w);
+  theirs = still (otherOf h w);
+  t3247 = Leave;
+  t3512 = Stop;
+  work = idle;
+  restart = false;
+}
+
+unfoldable pub deviceEffect : Hot → ℕ → ℕ → Effect
+deviceEffect h number w = cond (eqb number 4) (t3247Effect h w) (t3512Effect h w)
 
 unfoldable pub timerEffect : Hot → ℕ → ℕ → Effect
-timerEffect h number w = cond (isDeviceTimer number) (t3247Effect h w) (clockEffect h number w)
+timerEffect h number w = cond (isDeviceTimer number) (deviceEffect h number w) (clockEffect h number w)
 
--- Power cycle
+-- Power cycle: "timers stop"
 unfoldable pub powerEffect : Hot → Effect
 powerEffect h = record {
   dev = h .dev;
   mine = cycled (h .dev .card) (h .a0);
   theirs = cycled (h .dev .card) (h .a1);
   t3247 = Stop;
+  t3512 = Stop;
   work = onBoth deed.Power task.Clear keep.Nothing;
   restart = false;
 }
@@ -152,6 +221,7 @@ rejectEffect h w protected draw s cause r = record {
   mine = rowTurn r w (h .dev .cardlimit) cause (s .found) (accessOf h w);
   theirs = otherTurn r (h .dev .cardlimit) (otherOf h w);
   t3247 = rejectT3247 (h .dev .t3247) protected cause draw;
+  t3512 = Leave;
   work = rowWork r w protected cause (accessOf h w) s;
   restart = false;
 }
@@ -163,6 +233,7 @@ sidesOf w e = record {
   t0 = cond (eqb w 0) (e .mine) (e .theirs);
   t1 = cond (eqb w 0) (e .theirs) (e .mine);
   t3247 = e .t3247;
+  t3512 = e .t3512;
   work = e .work;
   restart = e .restart;
 }

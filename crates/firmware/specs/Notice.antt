@@ -32,6 +32,7 @@ noticeOf p = record {
   c0 = timersOf (p .c0);
   c1 = timersOf (p .c1);
   t3247 = timerNotice (p .t3247);
+  t3512 = timerNotice (p .t3512);
   restart = askedNumber (p .restart);
   leave = askedNumber (p .leave);
   update = askedNumber (p .update);

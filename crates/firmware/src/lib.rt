@@ -30,6 +30,7 @@ pub struct Notice {
     pub c0: Timers,
     pub c1: Timers,
     pub t3247: Timer,
+    pub t3512: Timer,
     pub restart: u32,
     pub leave: u32,
     pub update: u32,

@@ -53,15 +53,17 @@ fn request_of(a: Asked) -> u32
 pub(crate) fn notice_of(p: Reply) -> Notice
     ensures { λ r. ⌜ r ≡ noticeOf p ⌝ }
 {
-    let u = p.c0;
-    let v = p.c1;
-    let w = p.t3247;
+    let t = p.c0;
+    let u = p.c1;
+    let v = p.t3247;
+    let w = p.t3512;
     let x = p.restart;
     let y = p.leave;
     let z = p.update;
-    let c0 = timers_of(u);
-    let c1 = timers_of(v);
-    let t3247 = timer_of(w);
+    let c0 = timers_of(t);
+    let c1 = timers_of(u);
+    let t3247 = timer_of(v);
+    let t3512 = timer_of(w);
     let restart = request_of(x);
     let leave = request_of(y);
     let update = request_of(z);
@@ -69,6 +71,7 @@ pub(crate) fn notice_of(p: Reply) -> Notice
         c0,
         c1,
         t3247,
+        t3512,
         restart,
         leave,
         update,

@@ -26,9 +26,9 @@ use Rattle.turns.specs.Words.{acrossOf}
 use Rattle.turns.specs.Turns.{still, otherTurned, otherTurn}
 use Rattle.effects.specs.declared.Keep.{Keep}
 use Rattle.effects.specs.declared.Keep.the-variants as keep
-use Rattle.effects.specs.Effects.{Effect, startEffect, keyEffect, acceptEffect, clockEffect, timerEffect, rowWork, rejectEffect}
+use Rattle.effects.specs.Effects.{Effect, startEffect, updateEffect, keyEffect, acceptEffect, clockEffect, t3512Effect, deviceEffect, timerEffect, rowWork, rejectEffect}
 use Rattle.rules.specs.declared.Event.{Event}
-use Rattle.rules.specs.declared.Event.the-variants.{Card, Start, Message, Timer, Power, Key, Unknown}
+use Rattle.rules.specs.declared.Event.the-variants.{Card, Start, Message, Timer, Power, Key, Update, Unknown}
 use Rattle.record.specs.Sides.{accessOf, otherOf}
 use Rattle.checks.specs.Answers.{rowNow}
 use Rattle.rules.specs.Plan.{accessIn, messageEffect, effectOf, refusedReply, takenPlan}
@@ -117,14 +117,24 @@ module _ (r : Record) where
       go false q true q′ = rw (q, q′) (record { theirs = refl; deed = refl; kept = tt })
       go false q false q′ = rw (q, q′) (record { theirs = refl; deed = refl; kept = tt })
 
+  -- T3512 out changes numbers of the device alone
+  timer-own : (number b : ℕ) → eqb number 4 ≡ false → Own b false (timerEffect (r .hot) number b)
+  unfolding timerEffect isDeviceTimer deviceEffect t3512Effect
+  timer-own number b q = go (eqb number 5) refl
+    where
+      go : (s : Bool) → eqb number 5 ≡ s → Own b false (timerEffect (r .hot) number b)
+      go true q′ = rw (q, q′) (record { theirs = refl; deed = refl; kept = tt })
+      go false q′ = rw (q, q′) (clock-own number b)
+
   event-own : (e : Event) (s : Seen) (octets : List ℕ) → isOwn e ≡ true → Own (accessIn e) (crosses e (readingOf octets)) (effectOf (r .hot) e s octets)
-  unfolding isOwn crosses accessIn effectOf startEffect keyEffect timerEffect isDeviceTimer
+  unfolding isOwn crosses accessIn effectOf startEffect updateEffect keyEffect
   event-own (Card home) s octets o = absurd (false≢true o)
   event-own (Start b manual net code) s octets o = record { theirs = refl; deed = refl; kept = tt }
   event-own (Message b protected draw) s octets o = message-own b protected draw (readingOf octets) s
-  event-own (Timer number b) s octets o = rw (flip-true (eqb number 4) o) (clock-own number b)
+  event-own (Timer number b) s octets o = timer-own number b (flip-true (eqb number 4) o)
   event-own Power s octets o = absurd (false≢true o)
   event-own (Key b set) s octets o = record { theirs = refl; deed = refl; kept = tt }
+  event-own (Update b regtype net code uplink sessions) s octets o = record { theirs = refl; deed = refl; kept = tt }
   event-own Unknown s octets o = absurd (false≢true o)
 
   module _ (e : Event) (octets : List ℕ) (w : ℕ) (hw : w < 2) (q : eqb (accessIn e) w ≡ false) where

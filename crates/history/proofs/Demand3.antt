@@ -12,7 +12,7 @@ use Rattle.record.specs.New.{newDevice, newAccess, emptyRecord, newRecord, mayM
 use Rattle.ranges.specs.Valid.{validOf}
 use Rattle.record.specs.declared.Record.{Record}
 use Rattle.rules.specs.declared.Event.{Event}
-use Rattle.rules.specs.declared.Event.the-variants.{Card, Start, Message, Timer, Power, Key, Unknown}
+use Rattle.rules.specs.declared.Event.the-variants.{Card, Start, Message, Timer, Power, Key, Update, Unknown}
 use Rattle.record.specs.Sides.{accessOf}
 use Rattle.rules.specs.Plan.{refusedReply}
 use Rattle.events.specs.declared.Outcome.{Outcome}
@@ -51,6 +51,7 @@ alike p q t f f′ w n s (Message b protected draw) octets = rw (p, q, t, s)
 alike p q t f f′ w n s (Timer number b) octets = cc
 alike p q t f f′ w n s Power octets = cc
 alike p q t f f′ w n s (Key b set) octets = cc
+alike p q t f f′ w n s (Update b regtype net code uplink sessions) octets = cc
 alike p q t f f′ w n s Unknown octets = cc
 
 module _ (l : Limits) (r : Record) (t : List Heard) (g : Agrees l r t) (x : Heard) where
@@ -76,6 +77,7 @@ module _ (l : Limits) (r : Record) (t : List Heard) (g : Agrees l r t) (x : Hear
           card (Timer number b) c k = absurd (false≢true c)
           card Power c k = absurd (false≢true c)
           card (Key b set) c k = absurd (false≢true c)
+          card (Update b regtype net code uplink sessions) c k = absurd (false≢true c)
           card Unknown c k = absurd (false≢true c)
       go false q =
           rw q (event-cell r (g .sized .e0) (g .sized .e1) e (x .octets) k q w n hw

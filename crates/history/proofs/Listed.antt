@@ -1,4 +1,4 @@
--- Check 8 of a start is what the history says: the network is listed by its marks, and nothing else. Assumes nothing.
+-- Check 8 of a start, and of an update, is what the history says: the network is listed by its marks, and nothing else. Assumes nothing.
 use Prim.Native.Nat.{ℕ, zero, suc, _<_}
 use mathlib.Core.Path.{_≡_, refl, _∙_, ap}
 use mathlib.Core.Bool.{Bool}
@@ -10,7 +10,7 @@ use Rattle.record.specs.Sides.{accessOf}
 use Rattle.record.specs.New.{newRecord}
 use Rattle.record.specs.declared.Record.{Record}
 use Rattle.entries.specs.Entries.{seenIn}
-use Rattle.rules.specs.declared.Event.the-variants.{Start}
+use Rattle.rules.specs.declared.Event.the-variants.{Start, Update}
 use Rattle.rules.specs.Plan.{askOf}
 use Rattle.checks.specs.Answers.{isFree}
 use Rattle.events.specs.Parts.{sightOf, seenBy, seenOf}
@@ -35,3 +35,10 @@ pub check8 : (x y z : ℕ) (c s : List ℕ) (xs : List Heard) (w manual net code
     → isFree manual (seenAt (runOf (newRecord x y z c s) xs) (Start w manual net code))
     ≡ passes manual (saidOf (record { ban = y; n1 = z }) xs (answersOf (newRecord x y z c s) xs) w net)
 check8 x y z c s xs w manual net code h = seen _ w manual net code h ∙ ap (passes manual) (demand3 x y z c s xs w net h)
+
+-- an update passes as a start that is not manual
+pub check8-update : (x y z : ℕ) (c s : List ℕ) (xs : List Heard) (w regtype net code uplink sessions : ℕ) → w < 2
+    → isFree 0 (seenAt (runOf (newRecord x y z c s) xs) (Update w regtype net code uplink sessions))
+    ≡ passes 0 (saidOf (record { ban = y; n1 = z }) xs (answersOf (newRecord x y z c s) xs) w net)
+unfolding askOf
+check8-update x y z c s xs w regtype net code uplink sessions h = check8 x y z c s xs w 0 net code h

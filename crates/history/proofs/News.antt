@@ -20,9 +20,9 @@ use Rattle.messages.specs.Message.{readingOf}
 use Rattle.turns.specs.Timers.{isDeviceTimer}
 use Rattle.turns.specs.declared.Row.{Row}
 use Rattle.checks.specs.Answers.{rowNow, readAnswer}
-use Rattle.effects.specs.Effects.{cardEffect, startEffect, keyEffect, acceptEffect, clockEffect, t3247Effect, timerEffect, powerEffect, rowWork, rejectEffect}
+use Rattle.effects.specs.Effects.{cardEffect, startEffect, updateEffect, keyEffect, acceptEffect, clockEffect, t3247Effect, t3512Effect, deviceEffect, timerEffect, powerEffect, rowWork, rejectEffect}
 use Rattle.rules.specs.declared.Event.{Event}
-use Rattle.rules.specs.declared.Event.the-variants.{Card, Start, Message, Timer, Power, Key, Unknown}
+use Rattle.rules.specs.declared.Event.the-variants.{Card, Start, Message, Timer, Power, Key, Update, Unknown}
 use Rattle.rules.specs.Plan.{accessIn, answerOf, messageEffect, effectOf}
 use Rattle.validity.specs.Answered.{seenAt, answeredBy}
 use Rattle.validity.specs.Sized.{Columns}
@@ -131,19 +131,28 @@ module _ (r : Record) (b protected draw : ℕ) where
         (λ q. rw (others (readingOf octets)) tt)
 
 module _ (r : Record) where
-  -- T3247 sweeps both accesses, the timers of an access do nothing
-  timer-deeds : (number b : ℕ) → (timerEffect (r .hot) number b .work .mine ≡ cond (isDeviceTimer number) deed.Sweep deed.Nothing)
-      × (timerEffect (r .hot) number b .work .theirs ≡ cond (isDeviceTimer number) deed.Sweep deed.Nothing)
-  unfolding timerEffect t3247Effect clockEffect
-  timer-deeds number b = go (isDeviceTimer number) refl (eqb number 1) refl (eqb number 2) refl
+  clock-deeds : (number b : ℕ) → (clockEffect (r .hot) number b .work .mine ≡ deed.Nothing) × (clockEffect (r .hot) number b .work .theirs ≡ deed.Nothing)
+  unfolding clockEffect
+  clock-deeds number b = go (eqb number 1) refl (eqb number 2) refl
     where
-      go : (s : Bool) → isDeviceTimer number ≡ s → (s′ : Bool) → eqb number 1 ≡ s′ → (s″ : Bool) → eqb number 2 ≡ s″
-          → (timerEffect (r .hot) number b .work .mine ≡ cond (isDeviceTimer number) deed.Sweep deed.Nothing)
-          × (timerEffect (r .hot) number b .work .theirs ≡ cond (isDeviceTimer number) deed.Sweep deed.Nothing)
-      go true q s′ q′ s″ q″ = rw q (refl, refl)
-      go false q true q′ s″ q″ = rw (q, q′) (refl, refl)
-      go false q false q′ true q″ = rw (q, q′, q″) (refl, refl)
-      go false q false q′ false q″ = rw (q, q′, q″) (refl, refl)
+      go : (s : Bool) → eqb number 1 ≡ s → (s′ : Bool) → eqb number 2 ≡ s′
+          → (clockEffect (r .hot) number b .work .mine ≡ deed.Nothing) × (clockEffect (r .hot) number b .work .theirs ≡ deed.Nothing)
+      go true q s′ q′ = rw q (refl, refl)
+      go false q true q′ = rw (q, q′) (refl, refl)
+      go false q false q′ = rw (q, q′) (refl, refl)
+
+  -- T3247 sweeps both accesses, T3512 and the timers of an access do nothing
+  timer-deeds : (number b : ℕ) → (timerEffect (r .hot) number b .work .mine ≡ cond (eqb number 4) deed.Sweep deed.Nothing)
+      × (timerEffect (r .hot) number b .work .theirs ≡ cond (eqb number 4) deed.Sweep deed.Nothing)
+  unfolding timerEffect isDeviceTimer deviceEffect t3247Effect t3512Effect
+  timer-deeds number b = go (eqb number 4) refl (eqb number 5) refl
+    where
+      go : (s : Bool) → eqb number 4 ≡ s → (s′ : Bool) → eqb number 5 ≡ s′
+          → (timerEffect (r .hot) number b .work .mine ≡ cond (eqb number 4) deed.Sweep deed.Nothing)
+          × (timerEffect (r .hot) number b .work .theirs ≡ cond (eqb number 4) deed.Sweep deed.Nothing)
+      go true q s′ q′ = rw q (refl, refl)
+      go false q true q′ = rw (q, q′) (refl, refl)
+      go false q false q′ = rw (q, q′) (clock-deeds number b)
 
   timer-news : (s : Bool) (n : ℕ) → deedNews (cond s deed.Sweep deed.Nothing) n ≡ cond s ended quiet
   timer-news true n = refl
@@ -155,7 +164,7 @@ module _ (r : Record) where
 
   event-news : (e : Event) (octets : List ℕ) → isTaken (answeredBy r e octets) ≡ true → isCardChange e ≡ false → (w n : ℕ)
       → deedNews (deedIn r e octets w) n ≡ eventNews (r .hot .dev .home) (λ (v : ℕ). accessOf (r .hot) v .net) w n e octets
-  unfolding accessIn effectOf startEffect keyEffect powerEffect isCardChange eventNews isDeviceTimer
+  unfolding accessIn effectOf startEffect updateEffect keyEffect powerEffect isCardChange eventNews
   event-news (Card home) octets t k w n = absurd (true≢false k)
   event-news (Start b manual net code) octets t k w n = either-news (eqb b w) deed.Nothing deed.Nothing n quiet (λ q. refl) (λ q. refl)
   event-news (Message b protected draw) octets t k w n = message-news r b protected draw octets t w n
@@ -163,18 +172,20 @@ module _ (r : Record) where
       either-news (eqb b w) _ _ n _ (λ q. rw (timer-deeds number b .0) (timer-news (eqb number 4) n)) (λ q. rw (timer-deeds number b .1) (timer-news (eqb number 4) n))
   event-news Power octets t k w n = either-news (eqb 0 w) deed.Power deed.Power n _ (λ q. refl) (λ q. refl)
   event-news (Key b set) octets t k w n = either-news (eqb b w) deed.Nothing deed.Nothing n quiet (λ q. refl) (λ q. refl)
+  event-news (Update b regtype net code uplink sessions) octets t k w n = either-news (eqb b w) deed.Nothing deed.Nothing n quiet (λ q. refl) (λ q. refl)
   event-news Unknown octets t k w n = either-news (eqb 0 w) deed.Nothing deed.Nothing n quiet (λ q. refl) (λ q. refl)
 
   event-fits : (e : Event) (octets : List ℕ) → isTaken (answeredBy r e octets) ≡ true → isCardChange e ≡ false → (w : ℕ)
       → Fits (deedIn r e octets w) (accessOf (r .hot) w .entries) (entriesIn r w .nets)
-  unfolding accessIn effectOf startEffect keyEffect powerEffect isCardChange
+  unfolding accessIn effectOf startEffect updateEffect keyEffect powerEffect isCardChange
   event-fits (Card home) octets t k w = absurd (true≢false k)
   event-fits (Start b manual net code) octets t k w = either-fits (eqb b w) deed.Nothing deed.Nothing _ _ (λ q. tt) (λ q. tt)
   event-fits (Message b protected draw) octets t k w = message-fits r b protected draw octets t w
   event-fits (Timer number b) octets t k w =
-      either-fits (eqb b w) _ _ _ _ (λ q. rw (timer-deeds number b .0) (timer-fits (isDeviceTimer number) _ _)) (λ q. rw (timer-deeds number b .1) (timer-fits (isDeviceTimer number) _ _))
+      either-fits (eqb b w) _ _ _ _ (λ q. rw (timer-deeds number b .0) (timer-fits (eqb number 4) _ _)) (λ q. rw (timer-deeds number b .1) (timer-fits (eqb number 4) _ _))
   event-fits Power octets t k w = either-fits (eqb 0 w) deed.Power deed.Power _ _ (λ q. tt) (λ q. tt)
   event-fits (Key b set) octets t k w = either-fits (eqb b w) deed.Nothing deed.Nothing _ _ (λ q. tt) (λ q. tt)
+  event-fits (Update b regtype net code uplink sessions) octets t k w = either-fits (eqb b w) deed.Nothing deed.Nothing _ _ (λ q. tt) (λ q. tt)
   event-fits Unknown octets t k w = either-fits (eqb 0 w) deed.Nothing deed.Nothing _ _ (λ q. tt) (λ q. tt)
 
   -- the cell of network n on access w after a taken event

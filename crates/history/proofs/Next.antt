@@ -105,12 +105,12 @@ module _ (r : Record) (e : Event) (octets : List ℕ) where
   deedIn w = cond (eqb (accessIn e) w) (effectIn r e octets .work .mine) (effectIn r e octets .work .theirs)
 
   module _ (t : isTaken (answeredBy r e octets) ≡ true) where
-    -- a number of the device that is neither T3247's nor a count of an area list
-    pub taken-device : (f : Device → ℕ) → ((t3247 : ℕ) (d : Device) → f (ticked t3247 d) ≡ f d) → ((m n : ℕ) (h : Hot) → f (withCounts m n h .dev) ≡ f (h .dev))
+    -- a number of the device that is neither a timer's nor a count of an area list
+    pub taken-device : (f : Device → ℕ) → ((t3247 t3512 : ℕ) (d : Device) → f (ticked t3247 t3512 d) ≡ f d) → ((m n : ℕ) (h : Hot) → f (withCounts m n h .dev) ≡ f (h .dev))
         → f (next .hot .dev) ≡ f (effectIn r e octets .dev)
     unfolding joinedOf together carriedOut doneOf takenPlan hotAfter
     taken-device f k m =
-        ap (λ (o : Outcome). f (o .next .hot .dev)) (taken-plan r e octets t) ∙ m _ _ (plan .hot) ∙ ap f (dev-of _ (accessIn e) _ _) ∙ k _ (effectIn r e octets .dev)
+        ap (λ (o : Outcome). f (o .next .hot .dev)) (taken-plan r e octets t) ∙ m _ _ (plan .hot) ∙ ap f (dev-of _ (accessIn e) _ _) ∙ k _ _ (effectIn r e octets .dev)
 
     pub taken-entries : (w : ℕ) → w < 2
         → entriesIn next w ≡ entriesAfter (deedIn w) (accessOf (r .hot) w .entries) (r .hot .dev .banlimit) (r .hot .dev .n1limit) (entriesIn r w)

@@ -1,5 +1,5 @@
 -- The round trip with no condition: a record run from a new one has its arrays' lengths, whatever the events, so what is written of it reads back; and in
--- state 4 it is written. Two requests octet by octet, computed from the events. Assumes nothing.
+-- state 4 it is written. Three requests octet by octet, computed from the events. Assumes nothing.
 use Prim.Native.Nat.{ℕ, _≤_}
 use mathlib.Core.Path.{_≡_, refl}
 use mathlib.Core.List.{List, [], _∷_}
@@ -20,7 +20,7 @@ use Rattle.request.specs.Writing.{fieldsOf, requestOf, writingAnswer, writtenOf
 use Rattle.request.proofs.Recorded.{Whole, read-back}
 use Rattle.request.proofs.Short.{request-short}
 use Rattle.rules.specs.declared.Event.{Event}
-use Rattle.rules.specs.declared.Event.the-variants.{Card, Start, Message, Power, Key}
+use Rattle.rules.specs.declared.Event.the-variants.{Card, Start, Message, Power, Key, Update}
 use Rattle.laws.specs.Upto as upto
 use Rattle.octets.specs.Element as octets
 use Rattle.timers.specs.Timer as timers
@@ -64,15 +64,15 @@ module _ (cardlimit banlimit n1limit : ℕ) (capability security : List ℕ) (xs
       let whole : Whole reached = sized-whole reached (run-sized _ xs (made-sized cardlimit banlimit n1limit capability security)) in
       read-back reached access b whole taken
 
-  -- and so it does in state 4, into a buffer of 102 octets
-  pub writes : AllOctets xs → access ≤ 1 → accessOf (reached .hot) access .state ≡ 4 → 102 ≤ length b → writtenOf reached access (length b) .answer ≡ Taken
+  -- and so it does in state 4, into a buffer of 110 octets
+  pub writes : AllOctets xs → access ≤ 1 → accessOf (reached .hot) access .state ≡ 4 → 110 ≤ length b → writtenOf reached access (length b) .answer ≡ Taken
   unfolding writtenOf writingAnswer
   writes o a state n =
       let valid = ran-valid cardlimit banlimit n1limit capability security xs o in
       let short : length (requestOf reached access) ≤ length b = omega (arith, request-short reached access valid state) in
       rw (le-leb access 1 a, valid, state, le-leb (length (requestOf reached access)) (length b) short)
 
--- Two requests as another decoder reads them: ngKSI 7 and a SUCI; ngKSI 3 and a GUTI, with all three elements
+-- Three requests: ngKSI 7 and a SUCI; ngKSI 3 and a GUTI, with all three elements, both as another decoder reads them; and an update's, with 40 and 50
 
 abbrev heard : Event → List ℕ → Heard
 heard e octets = record { event = e; octets = octets }
@@ -81,14 +81,20 @@ heard e octets = record { event = e; octets = octets }
 abbrev begun : List Heard → List Heard
 begun xs = heard (Card 0x00F110) (0x01 ∷ 0x00 ∷ 0xF1 ∷ 0x10 ∷ 0xF0 ∷ 0xFF ∷ 0x00 ∷ 0x00 ∷ 0x07 ∷ []) ∷ heard (Start 0 0 0x00F220 0x00002A) [] ∷ xs
 
--- key set 3, an accept with a GUTI, a power cycle, and the start again
-abbrev again : List Heard
-again =
+-- key set 3, an accept with a GUTI
+abbrev taught : List Heard → List Heard
+taught xs =
     heard (Key 0 3) []
     ∷ heard (Message 0 1 1800) (0x7E ∷ 0x00 ∷ 0x42 ∷ 0x01 ∷ 0x01 ∷ 0x77 ∷ 0x00 ∷ 0x0B ∷ 0xF2 ∷ 0x00 ∷ 0xF1 ∷ 0x10 ∷ 0x80 ∷ 0x01 ∷ 0xC5 ∷ 0xD1 ∷ 0xC2 ∷ 0xB3 ∷ 0xA4 ∷ [])
-    ∷ heard Power []
-    ∷ heard (Start 0 0 0x00F220 0x00002A) []
-    ∷ []
+    ∷ xs
+
+-- a power cycle, and the start again
+abbrev again : List Heard
+again = taught (heard Power [] ∷ heard (Start 0 0 0x00F220 0x00002A) [] ∷ [])
+
+-- a mobility update in the next area: uplink data in sessions 1 and 10, active sessions 5 and 15
+abbrev moved : List Heard
+moved = taught (heard (Update 0 2 0x00F220 0x00002B 0x0402 0x8020) [] ∷ [])
 
 abbrev sent : List Heard → List ℕ
 sent xs = writing.requestOf (runOf (new.newRecord 3 3 3 (0x00 ∷ []) (0xF0 ∷ 0xF0 ∷ [])) (begun xs)) 0
@@ -96,5 +102,7 @@ sent xs = writing.requestOf (runOf (new.newRecord 3 3 3 (0x00 ∷ []) (0xF0 ∷ 
 pub rows-sent : (sent [] ≡ 0x7E ∷ 0x00 ∷ 0x41 ∷ 0x71 ∷ 0x00 ∷ 0x09 ∷ 0x01 ∷ 0x00 ∷ 0xF1 ∷ 0x10 ∷ 0xF0 ∷ 0xFF ∷ 0x00 ∷ 0x00 ∷ 0x07 ∷ 0x2E ∷ 0x02 ∷ 0xF0 ∷ 0xF0 ∷ [])
     × (sent again ≡ 0x7E ∷ 0x00 ∷ 0x41 ∷ 0x31 ∷ 0x00 ∷ 0x0B ∷ 0xF2 ∷ 0x00 ∷ 0xF1 ∷ 0x10 ∷ 0x80 ∷ 0x01 ∷ 0xC5 ∷ 0xD1 ∷ 0xC2 ∷ 0xB3 ∷ 0xA4
     ∷ 0x10 ∷ 0x01 ∷ 0x00 ∷ 0x2E ∷ 0x02 ∷ 0xF0 ∷ 0xF0 ∷ 0x52 ∷ 0x00 ∷ 0xF2 ∷ 0x20 ∷ 0x00 ∷ 0x00 ∷ 0x2A ∷ [])
-unfolding upto.upto upto.copied upto.seekTo upto.allTo upto.distinctTo octets.formatOf octets.leadBy octets.contentsBy octets.readAs octets.leadOf octets.contentsOf octets.sizeOf octets.elementOf octets.joined octets.elementsOf octets.elementsFrom octets.firstOf octets.endOf messages.gutiOf messages.countOf messages.tripletsOf messages.t3502Of messages.acceptOf messages.endedBy messages.acceptedOf messages.acceptReading messages.rejectReading messages.typeReading messages.openedBy messages.readingOf entries.entriesHeld entries.placeIn entries.hasEntry entries.peekAt entries.seenIn entries.liftMark entries.bumped entries.putAt entries.clearUnless entries.raised entries.banned entries.barredBy entries.unforbidden entries.swept entries.powered entries.none entries.entriesAfter areas.areasHeld areas.areaPlace areas.listedIn areas.placed areas.placedCount areas.kept areas.stayed areas.sweptList areas.listAfter areas.countAfter network.isNetwork new.newDevice new.newAccess new.emptyRecord new.newRecord valid.deviceRanges valid.modeRanges valid.identityRanges valid.heldRanges valid.accessRanges valid.rangesOf valid.countersOf valid.cardOf valid.suciOf valid.codesOf valid.clockOf valid.onceOf valid.validOf answers.numberOf answers.isTaken clocks.flagAfter clocks.isDeviceTimer clocks.runsOn clocks.toldOf clocks.clocksOf setters.forgotten setters.inState setters.withStatus setters.withAttempts setters.emptied setters.counted setters.pending setters.keyed setters.taught setters.entered clocks.clocked rows.isCard rows.isNetworkNo rows.isAreaNo rows.isN1No rows.isProtocol words.isMark words.listOf words.markIn words.acrossOf words.applied turns.started turns.keySet turns.accepted turns.failed turns.t3510Out turns.t3511Out turns.t3502Out turns.cycled turns.renewed turns.turned turns.rowTurn turns.otherTurned turns.otherTurn hot.accessOf hot.otherOf hot.hotOf checks.mayStart checks.isSame checks.isFree checks.placeAnswer checks.startRange checks.startAnswer checks.rowNow checks.isFull checks.rejectAnswer checks.readAnswer checks.messageRange checks.messageAnswer checks.timerRange checks.runs checks.timerAnswer checks.keyAnswer checks.cardAnswer effects.ticked effects.carded effects.cardEffect effects.startEffect effects.keyEffect effects.acceptEffect effects.clockEffect effects.t3247Effect effects.timerEffect effects.powerEffect effects.markDeed effects.rowDeed effects.rowWork effects.rejectEffect plan.askOf plan.siteAt plan.siteOf plan.accessIn plan.answerOf plan.messageEffect plan.effectOf plan.hotAfter plan.takenReply plan.isIgnoring plan.refusedReply plan.takenPlan plan.refusedPlan plan.decidedBy plan.planOf parts.seenBy parts.sightOf parts.seenOf parts.listedOf parts.plannedOf plan.deedOn plan.deedOf parts.tableAfter parts.withCounts parts.doneOf parts.carriedOut parts.partsAfter parts.networksOf parts.gutiAfter parts.equivalentsAfter parts.suciAfter parts.keptAfter step.together step.joinedOf step.advanceOf step.stepOf runOf layout.layout layout.shown layout.octetsOf layout.opening layout.openingHead layout.itemsOf layout.laid layout.itemOctets layout.withLead layout.lengthIn writing.gutisOf writing.lastOf writing.sayingOf writing.saysOf writing.fieldsOf writing.requestOf identity.isPending identity.equivalentsHeld identity.isAmong identity.isEquivalent identity.ownFirst identity.orderOf identity.slotOf identity.partOf identity.identityOf timers.unitOf timers.spanOf
-rows-sent = (refl, refl)
+    × (sent moved ≡ 0x7E ∷ 0x00 ∷ 0x41 ∷ 0x32 ∷ 0x00 ∷ 0x0B ∷ 0xF2 ∷ 0x00 ∷ 0xF1 ∷ 0x10 ∷ 0x80 ∷ 0x01 ∷ 0xC5 ∷ 0xD1 ∷ 0xC2 ∷ 0xB3 ∷ 0xA4
+    ∷ 0x10 ∷ 0x01 ∷ 0x00 ∷ 0x2E ∷ 0x02 ∷ 0xF0 ∷ 0xF0 ∷ 0x52 ∷ 0x00 ∷ 0xF2 ∷ 0x20 ∷ 0x00 ∷ 0x00 ∷ 0x2A ∷ 0x40 ∷ 0x02 ∷ 0x02 ∷ 0x04 ∷ 0x50 ∷ 0x02 ∷ 0x20 ∷ 0x80 ∷ [])
+unfolding upto.upto upto.copied upto.seekTo upto.allTo upto.distinctTo octets.formatOf octets.leadBy octets.contentsBy octets.readAs octets.leadOf octets.contentsOf octets.sizeOf octets.elementOf octets.joined octets.elementsOf octets.elementsFrom octets.firstOf octets.endOf messages.gutiOf messages.countOf messages.tripletsOf messages.t3502Of messages.t3512Of messages.acceptOf messages.endedBy messages.acceptedOf messages.acceptReading messages.rejectReading messages.typeReading messages.openedBy messages.readingOf entries.entriesHeld entries.placeIn entries.hasEntry entries.peekAt entries.seenIn entries.liftMark entries.bumped entries.putAt entries.clearUnless entries.raised entries.banned entries.barredBy entries.unforbidden entries.swept entries.powered entries.none entries.entriesAfter areas.areasHeld areas.areaPlace areas.listedIn areas.placed areas.placedCount areas.kept areas.stayed areas.sweptList areas.listAfter areas.countAfter network.isNetwork new.newDevice new.newAccess new.emptyRecord new.newRecord valid.deviceRanges valid.periodicRanges valid.deviceNumbers valid.modeRanges valid.pendingRanges valid.identityRanges valid.heldRanges valid.accessRanges valid.rangesOf valid.countersOf valid.cardOf valid.suciOf valid.codesOf valid.clockOf valid.onceOf valid.validOf answers.numberOf answers.isTaken clocks.flagAfter clocks.isDeviceTimer clocks.runsIn clocks.runsOn clocks.toldOf clocks.clocksOf setters.forgotten setters.inState setters.withStatus setters.withAttempts setters.emptied setters.counted setters.pending setters.keyed setters.taught setters.entered clocks.clocked rows.isCard rows.isNetworkNo rows.isAreaNo rows.isN1No rows.isProtocol rows.isUpdating words.isMark words.listOf words.markIn words.acrossOf words.applied turns.started turns.updated turns.keySet turns.accepted turns.startFailed turns.updateFailed turns.failed turns.t3510Out turns.t3511Out turns.t3502Out turns.cycled turns.renewed turns.turned turns.rowTurn turns.otherTurned turns.otherTurn hot.accessOf hot.otherOf hot.hotOf checks.mayStart checks.isSame checks.isFree checks.placeAnswer checks.startRange checks.startAnswer checks.updateRange checks.mayUpdate checks.updateAnswer checks.rowNow checks.isFull checks.rejectAnswer checks.readAnswer checks.messageRange checks.messageAnswer checks.timerRange checks.runs checks.timerAnswer checks.keyAnswer checks.cardAnswer effects.ticked effects.scheduled effects.carded effects.cardEffect effects.startEffect effects.updateEffect effects.keyEffect effects.t3512Time effects.acceptT3512 effects.acceptDevice effects.acceptEffect effects.clockEffect effects.t3247Effect effects.t3512Effect effects.deviceEffect effects.timerEffect effects.powerEffect effects.markDeed effects.rowDeed effects.rowWork effects.rejectEffect plan.askOf plan.siteAt plan.siteOf plan.accessIn plan.answerOf plan.messageEffect plan.effectOf plan.hotAfter plan.takenReply plan.isIgnoring plan.refusedReply plan.takenPlan plan.refusedPlan plan.decidedBy plan.planOf parts.seenBy parts.sightOf parts.seenOf parts.listedOf parts.plannedOf plan.deedOn plan.deedOf parts.tableAfter parts.withCounts parts.doneOf parts.carriedOut parts.partsAfter parts.networksOf parts.gutiAfter parts.equivalentsAfter parts.suciAfter parts.keptAfter step.together step.joinedOf step.advanceOf step.stepOf runOf layout.layout layout.shown layout.octetsOf layout.opening layout.openingHead layout.itemsOf layout.laid layout.itemOctets layout.withLead layout.lengthIn writing.gutisOf writing.lastOf writing.uplinkOf writing.sessionsOf writing.sayingOf writing.saysOf writing.fieldsOf writing.requestOf identity.isPending identity.equivalentsHeld identity.isAmong identity.isEquivalent identity.ownFirst identity.orderOf identity.slotOf identity.partOf identity.identityOf timers.unitOf timers.spanOf timers.timer3Rows timers.span3Of
+rows-sent = (refl, refl, refl)

@@ -1,4 +1,4 @@
--- What a taken event leaves alone: the device's numbers and the pending networks; and how many entries it leaves, by its deeds. Assumes nothing.
+-- What a taken event leaves alone: the device's numbers but for T3512's, and the pending networks; and how many entries it leaves, by its deeds. Assumes nothing.
 use Prim.Native.Nat.{ℕ, zero, suc, _<_}
 use mathlib.Core.Path.{_≡_, refl, _∙_, ap}
 use mathlib.Core.Bool.{Bool, true, false, cond}
@@ -11,6 +11,7 @@ use Rattle.record.specs.Tests.{isFlag}
 use Rattle.record.specs.Answers.{isTaken}
 use Rattle.record.specs.New.{newAccess}
 use Rattle.record.specs.declared.Access.{Access}
+use Rattle.record.specs.declared.Device.{Device}
 use Rattle.record.specs.declared.Hot.{Hot}
 use Rattle.record.specs.declared.Record.{Record}
 use Rattle.record.specs.Setters.{inState, withStatus, withAttempts, forgotten, emptied, counted, pending, keyed, taught}
@@ -23,20 +24,20 @@ use Rattle.messages.specs.declared.Reading.the-variants as reading
 use Rattle.messages.specs.Message.{readingOf}
 use Rattle.turns.specs.Timers.{isDeviceTimer}
 use Rattle.turns.specs.Words.{Text, says, asT3510Out, Mark, noMark, forbiddenAndCounted, n1NotAllowedAndCounted, Across, untouched, cardCounterToLimit, counterAfter, isMark, markIn, acrossOf, applied}
-use Rattle.turns.specs.Rejects.{rowText}
-use Rattle.turns.specs.Turns.{started, keySet, renewed, failed, t3510Out, t3511Out, t3502Out, turned, rowTurn, otherTurned, otherTurn}
+use Rattle.turns.specs.Rejects.{isUpdating, rowText}
+use Rattle.turns.specs.Turns.{started, updated, keySet, renewed, startFailed, updateFailed, failed, t3510Out, t3511Out, t3502Out, turned, rowTurn, otherTurned, otherTurn}
 use Rattle.turns.specs.Turns as turns
 use Rattle.checks.specs.Answers.{rowNow}
-use Rattle.effects.specs.Effects.{Effect, cardEffect, startEffect, keyEffect, acceptEffect, clockEffect, t3247Effect, timerEffect, powerEffect, markDeed, rowDeed, rowWork, rejectEffect}
+use Rattle.effects.specs.Effects.{Effect, scheduled, cardEffect, startEffect, updateEffect, keyEffect, t3512Time, acceptDevice, acceptEffect, clockEffect, t3247Effect, t3512Effect, deviceEffect, timerEffect, powerEffect, markDeed, rowDeed, rowWork, rejectEffect}
 use Rattle.rules.specs.declared.Event.{Event}
-use Rattle.rules.specs.declared.Event.the-variants.{Card, Start, Message, Timer, Power, Key, Unknown}
+use Rattle.rules.specs.declared.Event.the-variants.{Card, Start, Message, Timer, Power, Key, Update, Unknown}
 use Rattle.rules.specs.Plan.{askOf, accessIn, answerOf, messageEffect, effectOf}
 use Rattle.events.specs.Parts.{sightOf, seenBy, seenOf}
 use Rattle.validity.specs.Answered.{seenAt, answeredBy}
 use Rattle.validity.proofs.Refusal.{effectIn}
 use Rattle.validity.proofs.Setters.{grown}
 use Rattle.validity.proofs.Own.{seatIn}
-use Rattle.validity.proofs.Taken.{start-passed, message-passed, timer-passed, key-passed}
+use Rattle.validity.proofs.Taken.{start-passed, message-passed, timer-passed, key-passed, update-passed}
 use Rattle.history.specs.Cell.{entriesIn}
 use Rattle.history.proofs.Cells.{countBy}
 use Rattle.history.proofs.Next.{other-of}
@@ -53,6 +54,7 @@ small r (Message w protected draw) octets t = flag-small w (message-passed (r .h
 small r (Timer number w) octets t = flag-small w (timer-passed (r .hot) number w t .0)
 small r Power octets t = omega arith
 small r (Key w set) octets t = flag-small w (key-passed (r .hot) w set t .0)
+small r (Update w regtype net code uplink sessions) octets t = flag-small w (update-passed (r .hot) w regtype net code uplink sessions _ _ t .0)
 small r Unknown octets t = omega arith
 
 -- both accesses' numbers, read from the event's own and the other
@@ -68,12 +70,14 @@ abbrev Left : ℕ → ℕ → Access → Type 0
 Left net entries a = (a .net ≡ net) × (a .entries ≡ entries)
 
 failed-left : (n : ℕ) (a : Access) → Left (a .net) (a .entries) (failed n a .access)
-unfolding failed inState withStatus withAttempts forgotten emptied
-failed-left n a = go (ltb n 5) refl
+unfolding failed startFailed updateFailed inState withStatus withAttempts forgotten emptied
+failed-left n a = go (isUpdating a) refl (ltb n 5) refl
   where
-    go : (b : Bool) → ltb n 5 ≡ b → Left (a .net) (a .entries) (failed n a .access)
-    go true q = rw q (refl, refl)
-    go false q = rw q (refl, refl)
+    go : (u : Bool) → isUpdating a ≡ u → (b : Bool) → ltb n 5 ≡ b → Left (a .net) (a .entries) (failed n a .access)
+    go true p true q = rw (p, q) (refl, refl)
+    go true p false q = rw (p, q) (refl, refl)
+    go false p true q = rw (p, q) (refl, refl)
+    go false p false q = rw (p, q) (refl, refl)
 
 text-left : (t : Text) (w limit cause : ℕ) (found : Bool) (a : Access) → Left (a .net) (cond (isMark (markIn t)) (grown found (a .entries)) (a .entries)) (turned t w limit cause found a .access)
 unfolding turned applied markIn isMark
@@ -91,9 +95,13 @@ mark-count noMark s count = refl
 mark-count forbiddenAndCounted s count = refl
 mark-count n1NotAllowedAndCounted s count = refl
 
--- an effect that leaves the device's numbers and the pending networks
+-- a number of the device that is neither T3512's time nor whether an update is due
+abbrev pub Untimed : Device → (Device → ℕ) → Type 0
+Untimed d f = (time due : ℕ) → f (scheduled time due d) ≡ f d
+
+-- an effect that leaves the device's numbers, but for those two, and the pending networks
 pub record Keeps (h : Hot) (b : ℕ) (e : Effect) : Type 0 where
-  pub dev : e .dev ≡ h .dev
+  pub dev : (f : Device → ℕ) → Untimed (h .dev) f → f (e .dev) ≡ f (h .dev)
   pub net : e .mine .access .net ≡ accessOf h b .net
   pub others : e .theirs .access .net ≡ otherOf h b .net
 
@@ -114,30 +122,43 @@ module _ (r : Record) where
       go : (s : Bool) → eqb number 1 ≡ s → (s′ : Bool) → eqb number 2 ≡ s′ → Keeps h b (clockEffect h number b) × Counts h b (clockEffect h number b)
       go true q s′ q′ =
           let l = failed-left (oneMore 5 (accessOf h b .attempts)) (accessOf h b) in
-          rw q (record { dev = refl; net = l .0; others = refl }, record { mine = l .1; theirs = refl })
-      go false q true q′ = rw (q, q′) (record { dev = refl; net = refl; others = refl }, record { mine = refl; theirs = refl })
-      go false q false q′ = rw (q, q′) (record { dev = refl; net = refl; others = refl }, record { mine = refl; theirs = refl })
+          rw q (record { dev = λ f k. refl; net = l .0; others = refl }, record { mine = l .1; theirs = refl })
+      go false q true q′ = rw (q, q′) (record { dev = λ f k. refl; net = refl; others = refl }, record { mine = refl; theirs = refl })
+      go false q false q′ = rw (q, q′) (record { dev = λ f k. refl; net = refl; others = refl }, record { mine = refl; theirs = refl })
+
+  -- T3247 out, T3512 out
+  device-stays : (number b : ℕ) → Keeps h b (deviceEffect h number b) × Counts h b (deviceEffect h number b)
+  unfolding deviceEffect t3247Effect t3512Effect
+  device-stays number b = go (eqb number 4) refl
+    where
+      go : (s : Bool) → eqb number 4 ≡ s → Keeps h b (deviceEffect h number b) × Counts h b (deviceEffect h number b)
+      go true q = rw q (record { dev = λ f k. refl; net = refl; others = refl }, record { mine = refl; theirs = refl })
+      go false q = rw q (record { dev = λ f k. k (h .dev .t3512length) 1; net = refl; others = refl }, record { mine = refl; theirs = refl })
 
   timer-stays : (number b : ℕ) → Keeps h b (timerEffect h number b) × Counts h b (timerEffect h number b)
-  unfolding timerEffect t3247Effect
+  unfolding timerEffect
   timer-stays number b = go (isDeviceTimer number) refl
     where
       go : (s : Bool) → isDeviceTimer number ≡ s → Keeps h b (timerEffect h number b) × Counts h b (timerEffect h number b)
-      go true q = rw q (record { dev = refl; net = refl; others = refl }, record { mine = refl; theirs = refl })
+      go true q = rw q (device-stays number b)
       go false q = rw q (clock-stays number b)
 
   pub timer-keeps : (number b : ℕ) → Keeps h b (timerEffect h number b)
   timer-keeps number b = timer-stays number b .0
 
+  accept-keeps : (b time : ℕ) (f : Device → ℕ) → Untimed (h .dev) f → f (acceptDevice b time (h .dev)) ≡ f (h .dev)
+  unfolding acceptDevice
+  accept-keeps b time f k = elim (eqb b 0) as (λ s. f (cond s (scheduled time 0 (h .dev)) (h .dev)) ≡ f (h .dev)) [ true ↦ k time 0 | false ↦ refl ]
+
   pub message-keeps : (b protected draw : ℕ) (m : Reading) (s : Seen) → Keeps h b (messageEffect h b protected draw m s)
   unfolding messageEffect acceptEffect rejectEffect turns.accepted taught inState withStatus withAttempts rowTurn otherTurn
-  message-keeps b protected draw (reading.Accept g) s = record { dev = refl; net = refl; others = refl }
+  message-keeps b protected draw (reading.Accept g) s = record { dev = accept-keeps b (t3512Time g (h .dev)); net = refl; others = refl }
   message-keeps b protected draw (reading.Reject cause) s = record {
-    dev = refl;
+    dev = λ f k. refl;
     net = text-left (rowText (rowNow h b protected cause)) b (h .dev .cardlimit) cause (s .found) (accessOf h b) .0;
     others = across-left (acrossOf (rowText (rowNow h b protected cause))) (h .dev .cardlimit) (otherOf h b) .0;
   }
-  message-keeps b protected draw (reading.Bad f at) s = record { dev = refl; net = refl; others = refl }
+  message-keeps b protected draw (reading.Bad f at) s = record { dev = λ f′ k. refl; net = refl; others = refl }
 
   -- what is seen of the pending network is its seat on the message's access
   pub seen-seat : (b protected draw : ℕ) → b < 2 → (p : ℕ)
@@ -159,11 +180,12 @@ module _ (r : Record) where
   message-counts b protected draw (reading.Bad f at) = record { mine = refl; theirs = refl }
 
   pub event-counts : (e : Event) (octets : List ℕ) → isTaken (answeredBy r e octets) ≡ true → Counts h (accessIn e) (effectIn r e octets)
-  unfolding accessIn effectOf cardEffect renewed newAccess startEffect started pending inState keyEffect keySet keyed powerEffect turns.cycled withAttempts accessOf otherOf
+  unfolding accessIn effectOf cardEffect renewed newAccess startEffect started updateEffect updated pending inState keyEffect keySet keyed powerEffect turns.cycled withAttempts accessOf otherOf
   event-counts (Card home) octets t = record { mine = refl; theirs = refl }
   event-counts (Start b manual net code) octets t = record { mine = refl; theirs = refl }
   event-counts (Message b protected draw) octets t = message-counts b protected draw (readingOf octets)
   event-counts (Timer number b) octets t = timer-stays number b .1
   event-counts Power octets t = record { mine = refl; theirs = refl }
   event-counts (Key b set) octets t = record { mine = refl; theirs = refl }
+  event-counts (Update b regtype net code uplink sessions) octets t = record { mine = refl; theirs = refl }
   event-counts Unknown octets t = record { mine = refl; theirs = refl }

@@ -7,10 +7,10 @@ use Rattle.messages.specs.declared.Reading.the-variants as reading
 use Rattle.record.specs.Setters.{counted}
 use Rattle.record.specs.Tests.{both, either, flip}
 use Rattle.rules.specs.declared.Event.{Event}
-use Rattle.rules.specs.declared.Event.the-variants.{Card, Start, Message, Timer, Power, Key, Unknown}
+use Rattle.rules.specs.declared.Event.the-variants.{Card, Start, Message, Timer, Power, Key, Update, Unknown}
 use Rattle.history.specs.Apart.{Half}
 
--- an event of one access: a start, a message, T3510, T3511 or T3502 out, a key set
+-- an event of one access: a start or an update, a message, T3510, T3511 or T3502 out, a key set; and T3512 out, which goes as access 0's
 unfoldable pub isOwn : Event → Bool
 isOwn (Card home) = false
 isOwn (Start w manual net code) = true
@@ -18,6 +18,7 @@ isOwn (Message w protected draw) = true
 isOwn (Timer number w) = flip (eqb number 4)
 isOwn Power = false
 isOwn (Key w set) = true
+isOwn (Update w regtype net code uplink sessions) = true
 isOwn Unknown = false
 
 -- a reject with cause 3, 6 or 7
@@ -34,6 +35,7 @@ crosses (Message w protected draw) m = both (refusesCard m) (flip (eqb protected
 crosses (Timer number w) m = false
 crosses Power m = false
 crosses (Key w set) m = false
+crosses (Update w regtype net code uplink sessions) m = false
 crosses Unknown m = false
 
 -- an access's record, with its card counter at the limit if it is crossed

@@ -12,7 +12,7 @@ use Rattle.octets.specs.declared.Ending.the-variants.{Broken, Whole}
 use Rattle.octets.specs.Element.{Elements, elementsFrom, absent, firstOf, endOf}
 use Rattle.timers.specs.declared.Span.{Span}
 use Rattle.timers.specs.declared.Span.the-variants.{Off, Seconds}
-use Rattle.timers.specs.Timer.{spanOf}
+use Rattle.timers.specs.Timer.{spanOf, span3Of}
 use Rattle.messages.specs.declared.Accept.{Accept}
 use Rattle.messages.specs.declared.Reading.{Reading}
 use Rattle.messages.specs.declared.Reading.the-variants as reading
@@ -35,11 +35,20 @@ tripletsOf p = cond (eqb (countOf p) 0) 0 (p .start)
 unfoldable pub t3502Of : List ℕ → Part → Span
 t3502Of s p = cond (p .held) (cond (eqb (p .len) 0) Off (spanOf (getD s (p .start) 0))) Off
 
+-- 5E T3512: its first octet is a timer octet; one too short is absent
+abbrev pub pacedOf : Part → Bool
+pacedOf p = p .held && leb 1 (p .len)
+
+-- what that octet says, by the rows of timer 3
+unfoldable pub t3512Of : List ℕ → Part → Span
+t3512Of s p = cond (pacedOf p) (span3Of (getD s (p .start) 0)) Off
+
 -- "deactivated, read as absent"
 abbrev pub timedOf : Span → Bool
 timedOf Off = false
 timedOf (Seconds n) = true
 
+-- the seconds, 0 where there are none; of T3512 "not if zero or deactivated" is kept as 0
 abbrev pub secondsOf : Span → ℕ
 secondsOf Off = 0
 secondsOf (Seconds n) = n
@@ -55,6 +64,8 @@ acceptOf s l =
       count = countOf (firstOf 0x4A l);
       timed = timedOf (t3502Of s (firstOf 0x16 l));
       t3502length = secondsOf (t3502Of s (firstOf 0x16 l));
+      paced = pacedOf (firstOf 0x5E l);
+      t3512length = secondsOf (t3512Of s (firstOf 0x5E l));
     }
 
 -- the octet at a place has to be there and to be the one asked for; then comes the rest

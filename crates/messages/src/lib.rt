@@ -1,10 +1,11 @@
 // Messages from the network: the reading of an accept or a reject, and the calls for C firmware.
 ghost use mathlib.Core.Path.{_≡_};
 ghost use mathlib.Core.Bool.{cond, false};
+ghost use Prim.Native.Nat.{_≤_};
 ghost use lib.ListN.{getD};
 ghost use Rattle.octets.specs.Element.{Elements, elementsFrom, firstOf};
 ghost use Rattle.timers.specs.Timer.{spanOf};
-ghost use Rattle.messages.specs.Message.{gutiOf, countOf, t3502Of, timedOf, secondsOf, acceptOf, acceptedOf, acceptReading, rejectReading, typeReading, readingOf, faultNumber, causeOf, timerSeconds};
+ghost use Rattle.messages.specs.Message.{gutiOf, countOf, t3502Of, pacedOf, t3512Of, timedOf, secondsOf, acceptOf, acceptedOf, acceptReading, rejectReading, typeReading, readingOf, faultNumber, causeOf, timerSeconds};
 use octets::Ending;
 use octets::Fault;
 use octets::Part;
@@ -25,6 +26,9 @@ pub struct Accept {
     // T3502 is given, this many seconds long
     pub timed: bool,
     pub t3502length: u16,
+    // T3512 is given, this many seconds long; 0 also where it is deactivated
+    pub paced: bool,
+    pub t3512length: u32,
 }
 
 // A refusal has its fault and the fault's offset.
@@ -104,6 +108,24 @@ fn t3502(msg: &[u8], p: Part) -> Span
     Span::Off
 }
 
+fn paced(p: Part) -> bool
+    ensures { λ r. ⌜ r ≡ pacedOf p ⌝ }
+{
+    if p.held {
+        return 1 <= p.len;
+    }
+    false
+}
+
+fn t3512(msg: &[u8], p: Part) -> Span
+    ensures { λ r. ⌜ r ≡ t3512Of (now (msg .entry)) p ⌝ }
+{
+    if paced(p) {
+        return timers::timer3(octet(msg, p.start));
+    }
+    Span::Off
+}
+
 fn timed(s: Span) -> bool
     ensures { λ r. ⌜ r ≡ timedOf s ⌝ }
 {
@@ -113,7 +135,7 @@ fn timed(s: Span) -> bool
     }
 }
 
-fn seconds(s: Span) -> u16
+fn seconds(s: Span) -> u32
     ensures { λ r. ⌜ r ≡ secondsOf s ⌝ }
 {
     match s {
@@ -122,13 +144,22 @@ fn seconds(s: Span) -> u16
     }
 }
 
-// An accept, by its first 77, 4A and 16.
-fn accepted(msg: &[u8], p: Part, q: Part, t: Part) -> Accept
-    ensures { λ r. ⌜ ((l : Elements) → p ≡ firstOf 0x77 l → q ≡ firstOf 0x4A l → t ≡ firstOf 0x16 l → r ≡ acceptOf (now (msg .entry)) l) ⌝ }
+// The seconds of timer 2 fit 16 bits.
+fn narrow(n: u32) -> u16
+    requires { ⌜ n ≤ 11160 ⌝ }
+    ensures { λ r. ⌜ r ≡ n ⌝ }
+{
+    n as u16
+}
+
+// An accept, by its first 77, 4A, 16 and 5E.
+fn accepted(msg: &[u8], p: Part, q: Part, t: Part, u: Part) -> Accept
+    ensures { λ r. ⌜ ((l : Elements) → p ≡ firstOf 0x77 l → q ≡ firstOf 0x4A l → t ≡ firstOf 0x16 l → u ≡ firstOf 0x5E l → r ≡ acceptOf (now (msg .entry)) l) ⌝ }
 {
     let g = guti(msg, p);
     let n = count(q);
     let span = t3502(msg, t);
+    let pace = t3512(msg, u);
     Accept {
         result: octet(msg, 4),
         given: g.held,
@@ -136,7 +167,9 @@ fn accepted(msg: &[u8], p: Part, q: Part, t: Part) -> Accept
         triplets: place(n == 0, q.start),
         count: n,
         timed: timed(span),
-        t3502length: seconds(span),
+        t3502length: narrow(seconds(span)),
+        paced: paced(u),
+        t3512length: seconds(pace),
     }
 }
 
@@ -151,12 +184,12 @@ fn read_elements(msg: &[u8], from: usize) -> Reading
         Wanted::Id(0x77),
         Wanted::Id(0x4A),
         Wanted::Id(0x16),
-        Wanted::Nothing,
+        Wanted::Id(0x5E),
     );
     let end = g.end;
     match end {
         Ending::Broken(f, at) => Reading::Bad(f, at),
-        Ending::Whole => Reading::Accept(accepted(msg, g.first, g.second, g.third)),
+        Ending::Whole => Reading::Accept(accepted(msg, g.first, g.second, g.third, g.fourth)),
     }
 }
 
@@ -253,6 +286,6 @@ pub extern "C" fn timer_seconds(octet: u8) -> u32
 {
     match timers::timer(octet) {
         Span::Off => 65535,
-        Span::Seconds(n) => n as u32,
+        Span::Seconds(n) => n,
     }
 }

@@ -7,7 +7,7 @@ use lib.Dec.{eqb}
 use borrow.Author.Tests.{leb-true}
 use Rattle.record.specs.Tests.{both, either, within, upTo, isFlag, isShort}
 use Rattle.record.proofs.Bounds.{one, rest}
-use Rattle.ranges.specs.Valid.{deviceRanges, modeRanges, identityRanges, accessRanges, rangesOf}
+use Rattle.ranges.specs.Valid.{deviceRanges, modeRanges, identityRanges, pendingRanges, accessRanges, deviceNumbers, rangesOf}
 use Rattle.entries.specs.declared.Entries.{Entries}
 use Rattle.record.specs.declared.Device.{Device}
 use Rattle.record.specs.declared.Access.{Access}
@@ -23,8 +23,8 @@ counts a e =
     (rest (isFlag (a .guti)) _ (rest (isShort (a .code)) _ e)))) in
     (leb-true _ _ (one _ _ ranges), leb-true _ _ (rest (upTo 15 (a .equivalents)) _ ranges))
 
-pub lists : (d : Device) → deviceRanges d ≡ true → (d .roaming ≤ 40) × (d .regional ≤ 40)
-unfolding deviceRanges
+pub lists : (d : Device) → deviceNumbers d ≡ true → (d .roaming ≤ 40) × (d .regional ≤ 40)
+unfolding deviceNumbers deviceRanges
 lists d e =
     let ranges : both (upTo 40 (d .roaming)) (upTo 40 (d .regional)) ≡ true =
     rest (isFlag (d .t3247)) _
@@ -33,13 +33,13 @@ lists d e =
     (rest (within 1 10 (d .n1limit)) _
     (rest (within 1 10 (d .banlimit)) _
     (rest (within 1 10 (d .cardlimit)) _
-    (rest (either (eqb (d .card) 0) (within 9 64 (d .suci))) _ (rest (isFlag (d .card)) _ e))))))) in
+    (rest (either (eqb (d .card) 0) (within 9 64 (d .suci))) _ (rest (isFlag (d .card)) _ (one _ _ e)))))))) in
     (leb-true _ _ (one _ _ ranges), leb-true _ _ (rest (upTo 40 (d .roaming)) _ ranges))
 
 -- the same of a record: the counts of both accesses' entries and of both lists
 entries : (a : Access) (l : List ℕ) (t : Entries) → accessRanges a l t ≡ true → a .entries ≤ 16
 unfolding accessRanges
-entries a l t e = counts a (one _ _ (rest (modeRanges a) _ e)) .1
+entries a l t e = counts a (one _ _ (rest (pendingRanges a) _ (rest (modeRanges a) _ e))) .1
 
 pub record Bounded (r : Record) : Type 0 where
   pub first : r .hot .a0 .entries ≤ 16
@@ -50,7 +50,7 @@ pub record Bounded (r : Record) : Type 0 where
 pub bounded : (r : Record) → rangesOf r ≡ true → Bounded r
 unfolding rangesOf
 bounded r e =
-    let accesses = rest (deviceRanges (r .hot .dev)) _ e in
+    let accesses = rest (deviceNumbers (r .hot .dev)) _ e in
     let others = rest (accessRanges (r .hot .a0) (r .equivalents0) (r .e0)) _ accesses in
     record {
       first = entries (r .hot .a0) (r .equivalents0) (r .e0) (one _ _ accesses);

@@ -11,11 +11,11 @@ use Rattle.entries.specs.declared.Entries.{Entries}
 use Rattle.record.specs.Tests.{within}
 use Rattle.record.specs.Network.{isNetwork}
 use Rattle.record.specs.New.{newDevice, newAccess, emptyRecord, newRecord, mayMake, madeOf}
-use Rattle.ranges.specs.Valid.{deviceRanges, modeRanges, identityRanges, heldRanges, accessRanges, rangesOf, countersOf, cardOf, suciOf, codesOf, clockOf, onceOf, validOf}
+use Rattle.ranges.specs.Valid.{deviceRanges, periodicRanges, deviceNumbers, modeRanges, pendingRanges, identityRanges, heldRanges, accessRanges, rangesOf, countersOf, cardOf, suciOf, codesOf, clockOf, onceOf, validOf}
 use Rattle.record.proofs.Bounds.{one, rest}
 
-device : (x y z c s : ℕ) → mayMake x y z c s ≡ true → deviceRanges (newDevice x y z c s) ≡ true
-unfolding mayMake deviceRanges newDevice
+device : (x y z c s : ℕ) → mayMake x y z c s ≡ true → deviceNumbers (newDevice x y z c s) ≡ true
+unfolding mayMake deviceNumbers deviceRanges periodicRanges newDevice
 device x y z c s e =
     let e2 = rest (within 1 10 x) _ e in
     let e3 = rest (within 1 10 y) _ e2 in
@@ -23,7 +23,7 @@ device x y z c s e =
     rw (one (within 1 10 x) _ e, one (within 1 10 y) _ e2, one (within 1 10 z) _ e3, one (within 1 13 c) _ e4, rest (within 1 13 c) _ e4)
 
 access : (l : List ℕ) (t : Entries) → accessRanges (newAccess 0) l t ≡ true
-unfolding accessRanges modeRanges identityRanges heldRanges newAccess allTo
+unfolding accessRanges modeRanges pendingRanges identityRanges heldRanges newAccess allTo
 access l t = refl
 
 counters : (x y z c s : ℕ) (t : Entries) → countersOf (newDevice x y z c s) (newAccess 0) t ≡ true

@@ -6,7 +6,7 @@ use lib.ListN.{getD}
 use lib.Dec.{ltb, eqb}
 use Rattle.laws.specs.Upto.{allTo, distinctTo}
 use Rattle.entries.specs.declared.Entries.{Entries}
-use Rattle.record.specs.Tests.{both, either, within, upTo, isFlag, isShort}
+use Rattle.record.specs.Tests.{both, either, within, upTo, isFlag, isShort, isClear0}
 use Rattle.record.specs.Network.{isNetwork}
 use Rattle.record.specs.declared.Device.{Device}
 use Rattle.record.specs.declared.Access.{Access}
@@ -26,6 +26,14 @@ deviceRanges d =
     (both (isFlag (d .t3247))
     (both (upTo 40 (d .roaming)) (upTo 40 (d .regional))))))))))
 
+-- T3512, its kept time, at most 31 times 320 h, and whether a periodic update is due (document 02, R-5)
+unfoldable pub periodicRanges : Device → Bool
+periodicRanges d = both (isFlag (d .t3512)) (both (upTo 35712000 (d .t3512length)) (isFlag (d .due)))
+
+-- both, in this order
+unfoldable pub deviceNumbers : Device → Bool
+deviceNumbers d = both (deviceRanges d) (periodicRanges d)
+
 -- an access's state, status, counters and timers
 unfoldable pub modeRanges : Access → Bool
 modeRanges a =
@@ -35,6 +43,10 @@ modeRanges a =
     (both (isFlag (a .t3510))
     (both (isFlag (a .t3511))
     (both (isFlag (a .t3502)) (upTo 11160 (a .t3502length)))))))
+
+-- its pending registration: type 1 to 3, session 0 clear in 40 and 50 (document 02, R-5)
+unfoldable pub pendingRanges : Access → Bool
+pendingRanges a = both (within 1 3 (a .regtype)) (both (isClear0 (a .uplink)) (isClear0 (a .sessions)))
 
 -- its areas, identity and counts; an area's numbers are of three octets, a last area's where one is held
 unfoldable pub identityRanges : Access → Bool
@@ -53,7 +65,7 @@ heldRanges a equivalents t =
     (both (allTo isFlag (a .entries) (t .forbidden)) (allTo isFlag (a .entries) (t .barred)))
 
 unfoldable pub accessRanges : Access → List ℕ → Entries → Bool
-accessRanges a equivalents t = both (modeRanges a) (both (identityRanges a) (heldRanges a equivalents t))
+accessRanges a equivalents t = both (modeRanges a) (both (pendingRanges a) (both (identityRanges a) (heldRanges a equivalents t)))
 
 -- a listed area is of six octets with its mark
 abbrev pub isItem : ℕ → Bool
@@ -61,7 +73,7 @@ isItem x = ltb x 562949953421312
 
 unfoldable pub rangesOf : Record → Bool
 rangesOf r =
-    both (deviceRanges (r .hot .dev))
+    both (deviceNumbers (r .hot .dev))
     (both (accessRanges (r .hot .a0) (r .equivalents0) (r .e0))
     (both (accessRanges (r .hot .a1) (r .equivalents1) (r .e1))
     (both (allTo isItem (r .hot .dev .roaming) (r .roaming)) (allTo isItem (r .hot .dev .regional) (r .regional)))))

@@ -19,7 +19,7 @@ ghost use mathlib.Core.Path.{_≡_};
 ghost use mathlib.Core.Bool.{true};
 ghost use Prim.Native.Nat.{_≤_};
 ghost use Rattle.record.specs.Tests.{both};
-ghost use Rattle.ranges.specs.Valid.{deviceRanges, modeRanges, identityRanges, heldRanges, accessRanges, rangesOf, countersOf, cardOf, suciOf, codesOf, clockOf, onceOf, validOf};
+ghost use Rattle.ranges.specs.Valid.{deviceRanges, periodicRanges, deviceNumbers, modeRanges, pendingRanges, identityRanges, heldRanges, accessRanges, rangesOf, countersOf, cardOf, suciOf, codesOf, clockOf, onceOf, validOf};
 
 mod columns;
 
@@ -42,6 +42,18 @@ fn device_ranges(d: Device) -> bool
     all(d.card <= 1, suci, ranged(1, 10, d.cardlimit), limits)
 }
 
+fn periodic_ranges(d: Device) -> bool
+    ensures { λ r. ⌜ r ≡ periodicRanges d ⌝ }
+{
+    and(d.t3512 <= 1, and(d.t3512length <= 35712000, d.due <= 1))
+}
+
+fn device_numbers(d: Device) -> bool
+    ensures { λ r. ⌜ r ≡ deviceNumbers d ⌝ }
+{
+    and(device_ranges(d), periodic_ranges(d))
+}
+
 fn mode_ranges(a: Access) -> bool
     ensures { λ r. ⌜ r ≡ modeRanges a ⌝ }
 {
@@ -57,6 +69,13 @@ fn mode_ranges(a: Access) -> bool
         a.attempts <= 5,
         timers,
     )
+}
+
+fn pending_ranges(a: Access) -> bool
+    ensures { λ r. ⌜ r ≡ pendingRanges a ⌝ }
+{
+    let sessions = and(a.uplink % 2 == 0, a.sessions % 2 == 0);
+    and(ranged(1, 3, a.regtype), sessions)
 }
 
 fn identity_ranges(a: Access) -> bool
@@ -86,6 +105,9 @@ fn access_ranges(a: Access, equivalents: &[u32; 15], t: Entries) -> bool
     ensures { λ r. ⌜ r ≡ accessRanges a (now (equivalents .entry)) t ⌝ }
 {
     if !mode_ranges(a) {
+        return false;
+    }
+    if !pending_ranges(a) {
         return false;
     }
     if !identity_ranges(a) {
@@ -129,7 +151,7 @@ fn ranges(r: Record) -> bool
 {
     let h = r.hot;
     let d = h.dev;
-    if !device_ranges(d) {
+    if !device_numbers(d) {
         return false;
     }
     let x = access_ranges(h.a0, &r.equivalents0, r.e0);

@@ -23,23 +23,26 @@ u2 = 2
 abbrev pub u3 : ℕ
 u3 = 3
 
--- "no card, .., no timer, empty lists, zeros elsewhere"
+-- "no card, .., no timer, empty lists, zeros elsewhere"; T3512's time is "at first 3,240 s"
 unfoldable pub newDevice : ℕ → ℕ → ℕ → ℕ → ℕ → Device
 newDevice cardlimit banlimit n1limit capability security = record {
   card = 0;
   home = 0;
+  t3512length = 3240;
   suci = 0;
   cardlimit = cardlimit;
   banlimit = banlimit;
   n1limit = n1limit;
   t3247 = 0;
+  t3512 = 0;
+  due = 0;
   capability = capability;
   security = security;
   roaming = 0;
   regional = 0;
 }
 
--- ".. state 0, 5U2, T3502 length 720 s, ngKSI 7, no timer, empty lists, zeros elsewhere"; a card change has state 1
+-- ".. state 0, 5U2, T3502 length 720 s, ngKSI 7, no timer, empty lists, zeros elsewhere"; an initial registration's type; a card change has state 1
 unfoldable pub newAccess : ℕ → Access
 newAccess state = record {
   state = state;
@@ -52,6 +55,9 @@ newAccess state = record {
   t3502length = 720;
   net = 0;
   code = 0;
+  regtype = 1;
+  uplink = 0;
+  sessions = 0;
   guti = 0;
   visited = 0;
   lastnet = 0;

@@ -1,7 +1,7 @@
 -- Tests and their joins. Assumes nothing.
-use Prim.Native.Nat.{ℕ}
+use Prim.Native.Nat.{ℕ, _%_}
 use mathlib.Core.Bool.{Bool, true, false, cond}
-use lib.Dec.{ltb, leb}
+use lib.Dec.{ltb, leb, eqb}
 
 abbrev pub both : Bool → Bool → Bool
 both a b = cond a b false
@@ -25,3 +25,7 @@ isFlag n = leb n 1
 -- a number of three octets
 abbrev pub isShort : ℕ → Bool
 isShort n = ltb n 16777216
+
+-- "session 0 clear": of two octets of 40 or 50, the first one low, session i is bit i
+abbrev pub isClear0 : ℕ → Bool
+isClear0 n = eqb (n % 2) 0

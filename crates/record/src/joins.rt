@@ -27,6 +27,18 @@ pub fn pick(first: bool, x: u8, y: u8) -> u8
     if first { x } else { y }
 }
 
+pub(crate) fn pick_pair(first: bool, x: u16, y: u16) -> u16
+    ensures { λ r. ⌜ r ≡ cond first x y ⌝ }
+{
+    if first { x } else { y }
+}
+
+pub(crate) fn pick_word(first: bool, x: u32, y: u32) -> u32
+    ensures { λ r. ⌜ r ≡ cond first x y ⌝ }
+{
+    if first { x } else { y }
+}
+
 // Longer lists are made of fours: the last place takes the rest of the list.
 pub fn all(a: bool, b: bool, c: bool, d: bool) -> bool
     ensures { λ r. ⌜ r ≡ both a (both b (both c d)) ⌝ }

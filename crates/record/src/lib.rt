@@ -33,17 +33,20 @@ pub use setters::taught;
 pub use sides::access_of;
 pub use sides::other_of;
 
-// The device's numbers. A flag is 0 or 1; lengths and counts say how much of an array is in use. Here and below the widest
-// fields come first: no gaps between them, so that a copy is a few wide moves.
+// The device's numbers. A flag is 0 or 1; lengths and counts say how much of an array is in use; due says whether a periodic
+// update is. Here and below the widest fields come first: no gaps between them, so that a copy is a few wide moves.
 #[repr(C)]
 pub struct Device {
     pub home: u32,
+    pub t3512length: u32,
     pub card: u8,
     pub suci: u8,
     pub cardlimit: u8,
     pub banlimit: u8,
     pub n1limit: u8,
     pub t3247: u8,
+    pub t3512: u8,
+    pub due: u8,
     pub capability: u8,
     pub security: u8,
     pub roaming: u8,
@@ -58,7 +61,9 @@ pub const U2: u8 = 2;
 pub const U3: u8 = 3;
 
 // One access's numbers. States: 0 NO-SUPI, 1 NORMAL-SERVICE, 2 LIMITED-SERVICE, 3 ATTEMPTING-REGISTRATION, 4 REGISTERED-INITIATED,
-// 5 REGISTERED, 6 PLMN-SEARCH. The pending area is net and code; guti and visited say whether a GUTI and a last area are held.
+// 5 REGISTERED, 6 PLMN-SEARCH. The pending area is net and code, the pending registration's type regtype (1 initial, 2 mobility,
+// 3 periodic); uplink and sessions are its octets of 40 and 50, the first one low: session i is bit i. guti and visited say
+// whether a GUTI and a last area are held.
 #[repr(C)]
 pub struct Access {
     pub net: u32,
@@ -66,6 +71,8 @@ pub struct Access {
     pub lastnet: u32,
     pub lastcode: u32,
     pub t3502length: u16,
+    pub uplink: u16,
+    pub sessions: u16,
     pub state: u8,
     pub status: u8,
     pub attempts: u8,
@@ -78,6 +85,7 @@ pub struct Access {
     pub ksi: u8,
     pub equivalents: u8,
     pub entries: u8,
+    pub regtype: u8,
 }
 
 // What every event reads and may change: small, and handed on by value.

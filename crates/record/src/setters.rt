@@ -44,12 +44,15 @@ pub fn counted(n: u8, a: Access) -> Access
     q
 }
 
-pub fn pending(net: u32, code: u32, a: Access) -> Access
-    ensures { λ r. ⌜ r ≡ sets.pending net code a ⌝ }
+pub fn pending(regtype: u8, net: u32, code: u32, uplink: u16, sessions: u16, a: Access) -> Access
+    ensures { λ r. ⌜ r ≡ sets.pending regtype net code uplink sessions a ⌝ }
 {
     let mut q = a;
     q.net = net;
     q.code = code;
+    q.regtype = regtype;
+    q.uplink = uplink;
+    q.sessions = sessions;
     q
 }
 

@@ -55,10 +55,10 @@ module _ (r : Record) (access : ℕ) (t : Bool) (own : Access) (e : t ≡ tested
     four : accessOf (r .hot) access .state ≡ 4
     four = rw (← same) s
 
-    pub allowed : (r .hot .dev .suci ≤ 64) × ((r .hot .dev .capability ≤ 13) × ((r .hot .dev .security ≤ 8) × (own .ksi ≤ 7)))
+    pub allowed : (r .hot .dev .suci ≤ 64) × ((r .hot .dev .capability ≤ 13) × ((r .hot .dev .security ≤ 8) × ((own .ksi ≤ 7) × (own .regtype ≤ 3))))
     allowed =
         let all = ready r access (rest (leb access 1) _ holds) four in
-        (all .suci .1, (all .capability .1, (all .security .1, rw same (all .ksi))))
+        (all .suci .1, (all .capability .1, (all .security .1, (rw same (all .ksi), rw same (all .regtype .1)))))
 
     answered : (n : ℕ) → writingAnswer r access n ≡ cond (leb (length (requestOf r access)) n) Taken Short
     unfolding writingAnswer

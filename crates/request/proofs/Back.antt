@@ -13,7 +13,7 @@ use borrow.Author.Tests.{le-ltb}
 use Rattle.octets.specs.declared.Element.{Element}
 use Rattle.octets.specs.declared.Part.{Part}
 use Rattle.octets.specs.declared.Ending.the-variants.{Whole}
-use Rattle.octets.specs.Element.{Format, formatOf, leadOf, leadBy, contentsOf, contentsBy, sizeOf, readAs, elementOf, joined, Elements, elementsOf, elementsFrom, firstOf, endOf}
+use Rattle.octets.specs.Element.{Format, formatOf, leadOf, leadBy, contentsOf, contentsBy, sizeOf, readAs, elementOf, joined, elementsOf, elementsFrom, firstOf, endOf}
 use Rattle.octets.specs.Element.Elements.{element}
 use Rattle.octets.proofs.Elements.{skip}
 use Rattle.request.specs.Layout.{Form, Item, lengthIn, withLead, itemOctets, laid}

@@ -19,7 +19,7 @@ use Rattle.messages.proofs.Readings.{choice, opened-so, ended-so}
 use Rattle.record.specs.Tests.{both, either, within}
 use Rattle.record.proofs.Bounds.{one, rest, least, most}
 use Rattle.request.specs.Layout.{Fields, Fit, octetsOf}
-use Rattle.request.specs.Reading.{isFourth, isIdentity, isSecurity, isCapability, isRequest, capabilityOf, requestIn, judgedOf, askedOf, partsReading, restReading, requestReading, askingOf, cutOf, toldBy, askingNumber}
+use Rattle.request.specs.Reading.{isFourth, isIdentity, isSecurity, isCapability, isRequest, capabilityOf, pairOf, requestIn, judgedOf, askedOf, partsReading, restReading, requestReading, askingOf, cutOf, toldBy, askingNumber}
 use Rattle.request.specs.Reading.Said.{says}
 use Rattle.request.specs.declared.Request.{Request}
 use Rattle.request.specs.declared.Asking.{Asking}
@@ -33,21 +33,25 @@ Known o n = ((o ≡ 0xF2) × (n ≡ 11)) ⊎ ((o ≡ 0x01) × ((9 ≤ n) × (n �
 -- Octets that are a request, and what is read in them: each part that is held lies in them and in its range.
 pub record Asked (s : List ℕ) (q : Request) : Type 0 where
   pub opens : (getD s 0 0 ≡ 0x7E) × ((getD s 1 0 ≡ 0x00) × (getD s 2 0 ≡ 0x41))
-  pub kind : q .kind ≡ 1
+  pub regtype : (1 ≤ q .regtype) × (q .regtype ≤ 3)
   pub ksi : q .ksi ≤ 7
-  pub fourth : getD s 3 0 ≡ q .ksi * 16 + q .kind
+  pub fourth : getD s 3 0 ≡ q .ksi * 16 + q .regtype
   pub identity : q .identity ≡ record { held = true; start = 6; len = getD s 4 0 * 256 + getD s 5 0 }
   pub known : Known (getD s 6 0) (q .identity .len)
   pub inside : 6 + q .identity .len ≤ length s
   pub capability : q .capability .held ≡ true → ((1 ≤ q .capability .len) × (q .capability .len ≤ 13)) × (q .capability .start + q .capability .len ≤ length s)
   pub security : (q .security .held ≡ true) × (((2 ≤ q .security .len) × (q .security .len ≤ 8)) × (q .security .start + q .security .len ≤ length s))
   pub last : q .last .held ≡ true → (q .last .len ≡ 6) × (q .last .start + q .last .len ≤ length s)
+  pub uplink : q .uplink .held ≡ true → (q .uplink .len ≡ 2) × (q .uplink .start + q .uplink .len ≤ length s)
+  pub sessions : q .sessions .held ≡ true → (q .sessions .len ≡ 2) × (q .sessions .start + q .sessions .len ≤ length s)
 
 -- the tests as facts
 
-fourth-facts : (o : ℕ) → isFourth o ≡ true → (o % 16 ≡ 1) × (o / 16 ≤ 7)
+fourth-facts : (o : ℕ) → isFourth o ≡ true → ((1 ≤ o % 16) × (o % 16 ≤ 3)) × (o / 16 ≤ 7)
 unfolding isFourth
-fourth-facts o e = (eqb-true (o % 16) 1 (one (eqb (o % 16) 1) _ e), leb-true (o / 16) 7 (rest (eqb (o % 16) 1) _ e))
+fourth-facts o e =
+    let w : within 1 3 (o % 16) ≡ true = one (within 1 3 (o % 16)) _ e in
+    ((least 1 3 (o % 16) w, most 1 3 (o % 16) w), leb-true (o / 16) 7 (rest (within 1 3 (o % 16)) _ e))
 
 identity-facts : (o n : ℕ) → isIdentity o n ≡ true → Known o n
 unfolding isIdentity
@@ -79,6 +83,20 @@ security-facts n p w e =
     let r : within 2 8 (p .len) ≡ true = rest (p .held) _ e in
     (h, ((least 2 8 (p .len) r, most 2 8 (p .len) r), w h))
 
+pair-facts : (n : ℕ) (p : Part) → (p .held ≡ true → p .start + p .len ≤ n) → pairOf p .held ≡ true → (pairOf p .len ≡ 2) × (pairOf p .start + pairOf p .len ≤ n)
+unfolding pairOf
+pair-facts n p w t = go (ltb (p .len) 2) refl t
+  where
+    part : Bool → Part
+    part b = cond b absent (record { held = p .held; start = p .start; len = 2 })
+
+    go : (b : Bool) → ltb (p .len) 2 ≡ b → part b .held ≡ true → (part b .len ≡ 2) × (part b .start + part b .len ≤ n)
+    go true e u = absurd (false≢true u)
+    go false e u =
+        let h : 2 ≤ p .len = ltb-false (p .len) 2 e in
+        let k : p .start + p .len ≤ n = w u in
+        (refl, omega arith)
+
 -- What each answer of the reading says of the octets
 unfoldable Faithful : List ℕ → Asking → Type 0
 Faithful s (asking.Request q) = Asked s q
@@ -104,7 +122,7 @@ module _ (s : List ℕ) (opens : (getD s 0 0 ≡ 0x7E) × ((getD s 1 0 ≡ 0x00)
         let safe : isSecurity (firstOf 0x2E l) ≡ true = rest (isCapability (firstOf 0x10 l)) _ items in
         record {
           opens = opens;
-          kind = o .0;
+          regtype = o .0;
           ksi = o .1;
           fourth = omega arith;
           identity = refl;
@@ -113,6 +131,8 @@ module _ (s : List ℕ) (opens : (getD s 0 0 ≡ 0x7E) × ((getD s 1 0 ≡ 0x00)
           capability = capability-facts (length s) (firstOf 0x10 l) (λ h. found-inside true (length s) 0x10 l sound h .0) able;
           security = security-facts (length s) (firstOf 0x2E l) (λ h. found-inside true (length s) 0x2E l sound h .0) safe;
           last = λ h. (found-inside true (length s) 0x52 l sound h .1 refl refl, found-inside true (length s) 0x52 l sound h .0);
+          uplink = pair-facts (length s) (firstOf 0x40 l) (λ h. found-inside true (length s) 0x40 l sound h .0);
+          sessions = pair-facts (length s) (firstOf 0x50 l) (λ h. found-inside true (length s) 0x50 l sound h .0);
         }
 
     judged : Faithful s (judgedOf s n l)
@@ -164,20 +184,40 @@ cut-at-most s p k f = go (p .held) refl
     go true e = rw (cut-length s p e (f e .1)) (f e .0)
     go false e = rw e (omega arith)
 
+-- one that has k octets or is not held
+cut-or-none : (s : List ℕ) (p : Part) (k : ℕ) → (p .held ≡ true → (p .len ≡ k) × (p .start + p .len ≤ length s)) → (cutOf s p ≡ []) ⊎ (length (cutOf s p) ≡ k)
+unfolding cutOf
+cut-or-none s p k f = go (p .held) refl
+  where
+    go : (b : Bool) → p .held ≡ b → (cutOf s p ≡ []) ⊎ (length (cutOf s p) ≡ k)
+    go true e = inr (cut-length s p e (f e .1) ∙ f e .0)
+    go false e = inl (rw e)
+
 -- So what is read fits: it is what the layout may say, and laid out again it reads as the same.
 module _ (s : List ℕ) (q : Request) (a : Asked s q) where
   abbrev told : Fields
-  told = record { kind = q .kind; ksi = q .ksi; identity = cutOf s (q .identity); capability = cutOf s (q .capability); security = cutOf s (q .security); last = cutOf s (q .last) }
+  told = record {
+    regtype = q .regtype;
+    ksi = q .ksi;
+    identity = cutOf s (q .identity);
+    capability = cutOf s (q .capability);
+    security = cutOf s (q .security);
+    last = cutOf s (q .last);
+    uplink = cutOf s (q .uplink);
+    sessions = cutOf s (q .sessions);
+  }
 
   fit : Fit told
   unfolding cutOf
   fit = record {
-    kind = a .kind;
+    regtype = a .regtype;
     ksi = a .ksi;
     identity = rw (a .identity) (known (getD s 4 0 * 256 + getD s 5 0) (rw (a .identity) at (a .known)) (rw (a .identity) at (a .inside)));
     capability = cut-at-most s (q .capability) 13 (λ h. (a .capability h .0 .1, a .capability h .1));
     security = let n = cut-length s (q .security) (a .security .0) (a .security .1 .1) in (rw n (a .security .1 .0 .0), rw n (a .security .1 .0 .1));
-    last = area (q .last .held) refl;
+    last = cut-or-none s (q .last) 6 (a .last);
+    uplink = cut-or-none s (q .uplink) 2 (a .uplink);
+    sessions = cut-or-none s (q .sessions) 2 (a .sessions);
   }
     where
       some : (n : ℕ) → Known (getD s 6 0) n → 0 < n
@@ -188,10 +228,6 @@ module _ (s : List ℕ) (q : Request) (a : Asked s q) where
       known n k h =
           let first : getD (take n (drop 6 s)) 0 0 ≡ getD s 6 0 = getD-take n (drop 6 s) 0 0 (some n k) ∙ getD-drop 6 s 0 0 in
           rw (first, length-take-le n (drop 6 s) (simp length-drop (omega arith))) k
-
-      area : (b : Bool) → q .last .held ≡ b → (cutOf s (q .last) ≡ []) ⊎ (length (cutOf s (q .last)) ≡ 6)
-      area true e = inr (cut-length s (q .last) e (a .last e .1) ∙ a .last e .0)
-      area false e = inl (rw e)
 
 pub told-fit : (s : List ℕ) (f : Fields) → toldBy s (askingOf s) ≡ says f → Fit f
 unfolding toldBy

@@ -1,15 +1,15 @@
 -- What a request says does not hang on the order of its elements, nor on unknown ones among them: it is made of its opening and of what the elements say of
--- 10, 2E and 52, by their contents alone. Assumes nothing.
+-- 10, 2E, 52, 40 and 50, by their contents alone. Assumes nothing.
 use Prim.Native.Nat.{ℕ, zero, suc, _+_, _*_, _/_, _%_, _<_, _≤_}
-use mathlib.Core.Path.{_≡_, refl, sym, _∙_}
+use mathlib.Core.Path.{_≡_, refl, sym, _∙_, ap}
 use mathlib.Core.Bool.{Bool, true, false, cond}
 use mathlib.Core.Logic.{_≢_}
-use mathlib.Core.List.{List, [], _++_}
+use mathlib.Core.List.{List, [], _∷_, _++_}
 use native.Mathlib.Omega.{arith}
 use lib.ListN.{length, getD, take, drop, length-append, length-drop, List·getD-append}
 use lib.Seq.{length-take-le, take-at, drop-append-le}
-use lib.Dec.{leb, eqb}
-use borrow.Author.Tests.{lt-ltb, le-ltb, eqb-true}
+use lib.Dec.{ltb, leb, eqb}
+use borrow.Author.Tests.{lt-ltb, le-ltb, ltb-false, eqb-true}
 use Rattle.octets.specs.declared.Fault.{Fault}
 use Rattle.octets.specs.declared.Fault.the-variants.{First, Second, Kind}
 use Rattle.octets.specs.declared.Part.{Part}
@@ -21,7 +21,7 @@ use Rattle.octets.proofs.Order.{Says, saidIn, isWhole, said, formed, Same, Alon
 use Rattle.octets.proofs.Order.Says.{contents, nothing as missing}
 use Rattle.messages.specs.Message.{openedBy, endedBy}
 use Rattle.record.specs.Tests.{both, within}
-use Rattle.request.specs.Reading.{isFourth, isIdentity, isSecurity, isCapability, isRequest, capabilityOf, requestIn, judgedOf, askedOf, partsReading, restReading, requestReading, askingOf, Said, cutOf, toldBy}
+use Rattle.request.specs.Reading.{isFourth, isIdentity, isSecurity, isCapability, isRequest, capabilityOf, pairOf, requestIn, judgedOf, askedOf, partsReading, restReading, requestReading, askingOf, Said, cutOf, toldBy}
 use Rattle.request.specs.Reading.Said.{says, nothing}
 use Rattle.request.specs.declared.Asking.{Asking}
 use Rattle.request.specs.declared.Asking.the-variants as asking
@@ -39,6 +39,17 @@ capableIn (contents c) = leb (length c) 13
 unfoldable secureIn : Says → Bool
 secureIn missing = false
 secureIn (contents c) = within 2 8 (length c)
+
+-- the two octets of a 40 or a 50
+unfoldable pairIn : Says → List ℕ
+pairIn missing = []
+pairIn (contents c) = cond (ltb (length c) 2) [] (take 2 c)
+
+take-less : (k n : ℕ) (l : List ℕ) → k ≤ n → take k (take n l) ≡ take k l
+take-less zero n l h = refl
+take-less (suc k) zero l h = absurd (omega arith)
+take-less (suc k) (suc n) [] h = refl
+take-less (suc k) (suc n) (x ∷ l) h = ap (λ (t : List ℕ). x ∷ t) (take-less k n l (omega arith))
 
 module _ (s : List ℕ) (p : Part) where
   abbrev at : List ℕ
@@ -75,6 +86,16 @@ module _ (s : List ℕ) (p : Part) where
         go true e = rw (long e)
         go false e = refl
 
+    pair-said : cutOf s (pairOf p) ≡ pairIn (saidIn s p)
+    unfolding pairOf cutOf pairIn saidIn
+    pair-said = go (ltb (p .len) 2) (p .held) refl refl
+      where
+        go : (b h : Bool) → ltb (p .len) 2 ≡ b → p .held ≡ h → cutOf s (cond b absent (record { held = h; start = p .start; len = 2 })) ≡ pairIn (cond h (contents at) missing)
+        go true true e f = rw (long f, e)
+        go true false e f = refl
+        go false true e f = rw (long f, e) (sym (take-less 2 (p .len) (drop (p .start) s) (ltb-false (p .len) 2 e)))
+        go false false e f = refl
+
     secure-said : isSecurity p ≡ secureIn (saidIn s p)
     unfolding isSecurity secureIn saidIn
     secure-said = go (p .held) refl
@@ -84,16 +105,16 @@ module _ (s : List ℕ) (p : Part) where
         go false e = refl
 
 -- a request by octet 4, its identity and what is found
-unfoldable saying : ℕ → Bool → List ℕ → Says → Says → Says → Said
-saying o known identity x y z =
+unfoldable saying : ℕ → Bool → List ℕ → Says → Says → Says → Says → Says → Said
+saying o known identity x y z u v =
     cond (both (isFourth o) (both known (both (capableIn x) (secureIn y))))
-    (says (record { kind = o % 16; ksi = o / 16; identity = identity; capability = octetsIn x; security = octetsIn y; last = octetsIn z }))
+    (says (record { regtype = o % 16; ksi = o / 16; identity = identity; capability = octetsIn x; security = octetsIn y; last = octetsIn z; uplink = pairIn u; sessions = pairIn v }))
     nothing
 
 -- each choice of the reading, told
 
 judged-told : (s : List ℕ) (n : ℕ) (l : Elements) → Sound true (length s) l
-    → toldBy s (judgedOf s n l) ≡ saying (getD s 3 0) (isIdentity (getD s 6 0) n) (cutOf s (record { held = true; start = 6; len = n })) (saidIn s (firstOf 0x10 l)) (saidIn s (firstOf 0x2E l)) (saidIn s (firstOf 0x52 l))
+    → toldBy s (judgedOf s n l) ≡ saying (getD s 3 0) (isIdentity (getD s 6 0) n) (cutOf s (record { held = true; start = 6; len = n })) (saidIn s (firstOf 0x10 l)) (saidIn s (firstOf 0x2E l)) (saidIn s (firstOf 0x52 l)) (saidIn s (firstOf 0x40 l)) (saidIn s (firstOf 0x50 l))
 unfolding judgedOf isRequest requestIn toldBy saying
 judged-told s n l sound =
     rw (
@@ -102,6 +123,8 @@ judged-told s n l sound =
       ← able-said s (firstOf 0x10 l),
       ← cut-said s (firstOf 0x2E l),
       ← cut-said s (firstOf 0x52 l),
+      ← pair-said s (firstOf 0x40 l) (λ h. found-inside true (length s) 0x40 l sound h .0),
+      ← pair-said s (firstOf 0x50 l) (λ h. found-inside true (length s) 0x50 l sound h .0),
     )
     (go (isRequest s n l))
   where
@@ -162,7 +185,7 @@ module _ (p : List ℕ) (long : length p ≡ 6 + identityIn p) (s : List ℕ) wh
   identity-same = rw (drop-append-le 6 p s (omega arith)) (take-at (drop 6 p) s n (omega (arith, length-drop 6 p)))
 
   parts-told : toldBy all (partsReading all n)
-      ≡ cond (formed true p s) (saying (getD p 3 0) (isIdentity (getD p 6 0) n) (drop 6 p) (said true p 0x10 s) (said true p 0x2E s) (said true p 0x52 s)) nothing
+      ≡ cond (formed true p s) (saying (getD p 3 0) (isIdentity (getD p 6 0) n) (drop 6 p) (said true p 0x10 s) (said true p 0x2E s) (said true p 0x52 s) (said true p 0x40 s) (said true p 0x50 s)) nothing
   unfolding partsReading askedOf
   parts-told =
       rw (le-ltb (length all) (6 + n) room, ← long, ended-told all (endOf (elementsFrom true all (length p))) (judgedOf all n (elementsFrom true all (length p))))
@@ -170,7 +193,7 @@ module _ (p : List ℕ) (long : length p ≡ 6 + identityIn p) (s : List ℕ) wh
 
   told-of : toldBy all (askingOf all)
       ≡ cond (eqb (getD p 0 0) 0x7E) (cond (eqb (getD p 1 0) 0x00) (cond (eqb (getD p 2 0) 0x41)
-      (cond (formed true p s) (saying (getD p 3 0) (isIdentity (getD p 6 0) n) (drop 6 p) (said true p 0x10 s) (said true p 0x2E s) (said true p 0x52 s)) nothing)
+      (cond (formed true p s) (saying (getD p 3 0) (isIdentity (getD p 6 0) n) (drop 6 p) (said true p 0x10 s) (said true p 0x2E s) (said true p 0x52 s) (said true p 0x40 s) (said true p 0x50 s)) nothing)
       nothing) nothing) nothing
   unfolding askingOf requestReading restReading
   told-of =
@@ -187,19 +210,27 @@ module _ (p : List ℕ) (long : length p ≡ 6 + identityIn p) (s : List ℕ) wh
         parts-told,
       )
 
--- Elements that say the same of 10, 2E and 52 make the same request
+-- Elements that say the same of 10, 2E, 52, 40 and 50 make the same request
 module _ (p : List ℕ) (long : length p ≡ 6 + identityIn p) where
-  same-request : (s t : List ℕ) → Same true p 0x10 s t → Same true p 0x2E s t → Same true p 0x52 s t → toldBy (p ++ s) (askingOf (p ++ s)) ≡ toldBy (p ++ t) (askingOf (p ++ t))
-  same-request s t x y z = rw (told-of p long s, told-of p long t, x .1, x .0, y .0, z .0)
+  same-request : (s t : List ℕ) → Same true p 0x10 s t → Same true p 0x2E s t → Same true p 0x52 s t → Same true p 0x40 s t → Same true p 0x50 s t → toldBy (p ++ s) (askingOf (p ++ s)) ≡ toldBy (p ++ t) (askingOf (p ++ t))
+  same-request s t x y z u v = rw (told-of p long s, told-of p long t, x .1, x .0, y .0, z .0, u .0, v .0)
 
   module _ (ps : List Piece) (all : AllAlone true ps) (a : Piece) (h : Alone true (a .id) (a .rest)) (s : List ℕ) where
     -- "Reading a request back accepts, elements in any order"
     pub request-order-free : (b : Piece) → Alone true (b .id) (b .rest) → a .id ≢ b .id
         → toldBy (p ++ (piecesOctets ps ++ (pieceOctets a ++ (pieceOctets b ++ s)))) (askingOf (p ++ (piecesOctets ps ++ (pieceOctets a ++ (pieceOctets b ++ s)))))
         ≡ toldBy (p ++ (piecesOctets ps ++ (pieceOctets b ++ (pieceOctets a ++ s)))) (askingOf (p ++ (piecesOctets ps ++ (pieceOctets b ++ (pieceOctets a ++ s)))))
-    request-order-free b k n = same-request _ _ (order-free true 0x10 p ps all a h s b k n) (order-free true 0x2E p ps all a h s b k n) (order-free true 0x52 p ps all a h s b k n)
+    request-order-free b k n =
+        same-request _ _ (free 0x10) (free 0x2E) (free 0x52) (free 0x40) (free 0x50)
+      where
+        free : (x : ℕ) → Same true p x (piecesOctets ps ++ (pieceOctets a ++ (pieceOctets b ++ s))) (piecesOctets ps ++ (pieceOctets b ++ (pieceOctets a ++ s)))
+        free x = order-free true x p ps all a h s b k n
 
     -- "Unknown ones are skipped"
-    pub request-unknown-skipped : a .id ≢ 0x10 → a .id ≢ 0x2E → a .id ≢ 0x52
+    pub request-unknown-skipped : a .id ≢ 0x10 → a .id ≢ 0x2E → a .id ≢ 0x52 → a .id ≢ 0x40 → a .id ≢ 0x50
         → toldBy (p ++ (piecesOctets ps ++ (pieceOctets a ++ s))) (askingOf (p ++ (piecesOctets ps ++ (pieceOctets a ++ s)))) ≡ toldBy (p ++ (piecesOctets ps ++ s)) (askingOf (p ++ (piecesOctets ps ++ s)))
-    request-unknown-skipped x y z = same-request _ _ (unknown-skipped true 0x10 p ps all a h s x) (unknown-skipped true 0x2E p ps all a h s y) (unknown-skipped true 0x52 p ps all a h s z)
+    request-unknown-skipped x y z u v =
+        same-request _ _ (skipped 0x10 x) (skipped 0x2E y) (skipped 0x52 z) (skipped 0x40 u) (skipped 0x50 v)
+      where
+        skipped : (id : ℕ) → a .id ≢ id → Same true p id (piecesOctets ps ++ (pieceOctets a ++ s)) (piecesOctets ps ++ s)
+        skipped id = unknown-skipped true id p ps all a h s

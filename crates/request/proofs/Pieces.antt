@@ -7,15 +7,18 @@ use native.Mathlib.Omega.{arith}
 use native.Mathlib.Nat.{add-zero, zero-add}
 use lib.ListN.{length, take, drop, replicate, length-append, drop-of-length-le}
 use lib.Seq.{take-at, drop-append-add, drop-drop, length-take-le, paste, paste-zero, take-length, take-all}
-use lib.Dec.{ltb, eqb}
+use lib.Dec.{ltb, leb, eqb}
 use borrow.Author.Tests.{ne-eqb, le-leb, lt-leb}
 use Rattle.record.specs.declared.Access.{Access}
+use Rattle.record.specs.declared.Device.{Device}
 use Rattle.record.specs.declared.Answer.the-variants.{Taken, Short}
+use Rattle.record.specs.Tests.{either}
 use Rattle.identity.specs.Identity.{slotOf, partOf, identityOf}
 use Rattle.request.specs.Layout.{lengthIn, withLead, itemOctets, laid, openingHead, opening, itemsOf, octetsOf, shown, layout}
 use Rattle.request.specs.Layout.Form.{shortForm, plainForm}
-use Rattle.request.specs.Writing.{octets3, lastOf, sayingOf, over, gutisOf}
-use Rattle.request.specs.Steps.{spliced, Put, sizedOf, sentOf, sentOver}
+use Rattle.request.specs.Writing.{octets3, octets2, lastOf, uplinkOf, sessionsOf, sayingOf, over, gutisOf}
+use Rattle.request.specs.Steps.{spliced, Put, tailOctets, sizedOf, heldLengths, shownLengths, sentOf, sentOver}
+use Rattle.request.specs.declared.writing.Lengths.{Lengths}
 
 module _ (b : List ℕ) (at : ℕ) (s t : List ℕ) (h : at ≤ length b) where
   abbrev p : List ℕ
@@ -65,44 +68,79 @@ pub lead-long : (lead s : List ℕ) → (length s ≡ 0 → ⊥) → length (wit
 lead-long lead s h = ap length (lead-some lead s h) ∙ length-append lead s
 
 -- a request is its opening and one element behind the other
-pub in-order : (ksi : ℕ) (i c s l : List ℕ) → octetsOf (sayingOf ksi i c s l)
-    ≡ (((openingHead 1 ksi (length i) ++ i) ++ itemOctets shortForm 0x10 c) ++ itemOctets shortForm 0x2E s) ++ itemOctets plainForm 0x52 l
-unfolding octetsOf opening itemsOf laid sayingOf
-in-order ksi i c s l = simp (append-assoc, append-nil)
+pub in-order : (regtype ksi : ℕ) (i c s l u v : List ℕ) → octetsOf (sayingOf regtype ksi i c s l u v)
+    ≡ (((openingHead regtype ksi (length i) ++ i) ++ itemOctets shortForm 0x10 c) ++ itemOctets shortForm 0x2E s) ++ tailOctets l u v
+unfolding octetsOf opening itemsOf laid sayingOf tailOctets
+in-order regtype ksi i c s l u v = simp (append-assoc, append-nil)
 
 -- how many octets they take
-pub opens : (ksi : ℕ) (i : List ℕ) → length (openingHead 1 ksi (length i) ++ i) ≡ 6 + length i
+pub opens : (regtype ksi : ℕ) (i : List ℕ) → length (openingHead regtype ksi (length i) ++ i) ≡ 6 + length i
 unfolding openingHead lengthIn
-opens ksi i = omega arith
+opens regtype ksi i = omega arith
 
-pub spread : (ksi : ℕ) (i c s l : List ℕ) → length (octetsOf (sayingOf ksi i c s l))
-    ≡ length (openingHead 1 ksi (length i) ++ i) + length (itemOctets shortForm 0x10 c) + length (itemOctets shortForm 0x2E s) + length (itemOctets plainForm 0x52 l)
-spread ksi i c s l = rw in-order (simp length-append)
+pub spread : (regtype ksi : ℕ) (i c s l u v : List ℕ) → length (octetsOf (sayingOf regtype ksi i c s l u v))
+    ≡ length (openingHead regtype ksi (length i) ++ i) + length (itemOctets shortForm 0x10 c) + length (itemOctets shortForm 0x2E s) + length (tailOctets l u v)
+spread regtype ksi i c s l u v = rw in-order (simp length-append)
+
+pub spread-tail : (l u v : List ℕ) → length (tailOctets l u v) ≡ length (itemOctets plainForm 0x52 l) + length (itemOctets shortForm 0x40 u) + length (itemOctets shortForm 0x50 v)
+unfolding tailOctets
+spread-tail l u v = simp length-append
 
 sizes : (lead s : List ℕ) → length (withLead lead s) ≡ sizedOf (length lead) (length s)
 unfolding withLead
 sizes lead [] = refl
 sizes lead (o ∷ s) = rw (ne-eqb (length (o ∷ s)) 0 (λ e. omega arith)) (length-append lead (o ∷ s))
 
-pub long : (ksi : ℕ) (i c s l : List ℕ) → length (octetsOf (sayingOf ksi i c s l)) ≡ 6 + (length i + (sizedOf 2 (length c) + (sizedOf 2 (length s) + sizedOf 1 (length l))))
+pub long : (regtype ksi : ℕ) (i c s l u v : List ℕ) → length (octetsOf (sayingOf regtype ksi i c s l u v))
+    ≡ 6 + (length i + (sizedOf 2 (length c) + (sizedOf 2 (length s) + (sizedOf 1 (length l) + (sizedOf 2 (length u) + sizedOf 2 (length v))))))
 unfolding itemOctets lengthIn
-long ksi i c s l = spread ksi i c s l ∙ rw (opens, sizes _ c, sizes _ s, sizes _ l) (omega arith)
+long regtype ksi i c s l u v = spread regtype ksi i c s l u v ∙ rw (spread-tail, opens, sizes _ c, sizes _ s, sizes _ l, sizes _ u, sizes _ v) (omega arith)
 
--- With ngKSI 7 nothing is shown of the capability and of the last area, and without a last area nothing of that.
-shows : (x y : Bool) (ksi k : ℕ) (i cap sec area : List ℕ) → length area ≡ 6
-    → cond x (record { kind = 1; ksi = ksi; identity = i; capability = []; security = sec; last = [] }) (sayingOf ksi i (take k cap) sec (cond y [] area))
-    ≡ sayingOf ksi i (take (cond x 0 k) cap) sec (take (cond x 0 (cond y 0 6)) area)
-unfolding sayingOf
-shows true y ksi k i cap sec area h = refl
-shows false true ksi k i cap sec area h = refl
-shows false false ksi k i cap sec area h = rw (take-all 6 area (omega arith))
+-- a piece that is left out, or taken to its end
+left : (b : Bool) (n : ℕ) (l : List ℕ) → length l ≤ n → take (cond b 0 n) l ≡ cond b [] l
+left true n l h = refl
+left false n l h = take-all n l h
 
-pub composed : (a : Access) (i cap sec area : List ℕ) (k m c s l : ℕ)
-    → c ≡ cond (eqb (a .ksi) 7) 0 k → s ≡ m → l ≡ cond (eqb (a .ksi) 7) 0 (cond (eqb (a .visited) 0) 0 6) → area ≡ octets3 (a .lastnet) ++ octets3 (a .lastcode)
-    → octetsOf (sayingOf (a .ksi) i (take c cap) (take s sec) (take l area)) ≡ layout (sayingOf (a .ksi) i (take k cap) (take m sec) (lastOf a))
-unfolding layout shown sayingOf lastOf
-composed a i cap sec area k m c s l ec es el ea =
-    rw (ec, es, el, ea) (sym (ap octetsOf (shows (eqb (a .ksi) 7) (eqb (a .visited) 0) (a .ksi) k i cap (take m sec) (octets3 (a .lastnet) ++ octets3 (a .lastcode)) refl)))
+-- What is shown of each piece is what the layout shows of it.
+module _ (a : Access) (d : Device) where
+  abbrev area : List ℕ
+  area = octets3 (a .lastnet) ++ octets3 (a .lastcode)
+
+  -- by whether ngKSI is 7
+  abbrev lengthsBy : Bool → Lengths
+  lengthsBy x = cond x (record { capability = 0; security = d .security; last = 0; uplink = 0; sessions = 0 }) (heldLengths a d)
+
+  shows : (x : Bool) (i cap sec : List ℕ)
+      → sayingOf (a .regtype) (a .ksi) i (take (lengthsBy x .capability) cap) (take (lengthsBy x .security) sec) (take (lengthsBy x .last) area) (take (lengthsBy x .uplink) (octets2 (a .uplink))) (take (lengthsBy x .sessions) (octets2 (a .sessions)))
+      ≡ cond x (sayingOf (a .regtype) (a .ksi) i [] (take (d .security) sec) [] [] []) (sayingOf (a .regtype) (a .ksi) i (take (d .capability) cap) (take (d .security) sec) (lastOf a) (uplinkOf a) (sessionsOf a))
+  unfolding lastOf uplinkOf sessionsOf heldLengths
+  shows true i cap sec = refl
+  shows false i cap sec =
+      rw (
+        left (eqb (a .visited) 0) 6 area (omega arith),
+        left (either (leb (a .regtype) 1) (eqb (a .uplink) 0)) 2 (octets2 (a .uplink)) (omega arith),
+        left (leb (a .regtype) 1) 2 (octets2 (a .sessions)) (omega arith),
+      )
+
+  pub composed : (i cap sec l u v : List ℕ) (n : Lengths) → n ≡ shownLengths a d → l ≡ area → u ≡ octets2 (a .uplink) → v ≡ octets2 (a .sessions)
+      → octetsOf (sayingOf (a .regtype) (a .ksi) i (take (n .capability) cap) (take (n .security) sec) (take (n .last) l) (take (n .uplink) u) (take (n .sessions) v))
+      ≡ layout (sayingOf (a .regtype) (a .ksi) i (take (d .capability) cap) (take (d .security) sec) (lastOf a) (uplinkOf a) (sessionsOf a))
+  unfolding layout shown sayingOf shownLengths
+  composed i cap sec l u v n en el eu ev = rw (en, el, eu, ev) (ap octetsOf (shows (eqb (a .ksi) 7) i cap sec))
+
+  -- and no more than there is
+  pub few : (n : Lengths) → n ≡ shownLengths a d → d .capability ≤ 13 → d .security ≤ 8
+      → (n .capability ≤ 13) × ((n .security ≤ 8) × ((n .last ≤ 6) × ((n .uplink ≤ 2) × (n .sessions ≤ 2))))
+  unfolding shownLengths heldLengths
+  few n e c s = rw e (go (eqb (a .ksi) 7))
+    where
+      most : (b : Bool) (k : ℕ) → cond b 0 k ≤ k
+      most true k = omega arith
+      most false k = omega arith
+
+      go : (x : Bool) → (lengthsBy x .capability ≤ 13) × ((lengthsBy x .security ≤ 8) × ((lengthsBy x .last ≤ 6) × ((lengthsBy x .uplink ≤ 2) × (lengthsBy x .sessions ≤ 2))))
+      go true = (omega arith, (s, (omega arith, (omega arith, omega arith))))
+      go false = (c, (s, (most (eqb (a .visited) 0) 6, (most (either (leb (a .regtype) 1) (eqb (a .uplink) 0)) 2, most (leb (a .regtype) 1) 2))))
 
 pub sent-short : (o b : List ℕ) (len : ℕ) → length o ≡ len → length b < len → (record { answer = Short; len = 0 } ≡ sentOf o (length b)) × (b ≡ sentOver o b)
 unfolding sentOf sentOver

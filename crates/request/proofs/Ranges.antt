@@ -12,7 +12,7 @@ use Rattle.record.specs.declared.Access.{Access}
 use Rattle.record.specs.declared.Hot.{Hot}
 use Rattle.record.specs.declared.Record.{Record}
 use Rattle.record.specs.Tests.{both, either, within, upTo, isFlag, isShort}
-use Rattle.ranges.specs.Valid.{deviceRanges, modeRanges, identityRanges, accessRanges, rangesOf, countersOf, cardOf, suciOf, validOf}
+use Rattle.ranges.specs.Valid.{deviceRanges, deviceNumbers, modeRanges, pendingRanges, identityRanges, accessRanges, rangesOf, countersOf, cardOf, suciOf, validOf}
 use Rattle.record.proofs.Bounds.{one, rest, least, most}
 use Rattle.record.specs.Sides.{accessOf}
 
@@ -30,13 +30,13 @@ module _ (r : Record) (valid : validOf r ≡ true) where
   ranges = one (rangesOf r) _ valid
 
   device : deviceRanges (r .hot .dev) ≡ true
-  unfolding rangesOf
-  device = one (deviceRanges (r .hot .dev)) _ ranges
+  unfolding rangesOf deviceNumbers
+  device = one (deviceRanges (r .hot .dev)) _ (one (deviceNumbers (r .hot .dev)) _ ranges)
 
   accesses : both (accessRanges (r .hot .a0) (r .equivalents0) (r .e0)) (accessRanges (r .hot .a1) (r .equivalents1) (r .e1)) ≡ true
   unfolding rangesOf
   accesses =
-      let all = rest (deviceRanges (r .hot .dev)) _ ranges in
+      let all = rest (deviceNumbers (r .hot .dev)) _ ranges in
       joint (one (accessRanges (r .hot .a0) (r .equivalents0) (r .e0)) _ all) (one (accessRanges (r .hot .a1) (r .equivalents1) (r .e1)) _ (rest (accessRanges (r .hot .a0) (r .equivalents0) (r .e0)) _ all))
     where
       joint : {x y : Bool} → x ≡ true → y ≡ true → both x y ≡ true
@@ -87,8 +87,18 @@ key a e =
     (rest (isFlag (a .visited)) _
     (rest (isFlag (a .guti)) _ (rest (isShort (a .code)) _ e)))))
 
-keys : (a : Access) (x : Bool) → both (modeRanges a) (both (identityRanges a) x) ≡ true → a .ksi ≤ 7
-keys a x e = key a (one (identityRanges a) _ (rest (modeRanges a) _ e))
+sort : (a : Access) → pendingRanges a ≡ true → (1 ≤ a .regtype) × (a .regtype ≤ 3)
+unfolding pendingRanges
+sort a e = let w : within 1 3 (a .regtype) ≡ true = one (within 1 3 (a .regtype)) _ e in (least 1 3 (a .regtype) w, most 1 3 (a .regtype) w)
+
+-- the key set and the type
+abbrev Marked : Access → Type 0
+Marked a = (a .ksi ≤ 7) × ((1 ≤ a .regtype) × (a .regtype ≤ 3))
+
+marked : (a : Access) (x : Bool) → both (modeRanges a) (both (pendingRanges a) (both (identityRanges a) x)) ≡ true → Marked a
+marked a x e =
+    let pending = rest (modeRanges a) _ e in
+    (key a (one (identityRanges a) _ (rest (pendingRanges a) _ pending)), sort a (one (pendingRanges a) _ pending))
 
 -- what a request over an access in state 4 is made of
 pub record Ready (r : Record) (a : Access) : Type 0 where
@@ -97,6 +107,7 @@ pub record Ready (r : Record) (a : Access) : Type 0 where
   pub capability : (1 ≤ r .hot .dev .capability) × (r .hot .dev .capability ≤ 13)
   pub security : (2 ≤ r .hot .dev .security) × (r .hot .dev .security ≤ 8)
   pub ksi : a .ksi ≤ 7
+  pub regtype : (1 ≤ a .regtype) × (a .regtype ≤ 3)
 
 module _ (r : Record) (access : ℕ) (valid : validOf r ≡ true) (state : accessOf (r .hot) access .state ≡ 4) where
   carded : r .hot .dev .card ≡ 1
@@ -106,16 +117,16 @@ module _ (r : Record) (access : ℕ) (valid : validOf r ≡ true) (state : acces
   unfolding suciOf
   opened = eqb-true (getD (r .suci) 0 0) 1 (other (eqb (r .hot .dev .card) 0) (unknown (r .hot .dev) carded) (suci r valid))
 
-  either-key : (b : Bool) → cond b (r .hot .a0) (r .hot .a1) .ksi ≤ 7
+  either-marked : (b : Bool) → Marked (cond b (r .hot .a0) (r .hot .a1))
   unfolding accessRanges
-  either-key true = keys (r .hot .a0) _ (one (accessRanges (r .hot .a0) (r .equivalents0) (r .e0)) _ (accesses r valid))
-  either-key false = keys (r .hot .a1) _ (rest (accessRanges (r .hot .a0) (r .equivalents0) (r .e0)) _ (accesses r valid))
+  either-marked true = marked (r .hot .a0) _ (one (accessRanges (r .hot .a0) (r .equivalents0) (r .e0)) _ (accesses r valid))
+  either-marked false = marked (r .hot .a1) _ (rest (accessRanges (r .hot .a0) (r .equivalents0) (r .e0)) _ (accesses r valid))
 
-  own-key : accessOf (r .hot) access .ksi ≤ 7
+  own-marked : Marked (accessOf (r .hot) access)
   unfolding accessOf
-  own-key = either-key (eqb access 0)
+  own-marked = either-marked (eqb access 0)
 
   pub ready : Ready r (accessOf (r .hot) access)
   ready =
       let sizes = lengths (r .hot .dev) carded (device r valid) in
-      record { suci = sizes .0; opens = opened; capability = sizes .1 .0; security = sizes .1 .1; ksi = own-key }
+      record { suci = sizes .0; opens = opened; capability = sizes .1 .0; security = sizes .1 .1; ksi = own-marked .0; regtype = own-marked .1 }

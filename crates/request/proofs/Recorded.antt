@@ -13,7 +13,7 @@ use Rattle.record.specs.declared.Access.{Access}
 use Rattle.record.specs.declared.Record.{Record}
 use Rattle.record.specs.declared.Answer.the-variants.{Taken, Range, State, Short}
 use Rattle.record.specs.Answers.{isTaken}
-use Rattle.record.specs.Tests.{both}
+use Rattle.record.specs.Tests.{both, either as orElse}
 use Rattle.ranges.specs.Valid.{validOf}
 use Rattle.record.proofs.Bounds.{rest}
 use Rattle.identity.specs.Identity.{slotOf, partOf, identityOf}
@@ -21,7 +21,7 @@ use Rattle.request.specs.Layout.{Fit, shown}
 use Rattle.request.specs.Reading.{askingOf, toldBy}
 use Rattle.request.specs.Reading.Said.{says}
 use Rattle.record.specs.Sides.{accessOf}
-use Rattle.request.specs.Writing.{gutisOf, lastOf, sayingOf, saysOf, fieldsOf, requestOf, writingAnswer, writtenOf, over, bufferOf}
+use Rattle.request.specs.Writing.{gutisOf, lastOf, uplinkOf, sessionsOf, sayingOf, saysOf, fieldsOf, requestOf, writingAnswer, writtenOf, over, bufferOf}
 use Rattle.request.proofs.Ranges.{Ready, ready}
 use Rattle.request.proofs.RoundTrip.{round-layout}
 
@@ -76,6 +76,18 @@ area : (a : Access) → (lastOf a ≡ []) ⊎ (length (lastOf a) ≡ 6)
 unfolding lastOf
 area a = six (eqb (a .visited) 0) _ _ _ _ _ _
 
+two : (x : Bool) (a b : ℕ) → (cond x [] (a ∷ b ∷ []) ≡ []) ⊎ (length (cond x [] (a ∷ b ∷ [])) ≡ 2)
+two true a b = inl refl
+two false a b = inr refl
+
+uplinks : (a : Access) → (uplinkOf a ≡ []) ⊎ (length (uplinkOf a) ≡ 2)
+unfolding uplinkOf
+uplinks a = two (orElse (leb (a .regtype) 1) (eqb (a .uplink) 0)) _ _
+
+sessions : (a : Access) → (sessionsOf a ≡ []) ⊎ (length (sessionsOf a) ≡ 2)
+unfolding sessionsOf
+sessions a = two (leb (a .regtype) 1) _ _
+
 module _ (r : Record) (access : ℕ) (whole : Whole r) (valid : validOf r ≡ true) (state : accessOf (r .hot) access .state ≡ 4) where
   abbrev all : Ready r (accessOf (r .hot) access)
   all = ready r access valid state
@@ -88,7 +100,7 @@ module _ (r : Record) (access : ℕ) (whole : Whole r) (valid : validOf r ≡ tr
   pub fits : Fit (fieldsOf r access)
   unfolding fieldsOf saysOf sayingOf
   fits = record {
-    kind = refl;
+    regtype = all .regtype;
     ksi = all .ksi;
     identity = known (r .guti0) (r .guti1) _ access _ _ _ _ _ (whole .guti0) (whole .guti1) suci;
     capability = rw (length-take-le (r .hot .dev .capability) (r .capability) (omega (arith, all .capability .1, whole .capability))) (all .capability .1);
@@ -96,6 +108,8 @@ module _ (r : Record) (access : ℕ) (whole : Whole r) (valid : validOf r ≡ tr
         let n : length (take (r .hot .dev .security) (r .security)) ≡ r .hot .dev .security = length-take-le (r .hot .dev .security) (r .security) (omega (arith, all .security .1, whole .security)) in
         (rw n (all .security .0), rw n (all .security .1));
     last = area (accessOf (r .hot) access);
+    uplink = uplinks (accessOf (r .hot) access);
+    sessions = sessions (accessOf (r .hot) access);
   }
 
   -- reading back the octets of a request gives what the record says

@@ -9,14 +9,14 @@ use native.Mathlib.Omega.{arith}
 use lib.ListN.{length, getD, length-append}
 use lib.Seq.{take-at}
 use lib.Dec.{eqb}
-use borrow.Author.Tests.{lt-ltb, le-ltb, le-leb, eq-eqb, ne-eqb}
+use borrow.Author.Tests.{lt-ltb, le-ltb, le-leb, ne-eqb}
 use Rattle.octets.specs.declared.Part.{Part}
 use Rattle.octets.specs.declared.Ending.the-variants.{Whole}
 use Rattle.octets.specs.Element.{Elements, formatOf, elementsFrom, firstOf, endOf}
 use Rattle.messages.specs.Message.{openedBy, endedBy}
 use Rattle.request.specs.Layout.{Fields, Fit, Item, lengthIn, laid, openingHead, opening, itemsOf, octetsOf, shown, layout}
 use Rattle.request.specs.Layout.Form.{plainForm}
-use Rattle.request.specs.Reading.{isFourth, isIdentity, isSecurity, isCapability, isRequest, capabilityOf, requestIn, judgedOf, askedOf, partsReading, restReading, requestReading, askingOf, cutOf, toldBy}
+use Rattle.request.specs.Reading.{isFourth, isIdentity, isSecurity, isCapability, isRequest, capabilityOf, pairOf, requestIn, judgedOf, askedOf, partsReading, restReading, requestReading, askingOf, cutOf, toldBy}
 use Rattle.request.specs.Reading.Said.{says}
 use Rattle.request.specs.declared.Asking.the-variants as asking
 use Rattle.request.proofs.Back.{Reads, AllRead, short-reads, plain-reads, orElse, saysIn, some, Found, back, ends}
@@ -27,9 +27,9 @@ unfolding askingOf openedBy requestReading restReading
 headed o hi lo t n e =
     rw (lt-ltb 0 (suc (suc (suc (suc (suc (suc (length t))))))) (omega arith), lt-ltb 1 (suc (suc (suc (suc (suc (suc (length t))))))) (omega arith), lt-ltb 2 (suc (suc (suc (suc (suc (suc (length t))))))) (omega arith), le-ltb (suc (suc (suc (suc (suc (suc (length t))))))) 6 (omega arith), e)
 
-fourth : (ksi kind : ℕ) → kind ≡ 1 → ksi ≤ 7 → isFourth (ksi * 16 + kind) ≡ true
+fourth : (ksi regtype : ℕ) → 1 ≤ regtype → regtype ≤ 3 → ksi ≤ 7 → isFourth (ksi * 16 + regtype) ≡ true
 unfolding isFourth
-fourth ksi kind e h = rw (eq-eqb ((ksi * 16 + kind) % 16) 1 (omega arith), le-leb ((ksi * 16 + kind) / 16) 7 (omega arith))
+fourth ksi regtype l m h = rw (le-leb 1 ((ksi * 16 + regtype) % 16) (omega arith), le-leb ((ksi * 16 + regtype) % 16) 3 (omega arith), le-leb ((ksi * 16 + regtype) / 16) 7 (omega arith))
 
 identified : (o n : ℕ) → ((o ≡ 0xF2) × (n ≡ 11)) ⊎ ((o ≡ 0x01) × ((9 ≤ n) × (n ≤ 64))) → isIdentity o n ≡ true
 unfolding isIdentity
@@ -52,7 +52,10 @@ area-read c (inr e) = inr (plain-reads 0x52 c refl e)
 
 all-read : (f : Fields) → Fit f → AllRead (itemsOf f)
 unfolding AllRead itemsOf formatOf
-all-read f fit = (inr (short-reads 0x10 (f .capability) refl), (inr (short-reads 0x2E (f .security) refl), (area-read (f .last) (fit .last), tt)))
+all-read f fit = (
+  inr (short-reads 0x10 (f .capability) refl),
+  (inr (short-reads 0x2E (f .security) refl), (area-read (f .last) (fit .last), (inr (short-reads 0x40 (f .uplink) refl), (inr (short-reads 0x50 (f .sessions) refl), tt)))),
+)
 
 alone : (c : List ℕ) → orElse c [] ≡ c
 unfolding orElse
@@ -78,12 +81,20 @@ module _ {s : List ℕ} {q : Part} where
   stays [] h = rw (h .len)
   stays (o ∷ c) h = rw (ne-eqb (q .len) 0 (λ e. omega (arith, h .len))) (h .cut)
 
+  -- a status of two octets or none is all of it
+  paired : (c : List ℕ) → Found s q c → (c ≡ []) ⊎ (length c ≡ 2) → cutOf s (pairOf q) ≡ c
+  unfolding pairOf cutOf
+  paired c h (inl e) = let z : q .len ≡ 0 = h .len ∙ ap length e in rw (z, e)
+  paired c h (inr e) = let z : q .len ≡ 2 = h .len ∙ e in rw z (rw z at (h .cut))
+
 -- elements that say what the fields say, in any order, others among them
 pub record Tells (i : List Item) (f : Fields) : Type 0 where
   pub read : AllRead i
   pub capability : saysIn 0x10 i ≡ f .capability
   pub security : saysIn 0x2E i ≡ f .security
   pub last : saysIn 0x52 i ≡ f .last
+  pub uplink : saysIn 0x40 i ≡ f .uplink
+  pub sessions : saysIn 0x50 i ≡ f .sessions
 
 module _ (f : Fields) (fit : Fit f) (i : List Item) (tells : Tells i f) where
   abbrev s : List ℕ
@@ -114,9 +125,15 @@ module _ (f : Fields) (fit : Fit f) (i : List Item) (tells : Tells i f) where
   found-last : Found s (firstOf 0x52 l) (f .last)
   found-last = rw (tells .last) at (finds 0x52)
 
+  found-uplink : Found s (firstOf 0x40 l) (f .uplink)
+  found-uplink = rw (tells .uplink) at (finds 0x40)
+
+  found-sessions : Found s (firstOf 0x50 l) (f .sessions)
+  found-sessions = rw (tells .sessions) at (finds 0x50)
+
   begins : askingOf s ≡ partsReading s n
   unfolding opening openingHead lengthIn
-  begins = let h : n ≤ 64 = size .1 in headed (f .ksi * 16 + f .kind) (n / 256) (n % 256) (f .identity ++ laid i) n (omega arith)
+  begins = let h : n ≤ 64 = size .1 in headed (f .ksi * 16 + f .regtype) (n / 256) (n % 256) (f .identity ++ laid i) n (omega arith)
 
   goes : partsReading s n ≡ judgedOf s n l
   unfolding partsReading askedOf endedBy
@@ -130,7 +147,7 @@ module _ (f : Fields) (fit : Fit f) (i : List Item) (tells : Tells i f) where
 
   opens : (isFourth (getD s 3 0) ≡ true) × (isIdentity (getD s 6 0) n ≡ true)
   unfolding opening openingHead lengthIn
-  opens = (fourth (f .ksi) (f .kind) (fit .kind) (fit .ksi), rw (leads (f .identity) (laid i) (size .0)) (identified (getD (f .identity) 0 0) n (fit .identity)))
+  opens = (fourth (f .ksi) (f .regtype) (fit .regtype .0) (fit .regtype .1) (fit .ksi), rw (leads (f .identity) (laid i) (size .0)) (identified (getD (f .identity) 0 0) n (fit .identity)))
 
   judged : judgedOf s n l ≡ asking.Request (requestIn s n l)
   unfolding judgedOf isRequest
@@ -140,13 +157,23 @@ module _ (f : Fields) (fit : Fit f) (i : List Item) (tells : Tells i f) where
   unfolding cutOf opening openingHead lengthIn
   same-identity = take-at (f .identity) (laid i) n refl
 
-  halves : (getD s 3 0 % 16 ≡ f .kind) × (getD s 3 0 / 16 ≡ f .ksi)
+  halves : (getD s 3 0 % 16 ≡ f .regtype) × (getD s 3 0 / 16 ≡ f .ksi)
   unfolding opening openingHead
-  halves = let h : f .kind ≡ 1 = fit .kind in (omega arith, omega arith)
+  halves = let h : f .regtype ≤ 3 = fit .regtype .1 in (omega arith, omega arith)
 
   told : toldBy s (asking.Request (requestIn s n l)) ≡ says f
   unfolding toldBy requestIn
-  told = rw (halves .0, halves .1, same-identity, stays (f .capability) found-capability, found-security .cut, found-last .cut)
+  told =
+      rw (
+        halves .0,
+        halves .1,
+        same-identity,
+        stays (f .capability) found-capability,
+        found-security .cut,
+        found-last .cut,
+        paired (f .uplink) found-uplink (fit .uplink),
+        paired (f .sessions) found-sessions (fit .sessions),
+      )
 
   -- "Reading a request back accepts, elements in any order": others among them change nothing of what is said
   pub any-order : toldBy (opening f ++ laid i) (askingOf (opening f ++ laid i)) ≡ says f
@@ -155,7 +182,9 @@ module _ (f : Fields) (fit : Fit f) (i : List Item) (tells : Tells i f) where
 -- the round trip: the elements in the order of the layout
 pub round : (f : Fields) → Fit f → toldBy (octetsOf f) (askingOf (octetsOf f)) ≡ says f
 unfolding octetsOf saysIn itemsOf
-round f fit = any-order f fit (itemsOf f) (record { read = all-read f fit; capability = alone (f .capability); security = alone (f .security); last = alone (f .last) })
+round f fit =
+    any-order f fit (itemsOf f)
+    (record { read = all-read f fit; capability = alone (f .capability); security = alone (f .security); last = alone (f .last); uplink = alone (f .uplink); sessions = alone (f .sessions) })
 
 -- what ngKSI 7 leaves out fits too
 either : (b : Bool) (f g : Fields) → Fit f → Fit g → Fit (cond b f g)
@@ -166,7 +195,7 @@ shown-fit : (f : Fields) → Fit f → Fit (shown f)
 unfolding shown
 shown-fit f fit =
     either (eqb (f .ksi) 7) _ f
-    (record { kind = fit .kind; ksi = fit .ksi; identity = fit .identity; capability = omega arith; security = fit .security; last = inl refl })
+    (record { regtype = fit .regtype; ksi = fit .ksi; identity = fit .identity; capability = omega arith; security = fit .security; last = inl refl; uplink = inl refl; sessions = inl refl })
     fit
 
 pub round-layout : (f : Fields) → Fit f → toldBy (layout f) (askingOf (layout f)) ≡ says (shown f)

@@ -7,14 +7,16 @@ use mathlib.Core.List.{List, [], _∷_, _++_}
 use lib.ListN.{length, getD}
 use lib.Dec.{eqb}
 
--- What a request says. A capability or a last area of no octets is none.
+-- What a request says. A capability, a last area, an uplink data status or a PDU session status of no octets is none.
 pub record Fields : Type 0 where
-  pub kind : ℕ
+  pub regtype : ℕ
   pub ksi : ℕ
   pub identity : List ℕ
   pub capability : List ℕ
   pub security : List ℕ
   pub last : List ℕ
+  pub uplink : List ℕ
+  pub sessions : List ℕ
 
 -- How long the length of an element is: one octet, two octets, or none
 pub data Form : Type 0 where
@@ -45,20 +47,23 @@ unfoldable pub laid : List Item → List ℕ
 laid [] = []
 laid (item f id c ∷ l) = itemOctets f id c ++ laid l
 
--- "All begin 7E 00 and a type: 41 request"; "octet 4 is ngKSI times 16 plus 1; identity with two-octet length"
+-- "All begin 7E 00 and a type: 41 request"; octet 4 is ngKSI times 16 plus the type; "identity with two-octet length"
 unfoldable pub openingHead : ℕ → ℕ → ℕ → List ℕ
-openingHead kind ksi n = 0x7E ∷ 0x00 ∷ 0x41 ∷ (ksi * 16 + kind) ∷ lengthIn longForm n
+openingHead regtype ksi n = 0x7E ∷ 0x00 ∷ 0x41 ∷ (ksi * 16 + regtype) ∷ lengthIn longForm n
 
 -- what every request opens with
 unfoldable pub opening : Fields → List ℕ
-opening f = openingHead (f .kind) (f .ksi) (length (f .identity)) ++ f .identity
+opening f = openingHead (f .regtype) (f .ksi) (length (f .identity)) ++ f .identity
 
--- "then 10 (5GMM capability), 2E, and 52 if a last area is held": one line an element, in their order
+-- "then 10 (5GMM capability), 2E, and 52 if a last area is held": one line an element, in their order; "beside 10 the uplink data status (40, if not
+-- empty) and PDU session status (50) .., in this order after 52"
 unfoldable pub itemsOf : Fields → List Item
 itemsOf f =
     item shortForm 0x10 (f .capability)
     ∷ item shortForm 0x2E (f .security)
     ∷ item plainForm 0x52 (f .last)
+    ∷ item shortForm 0x40 (f .uplink)
+    ∷ item shortForm 0x50 (f .sessions)
     ∷ []
 
 unfoldable pub octetsOf : Fields → List ℕ
@@ -66,17 +71,19 @@ octetsOf f = opening f ++ laid (itemsOf f)
 
 -- "With ngKSI 7 only 2E follows the identity."
 unfoldable pub shown : Fields → Fields
-shown f = cond (eqb (f .ksi) 7) (record { kind = f .kind; ksi = f .ksi; identity = f .identity; capability = []; security = f .security; last = [] }) f
+shown f = cond (eqb (f .ksi) 7) (record { regtype = f .regtype; ksi = f .ksi; identity = f .identity; capability = []; security = f .security; last = []; uplink = []; sessions = [] }) f
 
 unfoldable pub layout : Fields → List ℕ
 layout f = octetsOf (shown f)
 
--- What a request may say: an identity of F2 and 10 octets, or 01 and 9 to 64 octets in all; a capability of at most 13 octets,
--- a security capability of 2 to 8; a last area of six octets or none
+-- What a request may say: type 1 to 3; an identity of F2 and 10 octets, or 01 and 9 to 64 octets in all; a capability of at most 13 octets,
+-- a security capability of 2 to 8; a last area of six octets or none, each status of two or none
 pub record Fit (f : Fields) : Type 0 where
-  pub kind : f .kind ≡ 1
+  pub regtype : (1 ≤ f .regtype) × (f .regtype ≤ 3)
   pub ksi : f .ksi ≤ 7
   pub identity : ((getD (f .identity) 0 0 ≡ 0xF2) × (length (f .identity) ≡ 11)) ⊎ ((getD (f .identity) 0 0 ≡ 0x01) × ((9 ≤ length (f .identity)) × (length (f .identity) ≤ 64)))
   pub capability : length (f .capability) ≤ 13
   pub security : (2 ≤ length (f .security)) × (length (f .security) ≤ 8)
   pub last : (f .last ≡ []) ⊎ (length (f .last) ≡ 6)
+  pub uplink : (f .uplink ≡ []) ⊎ (length (f .uplink) ≡ 2)
+  pub sessions : (f .sessions ≡ []) ⊎ (length (f .sessions) ≡ 2)

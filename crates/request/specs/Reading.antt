@@ -14,9 +14,9 @@ use Rattle.request.specs.declared.Request.{Request}
 use Rattle.request.specs.declared.Asking.{Asking}
 use Rattle.request.specs.declared.Asking.the-variants as asking
 
--- "octet 4 with low half 1 and high half 0 to 7"
+-- "octet 4 with low half 1 and high half 0 to 7"; 2 and 3 are updates
 unfoldable pub isFourth : ℕ → Bool
-isFourth o = both (eqb (o % 16) 1) (leb (o / 16) 7)
+isFourth o = both (within 1 3 (o % 16)) (leb (o / 16) 7)
 
 -- "identity F2 and 10 octets, or 01 and 9 to 64 octets in all"
 unfoldable pub isIdentity : ℕ → ℕ → Bool
@@ -38,14 +38,21 @@ isRequest s n l = both (isFourth (getD s 3 0)) (both (isIdentity (getD s 6 0) n)
 unfoldable pub capabilityOf : Part → Part
 capabilityOf p = cond (eqb (p .len) 0) absent p
 
+-- a status is its first two octets: "Extra octets at an element's end are ignored; a known element too short is absent"
+unfoldable pub pairOf : Part → Part
+pairOf p = cond (ltb (p .len) 2) absent (record { held = p .held; start = p .start; len = 2 })
+
+-- 40 and 50 may stand in a request of any type, and neither is a reason to refuse it
 unfoldable pub requestIn : List ℕ → ℕ → Elements → Request
 requestIn s n l = record {
-  kind = getD s 3 0 % 16;
+  regtype = getD s 3 0 % 16;
   ksi = getD s 3 0 / 16;
   identity = record { held = true; start = 6; len = n };
   capability = capabilityOf (firstOf 0x10 l);
   security = firstOf 0x2E l;
   last = firstOf 0x52 l;
+  uplink = pairOf (firstOf 0x40 l);
+  sessions = pairOf (firstOf 0x50 l);
 }
 
 unfoldable pub judgedOf : List ℕ → ℕ → Elements → Asking
@@ -81,12 +88,14 @@ pub data Said : Type 0 where
 
 unfoldable pub toldBy : List ℕ → Asking → Said
 toldBy s (asking.Request q) = says (record {
-  kind = q .kind;
+  regtype = q .regtype;
   ksi = q .ksi;
   identity = cutOf s (q .identity);
   capability = cutOf s (q .capability);
   security = cutOf s (q .security);
   last = cutOf s (q .last);
+  uplink = cutOf s (q .uplink);
+  sessions = cutOf s (q .sessions);
 })
 toldBy s (asking.Bad f at) = nothing
 toldBy s asking.Unfit = nothing

@@ -5,8 +5,14 @@ use mathlib.Core.Bool.{cond}
 use mathlib.Core.List.{List, _++_}
 use lib.ListN.{length, take, drop}
 use lib.Dec.{leb, eqb}
+use Rattle.record.specs.Tests.{either}
+use Rattle.record.specs.declared.Access.{Access}
+use Rattle.record.specs.declared.Device.{Device}
 use Rattle.record.specs.declared.Answer.the-variants.{Taken, Short}
+use Rattle.request.specs.Layout.{itemOctets}
+use Rattle.request.specs.Layout.Form.{shortForm, plainForm}
 use Rattle.request.specs.Writing.{over}
+use Rattle.request.specs.declared.writing.Lengths.{Lengths}
 use Rattle.request.specs.declared.Written.{Written}
 
 -- octets put over those of a buffer from a place on
@@ -18,9 +24,26 @@ pub record Put (buffer : List ℕ) (at : ℕ) (octets after : List ℕ) (next : 
   pub holds : after ≡ spliced buffer at octets
   pub goes : next ≡ at + length octets
 
+-- 52, 40 and 50, one behind the other
+unfoldable pub tailOctets : List ℕ → List ℕ → List ℕ → List ℕ
+tailOctets last uplink sessions = (itemOctets plainForm 0x52 last ++ itemOctets shortForm 0x40 uplink) ++ itemOctets shortForm 0x50 sessions
+
 -- how many octets an element takes with n octets of contents behind a lead of k
 abbrev pub sizedOf : ℕ → ℕ → ℕ
 sizedOf k n = cond (eqb n 0) 0 (k + n)
+
+-- how many octets a record holds of each piece behind the identity, and how many of them are shown
+unfoldable pub heldLengths : Access → Device → Lengths
+heldLengths a d = record {
+  capability = d .capability;
+  security = d .security;
+  last = cond (eqb (a .visited) 0) 0 6;
+  uplink = cond (either (leb (a .regtype) 1) (eqb (a .uplink) 0)) 0 2;
+  sessions = cond (leb (a .regtype) 1) 0 2;
+}
+
+unfoldable pub shownLengths : Access → Device → Lengths
+shownLengths a d = cond (eqb (a .ksi) 7) (record { capability = 0; security = d .security; last = 0; uplink = 0; sessions = 0 }) (heldLengths a d)
 
 -- what is written of octets into a buffer, if they have room there
 unfoldable pub sentOf : List ℕ → ℕ → Written

@@ -4,7 +4,7 @@ use mathlib.Core.Bool.{cond}
 use mathlib.Core.List.{List, [], _∷_, _++_}
 use lib.ListN.{length, take, drop}
 use lib.Dec.{leb, eqb}
-use Rattle.record.specs.Tests.{both}
+use Rattle.record.specs.Tests.{both, either}
 use Rattle.ranges.specs.Valid.{validOf}
 use Rattle.record.specs.Answers.{isTaken}
 use Rattle.record.specs.Sides.{accessOf}
@@ -28,18 +28,41 @@ octets3 n = (n / 65536 % 256) ∷ (n / 256 % 256) ∷ (n % 256) ∷ []
 unfoldable pub lastOf : Access → List ℕ
 lastOf a = cond (eqb (a .visited) 0) [] (octets3 (a .lastnet) ++ octets3 (a .lastcode))
 
+-- two octets, the first one low
+abbrev pub octets2 : ℕ → List ℕ
+octets2 n = (n % 256) ∷ (n / 256 % 256) ∷ []
+
+-- "the uplink data status (40, if not empty)": of types 2 and 3, left out if zero
+unfoldable pub uplinkOf : Access → List ℕ
+uplinkOf a = cond (either (leb (a .regtype) 1) (eqb (a .uplink) 0)) [] (octets2 (a .uplink))
+
+-- "and PDU session status (50) over sixteen sessions": of types 2 and 3, zero or not
+unfoldable pub sessionsOf : Access → List ℕ
+sessionsOf a = cond (leb (a .regtype) 1) [] (octets2 (a .sessions))
+
 -- what a request says with these
-unfoldable pub sayingOf : ℕ → List ℕ → List ℕ → List ℕ → List ℕ → Fields
-sayingOf ksi identity capability security last = record { kind = 1; ksi = ksi; identity = identity; capability = capability; security = security; last = last }
+unfoldable pub sayingOf : ℕ → ℕ → List ℕ → List ℕ → List ℕ → List ℕ → List ℕ → List ℕ → Fields
+sayingOf regtype ksi identity capability security last uplink sessions = record {
+  regtype = regtype;
+  ksi = ksi;
+  identity = identity;
+  capability = capability;
+  security = security;
+  last = last;
+  uplink = uplink;
+  sessions = sessions;
+}
 
 -- what a record says in the request over an access, a of the access's numbers and its equivalents
 unfoldable pub saysOf : Record → ℕ → Access → List ℕ → Fields
 saysOf r access a equivalents =
-    sayingOf (a .ksi)
+    sayingOf (a .regtype) (a .ksi)
     (identityOf (gutisOf (r .guti0) (r .guti1)) (take (r .hot .dev .suci) (r .suci)) access (r .hot .a0 .guti) (r .hot .a1 .guti) (a .net) equivalents (a .equivalents))
     (take (r .hot .dev .capability) (r .capability))
     (take (r .hot .dev .security) (r .security))
     (lastOf a)
+    (uplinkOf a)
+    (sessionsOf a)
 
 unfoldable pub fieldsOf : Record → ℕ → Fields
 fieldsOf r access = saysOf r access (accessOf (r .hot) access) (cond (eqb access 0) (r .equivalents0) (r .equivalents1))

@@ -12,12 +12,14 @@ pub use writing::write;
 
 // What a request says, each part as an offset and a length in its octets.
 pub struct Request {
-    pub kind: u8,
+    pub regtype: u8,
     pub ksi: u8,
     pub identity: Part,
     pub capability: Part,
     pub security: Part,
     pub last: Part,
+    pub uplink: Part,
+    pub sessions: Part,
 }
 
 // A refusal is a fault and its offset, or a well-formed request that breaks the layout.

@@ -9,15 +9,16 @@ use octets::Wanted;
 use octets::wide;
 use record::and;
 use record::or;
+use record::ranged;
 ghost use mathlib.Core.Path.{_≡_};
 ghost use Prim.Native.Nat.{_<_};
 ghost use Rattle.octets.specs.Element.{Elements, firstOf};
-ghost use Rattle.request.specs.Reading.{isFourth, isIdentity, isSecurity, isCapability, isRequest, capabilityOf, requestIn, judgedOf, partsReading, restReading, requestReading, askingOf, askingNumber};
+ghost use Rattle.request.specs.Reading.{isFourth, isIdentity, isSecurity, isCapability, isRequest, capabilityOf, pairOf, requestIn, judgedOf, partsReading, restReading, requestReading, askingOf, askingNumber};
 
 fn fourth(o: u8) -> bool
     ensures { λ r. ⌜ r ≡ isFourth o ⌝ }
 {
-    and(o % 16 == 1, o / 16 <= 7)
+    and(ranged(1, 3, o % 16), o / 16 <= 7)
 }
 
 fn identity(o: u8, n: usize) -> bool
@@ -62,14 +63,34 @@ fn held(p: Part) -> Part
     p
 }
 
-// A request, by its first 10, 2E and 52.
-fn said(msg: &[u8], n: usize, p: Part, q: Part, t: Part) -> Request
-    ensures { λ r. ⌜ ((l : Elements) → p ≡ firstOf 0x10 l → q ≡ firstOf 0x2E l → t ≡ firstOf 0x52 l → r ≡ requestIn (now (msg .entry)) n l) ⌝ }
+// The first two octets, or none.
+fn pair(p: Part) -> Part
+    ensures { λ r. ⌜ r ≡ pairOf p ⌝ }
+{
+    if p.len < 2 {
+        return Part {
+            held: false,
+            start: 0,
+            len: 0,
+        };
+    }
+    Part {
+        held: p.held,
+        start: p.start,
+        len: 2,
+    }
+}
+
+// A request, by its first 10, 2E, 52, 40 and 50.
+fn said(msg: &[u8], n: usize, p: Part, q: Part, t: Part, u: Part, v: Part) -> Request
+    ensures { λ r. ⌜ ((l : Elements) → p ≡ firstOf 0x10 l → q ≡ firstOf 0x2E l → t ≡ firstOf 0x52 l → u ≡ firstOf 0x40 l → v ≡ firstOf 0x50 l → r ≡ requestIn (now (msg .entry)) n l) ⌝ }
 {
     let o = octet(msg, 3);
     let capability = held(p);
+    let uplink = pair(u);
+    let sessions = pair(v);
     Request {
-        kind: o % 16,
+        regtype: o % 16,
         ksi: o / 16,
         identity: Part {
             held: true,
@@ -79,18 +100,21 @@ fn said(msg: &[u8], n: usize, p: Part, q: Part, t: Part) -> Request
         capability,
         security: q,
         last: t,
+        uplink,
+        sessions,
     }
 }
 
-fn judged(msg: &[u8], n: usize, p: Part, q: Part, t: Part) -> Asking
-    ensures { λ r. ⌜ ((l : Elements) → p ≡ firstOf 0x10 l → q ≡ firstOf 0x2E l → t ≡ firstOf 0x52 l → r ≡ judgedOf (now (msg .entry)) n l) ⌝ }
+fn judged(msg: &[u8], n: usize, p: Part, q: Part, t: Part, u: Part, v: Part) -> Asking
+    ensures { λ r. ⌜ ((l : Elements) → p ≡ firstOf 0x10 l → q ≡ firstOf 0x2E l → t ≡ firstOf 0x52 l → u ≡ firstOf 0x40 l → v ≡ firstOf 0x50 l → r ≡ judgedOf (now (msg .entry)) n l) ⌝ }
 {
     if fits(msg, n, p, q) {
-        return Asking::Request(said(msg, n, p, q, t));
+        return Asking::Request(said(msg, n, p, q, t, u, v));
     }
     Asking::Unfit
 }
 
+// At most four are gathered at once, so 40 and 50 by themselves: both end alike.
 fn read_parts(msg: &[u8], n: usize) -> Asking
     requires { ⌜ n < 65536 ⌝ }
     ensures { λ r. ⌜ r ≡ partsReading (now (msg .entry)) n ⌝ }
@@ -107,10 +131,19 @@ fn read_parts(msg: &[u8], n: usize) -> Asking
         Wanted::Id(0x52),
         Wanted::Nothing,
     );
+    let h = octets::gather(
+        msg,
+        6 + n,
+        true,
+        Wanted::Id(0x40),
+        Wanted::Id(0x50),
+        Wanted::Nothing,
+        Wanted::Nothing,
+    );
     let end = g.end;
     match end {
         Ending::Broken(f, at) => Asking::Bad(f, at),
-        Ending::Whole => judged(msg, n, g.first, g.second, g.third),
+        Ending::Whole => judged(msg, n, g.first, g.second, g.third, h.first, h.second),
     }
 }
 

@@ -7,6 +7,7 @@ use record::Answer;
 use record::Device;
 use record::Record;
 use record::access_of;
+use record::or;
 ghost use mathlib.Core.Path.{_≡_};
 ghost use mathlib.Core.Bool.{cond};
 ghost use mathlib.Core.List.{_++_};
@@ -17,8 +18,17 @@ ghost use Rattle.ranges.specs.Valid.{validOf};
 ghost use Rattle.record.specs.Tests.{both};
 ghost use Rattle.request.specs.Layout.{withLead, itemOctets, openingHead, octetsOf, layout};
 ghost use Rattle.request.specs.Layout.Form.{shortForm, plainForm};
-ghost use Rattle.request.specs.Writing.{gutisOf, octets3, lastOf, sayingOf, saysOf, writtenOf, bufferOf};
-ghost use Rattle.request.specs.Steps.{Put, sizedOf, sentOf, sentOver};
+ghost use Rattle.request.specs.Writing.{gutisOf, octets3, octets2, lastOf, uplinkOf, sessionsOf, sayingOf, saysOf, writtenOf, bufferOf};
+ghost use Rattle.request.specs.Steps.{Put, tailOctets, sizedOf, heldLengths, shownLengths, sentOf, sentOver};
+
+// How many octets there are of each piece behind the identity.
+struct Lengths {
+    capability: usize,
+    security: usize,
+    last: usize,
+    uplink: usize,
+    sessions: usize,
+}
 
 // Octets from a place on; the place behind them is handed back.
 fn put(buffer: &mut [u8], at: usize, src: &[u8]) -> usize
@@ -64,47 +74,60 @@ fn plain(buffer: &mut [u8], at: usize, id: u8, src: &[u8]) -> usize
     item(buffer, at, &lead, src)
 }
 
-fn head(ksi: u8, n: usize) -> [u8; 6]
-    requires { ⌜ (ksi ≤ 7) × (n ≤ 64) ⌝ }
-    ensures { λ r. ⌜ r ≡ openingHead 1 ksi n ⌝ }
+fn head(regtype: u8, ksi: u8, n: usize) -> [u8; 6]
+    requires { ⌜ (regtype ≤ 3) × ((ksi ≤ 7) × (n ≤ 64)) ⌝ }
+    ensures { λ r. ⌜ r ≡ openingHead regtype ksi n ⌝ }
 {
     [
         0x7E,
         0x00,
         0x41,
-        ksi * 16 + 1,
+        ksi * 16 + regtype,
         (n / 256) as u8,
         (n % 256) as u8,
     ]
 }
 
 // The head, then the identity.
-fn begin(buffer: &mut [u8], at: usize, ksi: u8, part: &[u8]) -> usize
-    requires { ⌜ (ksi ≤ 7) × ((length (now part) ≤ 64) × (at + (6 + length (now part)) ≤ length (now buffer))) ⌝ }
-    ensures { λ r. ⌜ Put (now (buffer .entry)) at (openingHead 1 ksi (length (now (part .entry))) ++ now (part .entry)) (now (buffer .exit)) r ⌝ }
+fn begin(buffer: &mut [u8], at: usize, regtype: u8, ksi: u8, part: &[u8]) -> usize
+    requires { ⌜ (regtype ≤ 3) × ((ksi ≤ 7) × ((length (now part) ≤ 64) × (at + (6 + length (now part)) ≤ length (now buffer)))) ⌝ }
+    ensures { λ r. ⌜ Put (now (buffer .entry)) at (openingHead regtype ksi (length (now (part .entry))) ++ now (part .entry)) (now (buffer .exit)) r ⌝ }
 {
-    let head = head(ksi, part.len());
+    let head = head(regtype, ksi, part.len());
     let from = put(buffer, at, &head);
     put(buffer, from, part)
+}
+
+// The elements behind 2E.
+fn tail(buffer: &mut [u8], at: usize, last: &[u8], uplink: &[u8], sessions: &[u8]) -> usize
+    requires { ⌜ (length (now uplink) < 256) × ((length (now sessions) < 256) × (at + length (tailOctets (now last) (now uplink) (now sessions)) ≤ length (now buffer))) ⌝ }
+    ensures { λ r. ⌜ Put (now (buffer .entry)) at (tailOctets (now (last .entry)) (now (uplink .entry)) (now (sessions .entry))) (now (buffer .exit)) r ⌝ }
+{
+    let a = plain(buffer, at, 0x52, last);
+    let b = short(buffer, a, 0x40, uplink);
+    short(buffer, b, 0x50, sessions)
 }
 
 // A request at a place of the buffer: its opening, then a line for each element.
 fn fill(
     buffer: &mut [u8],
     at: usize,
+    regtype: u8,
     ksi: u8,
     part: &[u8],
     capability: &[u8],
     security: &[u8],
     last: &[u8],
+    uplink: &[u8],
+    sessions: &[u8],
 ) -> usize
-    requires { ⌜ (ksi ≤ 7) × ((length (now part) ≤ 64) × ((length (now capability) < 256) × ((length (now security) < 256) × (at + length (octetsOf (sayingOf ksi (now part) (now capability) (now security) (now last))) ≤ length (now buffer))))) ⌝ }
-    ensures { λ r. ⌜ Put (now (buffer .entry)) at (octetsOf (sayingOf ksi (now (part .entry)) (now (capability .entry)) (now (security .entry)) (now (last .entry)))) (now (buffer .exit)) r ⌝ }
+    requires { ⌜ (regtype ≤ 3) × ((ksi ≤ 7) × ((length (now part) ≤ 64) × ((length (now capability) < 256) × ((length (now security) < 256) × ((length (now uplink) < 256) × ((length (now sessions) < 256) × (at + length (octetsOf (sayingOf regtype ksi (now part) (now capability) (now security) (now last) (now uplink) (now sessions))) ≤ length (now buffer)))))))) ⌝ }
+    ensures { λ r. ⌜ Put (now (buffer .entry)) at (octetsOf (sayingOf regtype ksi (now (part .entry)) (now (capability .entry)) (now (security .entry)) (now (last .entry)) (now (uplink .entry)) (now (sessions .entry)))) (now (buffer .exit)) r ⌝ }
 {
-    let a = begin(buffer, at, ksi, part);
+    let a = begin(buffer, at, regtype, ksi, part);
     let b = short(buffer, a, 0x10, capability);
     let c = short(buffer, b, 0x2E, security);
-    plain(buffer, c, 0x52, last)
+    tail(buffer, c, last, uplink, sessions)
 }
 
 // A number, or 0 where there is nothing.
@@ -114,37 +137,61 @@ fn unless(none: bool, n: usize) -> usize
     if none { 0 } else { n }
 }
 
-fn size(n: usize, c: usize, s: usize, l: usize) -> usize
-    requires { ⌜ (n ≤ 64) × ((c < 256) × ((s < 256) × (l < 256))) ⌝ }
-    ensures { λ r. ⌜ r ≡ 6 + (n + (sizedOf 2 c + (sizedOf 2 s + sizedOf 1 l))) ⌝ }
+// How many octets the request with these pieces has.
+fn size(
+    part: &[u8],
+    capability: &[u8],
+    security: &[u8],
+    last: &[u8],
+    uplink: &[u8],
+    sessions: &[u8],
+) -> usize
+    requires { ⌜ (length (now part) ≤ 64) × ((length (now capability) < 256) × ((length (now security) < 256) × ((length (now last) < 256) × ((length (now uplink) < 256) × (length (now sessions) < 256))))) ⌝ }
+    ensures { λ r. ⌜ r ≡ 6 + (length (now (part .entry)) + (sizedOf 2 (length (now (capability .entry))) + (sizedOf 2 (length (now (security .entry))) + (sizedOf 1 (length (now (last .entry))) + (sizedOf 2 (length (now (uplink .entry))) + sizedOf 2 (length (now (sessions .entry)))))))) ⌝ }
 {
-    let capability = unless(c == 0, 2 + c);
-    let security = unless(s == 0, 2 + s);
-    let last = unless(l == 0, 1 + l);
-    6 + (n + (capability + (security + last)))
+    let c = unless(capability.len() == 0, 2 + capability.len());
+    let s = unless(security.len() == 0, 2 + security.len());
+    let l = unless(last.len() == 0, 1 + last.len());
+    let u = unless(uplink.len() == 0, 2 + uplink.len());
+    let v = unless(sessions.len() == 0, 2 + sessions.len());
+    6 + (part.len() + (c + (s + (l + (u + v)))))
 }
 
 // The request with these pieces, if the buffer has room for it.
 fn lay(
     buffer: &mut [u8],
+    regtype: u8,
     ksi: u8,
     part: &[u8],
     capability: &[u8],
     security: &[u8],
     last: &[u8],
+    uplink: &[u8],
+    sessions: &[u8],
 ) -> Written
-    requires { ⌜ (ksi ≤ 7) × ((length (now part) ≤ 64) × ((length (now capability) < 256) × ((length (now security) < 256) × (length (now last) < 256)))) ⌝ }
-    ensures { λ r. ⌜ r ≡ sentOf (octetsOf (sayingOf ksi (now (part .entry)) (now (capability .entry)) (now (security .entry)) (now (last .entry)))) (length (now (buffer .entry))) ⌝ }
-    ensures { λ r. ⌜ now (buffer .exit) ≡ sentOver (octetsOf (sayingOf ksi (now (part .entry)) (now (capability .entry)) (now (security .entry)) (now (last .entry)))) (now (buffer .entry)) ⌝ }
+    requires { ⌜ (regtype ≤ 3) × ((ksi ≤ 7) × ((length (now part) ≤ 64) × ((length (now capability) < 256) × ((length (now security) < 256) × ((length (now last) < 256) × ((length (now uplink) < 256) × (length (now sessions) < 256))))))) ⌝ }
+    ensures { λ r. ⌜ r ≡ sentOf (octetsOf (sayingOf regtype ksi (now (part .entry)) (now (capability .entry)) (now (security .entry)) (now (last .entry)) (now (uplink .entry)) (now (sessions .entry)))) (length (now (buffer .entry))) ⌝ }
+    ensures { λ r. ⌜ now (buffer .exit) ≡ sentOver (octetsOf (sayingOf regtype ksi (now (part .entry)) (now (capability .entry)) (now (security .entry)) (now (last .entry)) (now (uplink .entry)) (now (sessions .entry)))) (now (buffer .entry)) ⌝ }
 {
-    let len = size(part.len(), capability.len(), security.len(), last.len());
+    let len = size(part, capability, security, last, uplink, sessions);
     if buffer.len() < len {
         return Written {
             answer: Answer::Short,
             len: 0,
         };
     }
-    fill(buffer, 0, ksi, part, capability, security, last);
+    fill(
+        buffer,
+        0,
+        regtype,
+        ksi,
+        part,
+        capability,
+        security,
+        last,
+        uplink,
+        sessions,
+    );
     Written {
         answer: Answer::Taken,
         len,
@@ -164,7 +211,50 @@ fn area(net: u32, code: u32) -> [u8; 6]
     ]
 }
 
-// The request of an access with this identity: what is shown of its capability and its last area.
+// Two octets, the first one low.
+fn status(n: u16) -> [u8; 2]
+    ensures { λ r. ⌜ r ≡ octets2 n ⌝ }
+{
+    [(n % 256) as u8, (n / 256 % 256) as u8]
+}
+
+// How many octets a record holds of each piece: 40 and 50 are an update's, and a 40 that is zero is left out.
+fn pieces(own: Access, dev: Device) -> Lengths
+    ensures { λ r. ⌜ r ≡ heldLengths own dev ⌝ }
+{
+    let initial = own.regtype <= 1;
+    let capability = wide(dev.capability);
+    let security = wide(dev.security);
+    let last = unless(own.visited == 0, 6);
+    let uplink = unless(or(initial, own.uplink == 0), 2);
+    let sessions = unless(initial, 2);
+    Lengths {
+        capability,
+        security,
+        last,
+        uplink,
+        sessions,
+    }
+}
+
+// How many of them are shown: with ngKSI 7 those of 2E alone.
+fn shown(own: Access, dev: Device) -> Lengths
+    ensures { λ r. ⌜ r ≡ shownLengths own dev ⌝ }
+{
+    let held = pieces(own, dev);
+    if own.ksi == 7 {
+        return Lengths {
+            capability: 0,
+            security: held.security,
+            last: 0,
+            uplink: 0,
+            sessions: 0,
+        };
+    }
+    held
+}
+
+// The request of an access with this identity: what is shown of each piece.
 fn send(
     buffer: &mut [u8],
     own: Access,
@@ -173,22 +263,24 @@ fn send(
     capability: &[u8],
     security: &[u8],
 ) -> Written
-    requires { ⌜ (length (now part) ≤ 64) × ((length (now capability) ≡ 13) × ((length (now security) ≡ 8) × ((dev .capability ≤ 13) × ((dev .security ≤ 8) × (own .ksi ≤ 7))))) ⌝ }
-    ensures { λ r. ⌜ r ≡ sentOf (layout (sayingOf (own .ksi) (now (part .entry)) (take (dev .capability) (now (capability .entry))) (take (dev .security) (now (security .entry))) (lastOf own))) (length (now (buffer .entry))) ⌝ }
-    ensures { λ r. ⌜ now (buffer .exit) ≡ sentOver (layout (sayingOf (own .ksi) (now (part .entry)) (take (dev .capability) (now (capability .entry))) (take (dev .security) (now (security .entry))) (lastOf own))) (now (buffer .entry)) ⌝ }
+    requires { ⌜ (length (now part) ≤ 64) × ((length (now capability) ≡ 13) × ((length (now security) ≡ 8) × ((dev .capability ≤ 13) × ((dev .security ≤ 8) × ((own .ksi ≤ 7) × (own .regtype ≤ 3)))))) ⌝ }
+    ensures { λ r. ⌜ r ≡ sentOf (layout (sayingOf (own .regtype) (own .ksi) (now (part .entry)) (take (dev .capability) (now (capability .entry))) (take (dev .security) (now (security .entry))) (lastOf own) (uplinkOf own) (sessionsOf own))) (length (now (buffer .entry))) ⌝ }
+    ensures { λ r. ⌜ now (buffer .exit) ≡ sentOver (layout (sayingOf (own .regtype) (own .ksi) (now (part .entry)) (take (dev .capability) (now (capability .entry))) (take (dev .security) (now (security .entry))) (lastOf own) (uplinkOf own) (sessionsOf own))) (now (buffer .entry)) ⌝ }
 {
-    let none = own.ksi == 7;
-    let c = unless(none, wide(dev.capability));
-    let s = wide(dev.security);
-    let l = unless(none, unless(own.visited == 0, 6));
+    let n = shown(own, dev);
     let area = area(own.lastnet, own.lastcode);
+    let uplink = status(own.uplink);
+    let sessions = status(own.sessions);
     lay(
         buffer,
+        own.regtype,
         own.ksi,
         part,
-        &capability[..c],
-        &security[..s],
-        &area[..l],
+        &capability[..n.capability],
+        &security[..n.security],
+        &area[..n.last],
+        &uplink[..n.uplink],
+        &sessions[..n.sessions],
     )
 }
 
@@ -222,7 +314,7 @@ fn known(suci: [u8; 64], capability: [u8; 13], security: [u8; 8])
 
 // The identity is a part of the GUTIs or the SUCI, and is written from there.
 fn compose(r: Record, access: u8, own: Access, nets: &[u32; 15], buffer: &mut [u8]) -> Written
-    requires { ⌜ (r .hot .dev .suci ≤ 64) × ((r .hot .dev .capability ≤ 13) × ((r .hot .dev .security ≤ 8) × (own .ksi ≤ 7))) ⌝ }
+    requires { ⌜ (r .hot .dev .suci ≤ 64) × ((r .hot .dev .capability ≤ 13) × ((r .hot .dev .security ≤ 8) × ((own .ksi ≤ 7) × (own .regtype ≤ 3)))) ⌝ }
     ensures { λ o. ⌜ o ≡ sentOf (layout (saysOf r access own (now (nets .entry)))) (length (now (buffer .entry))) ⌝ }
     ensures { λ o. ⌜ now (buffer .exit) ≡ sentOver (layout (saysOf r access own (now (nets .entry)))) (now (buffer .entry)) ⌝ }
 {

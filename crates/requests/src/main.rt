@@ -19,6 +19,9 @@ struct Shape {
     equivalents: u8,
     visited: u8,
     ksi: u8,
+    regtype: u8,
+    uplink: u16,
+    sessions: u16,
 }
 
 fn access(s: Shape, guti: u8) -> Access {
@@ -30,6 +33,9 @@ fn access(s: Shape, guti: u8) -> Access {
     a.lastnet = 0x00F220;
     a.lastcode = 0x00002A;
     a.ksi = s.ksi;
+    a.regtype = s.regtype;
+    a.uplink = s.uplink;
+    a.sessions = s.sessions;
     a.equivalents = s.equivalents;
     a
 }
@@ -140,12 +146,14 @@ fn part(name: &[u8], p: Part) {
 
 fn request(q: Request) {
     say(b"request");
-    number(q.kind as u64);
+    number(q.regtype as u64);
     number(q.ksi as u64);
     part(b" identity", q.identity);
     part(b" capability", q.capability);
     part(b" security", q.security);
     part(b" last", q.last);
+    part(b" uplink", q.uplink);
+    part(b" sessions", q.sessions);
 }
 
 fn fault(f: Fault) {
@@ -210,6 +218,9 @@ fn short() -> Shape {
         equivalents: 0,
         visited: 0,
         ksi: 7,
+        regtype: 1,
+        uplink: 0,
+        sessions: 0,
     }
 }
 
@@ -255,6 +266,68 @@ fn gutis() {
     sent(made(s), 1, 21);
 }
 
+// A mobility update of session 5, then without uplink data; sessions 1, 8 and 15; none at all.
+fn updates() {
+    let mut s = short();
+    s.guti0 = 1;
+    s.visited = 1;
+    s.ksi = 3;
+    s.regtype = 2;
+    s.uplink = 0x0020;
+    s.sessions = 0x0020;
+    sent(made(s), 0, 39);
+    sent(made(s), 1, 40);
+    sent(made(s), 0, 38);
+    s.uplink = 0;
+    sent(made(s), 0, 36);
+    s.regtype = 3;
+    s.visited = 0;
+    s.uplink = 0x0100;
+    s.sessions = 0x8102;
+    sent(made(s), 0, 32);
+    s.uplink = 0;
+    s.sessions = 0;
+    sent(made(s), 0, 28);
+}
+
+// With ngKSI 7 an update shows neither status, and an initial registration never does; the longest request.
+fn bare() {
+    let mut s = short();
+    s.visited = 1;
+    s.regtype = 3;
+    s.uplink = 0x0020;
+    s.sessions = 0x0020;
+    sent(made(s), 0, 19);
+    s.guti0 = 1;
+    s.regtype = 2;
+    sent(made(s), 0, 22);
+    s.regtype = 1;
+    s.ksi = 3;
+    sent(made(s), 0, 31);
+    s.guti0 = 0;
+    s.suci = 64;
+    s.capability = 13;
+    s.security = 8;
+    s.regtype = 2;
+    sent(made(s), 0, 110);
+    sent(made(s), 0, 109);
+}
+
+// Types 0 and 4, and session 0.
+fn outside() {
+    let mut s = short();
+    s.regtype = 0;
+    sent(made(s), 0, 19);
+    s.regtype = 4;
+    sent(made(s), 0, 19);
+    s.regtype = 2;
+    s.uplink = 1;
+    sent(made(s), 0, 19);
+    s.uplink = 0;
+    s.sessions = 0x0021;
+    sent(made(s), 0, 19);
+}
+
 fn refusals() {
     let mut s = short();
     sent(made(s), 2, 19);
@@ -272,6 +345,23 @@ fn orders() {
     tell(twice);
 }
 
+// 50 before 10; a 40 of one octet, though another follows; a 50 of four octets; both in a request of type 1; an update with neither.
+fn statuses() {
+    let turned =
+        b"\x7E\x00\x41\x32\x00\x09\x01\x00\xF1\x10\xF0\xFF\x00\x00\x07\x50\x02\x20\x00\x10\x01\x00\x40\x02\x21\x00\x2E\x02\xF0\xF0";
+    tell(turned);
+    let twice =
+        b"\x7E\x00\x41\x33\x00\x09\x01\x00\xF1\x10\xF0\xFF\x00\x00\x07\x2E\x02\xF0\xF0\x40\x01\x20\x40\x02\x20\x00";
+    tell(twice);
+    let four =
+        b"\x7E\x00\x41\x32\x00\x09\x01\x00\xF1\x10\xF0\xFF\x00\x00\x07\x2E\x02\xF0\xF0\x50\x04\x20\x00\x00\x00\x40\x00";
+    tell(four);
+    let first =
+        b"\x7E\x00\x41\x31\x00\x09\x01\x00\xF1\x10\xF0\xFF\x00\x00\x07\x40\x02\x20\x00\x50\x02\x20\x00\x2E\x02\xF0\xF0";
+    tell(first);
+    tell(b"\x7E\x00\x41\x72\x00\x09\x01\x00\xF1\x10\xF0\xFF\x00\x00\x07\x2E\x02\xF0\xF0");
+}
+
 fn cuts() {
     tell(b"\x7E\x00\x41");
     tell(b"\x7E\x00\x41\x71\x00");
@@ -282,10 +372,11 @@ fn cuts() {
     tell(b"\x7E\x00\x41\x71\x00\x00\x2E\x02\xF0");
 }
 
-// No 2E, the wrong type, the wrong ngKSI, a GUTI of nine octets.
+// No 2E, type 4, type 0, the wrong ngKSI, a GUTI of nine octets.
 fn unfits() {
     tell(b"\x7E\x00\x41\x71\x00\x09\x01\x00\xF1\x10\xF0\xFF\x00\x00\x07");
-    tell(b"\x7E\x00\x41\x72\x00\x09\x01\x00\xF1\x10\xF0\xFF\x00\x00\x07\x2E\x02\xF0\xF0");
+    tell(b"\x7E\x00\x41\x74\x00\x09\x01\x00\xF1\x10\xF0\xFF\x00\x00\x07\x2E\x02\xF0\xF0");
+    tell(b"\x7E\x00\x41\x70\x00\x09\x01\x00\xF1\x10\xF0\xFF\x00\x00\x07\x2E\x02\xF0\xF0");
     tell(b"\x7E\x00\x41\x81\x00\x09\x01\x00\xF1\x10\xF0\xFF\x00\x00\x07\x2E\x02\xF0\xF0");
     tell(b"\x7E\x00\x41\x71\x00\x09\xF2\x00\xF1\x10\xF0\xFF\x00\x00\x07\x2E\x02\xF0\xF0");
 }
@@ -293,8 +384,12 @@ fn unfits() {
 fn main() {
     sucis();
     gutis();
+    updates();
+    bare();
     refusals();
+    outside();
     orders();
+    statuses();
     cuts();
     unfits();
 }

@@ -19,7 +19,7 @@ use Rattle.turns.specs.declared.Clocks.{Clocks}
 use Rattle.turns.specs.Timers.{flagAfter, toldOf, clocksOf, clocked}
 use Rattle.turns.specs.Turns.{still}
 use Rattle.rules.specs.declared.Event.{Event}
-use Rattle.rules.specs.declared.Event.the-variants.{Card, Start, Message, Timer, Power, Key, Unknown}
+use Rattle.rules.specs.declared.Event.the-variants.{Card, Start, Message, Timer, Power, Key, Update, Unknown}
 use Rattle.rules.specs.declared.Asked.{Asked}
 use Rattle.rules.specs.declared.Asked.the-variants.{No, On}
 use Rattle.rules.specs.declared.Reply.{Reply}
@@ -29,8 +29,8 @@ use Rattle.rules.specs.declared.Site.{Site}
 use Rattle.rules.specs.declared.Site.the-variants as site
 use Rattle.rules.specs.declared.Plan.{Plan}
 use Rattle.record.specs.Sides.{accessOf, hotOf}
-use Rattle.checks.specs.Answers.{startAnswer, messageAnswer, timerAnswer, keyAnswer, cardAnswer, rowNow}
-use Rattle.effects.specs.Effects.{Effect, ticked, idle, plain, cardEffect, startEffect, keyEffect, acceptEffect, timerEffect, powerEffect, rejectEffect}
+use Rattle.checks.specs.Answers.{startAnswer, messageAnswer, timerAnswer, keyAnswer, updateAnswer, cardAnswer, rowNow}
+use Rattle.effects.specs.Effects.{Effect, ticked, idle, plain, cardEffect, startEffect, keyEffect, updateEffect, acceptEffect, timerEffect, powerEffect, rejectEffect}
 
 -- a message is read once, for its answer and its effect: m is what was read of its octets; of another event nothing is read
 abbrev pub Read : Event → List ℕ → Reading → Type 0
@@ -40,9 +40,10 @@ Read (Message w protected draw) octets m = m ≡ readingOf octets
 Read (Timer number w) octets m = Unit {0}
 Read Power octets m = Unit {0}
 Read (Key w set) octets m = Unit {0}
+Read (Update w regtype net code uplink sessions) octets m = Unit {0}
 Read Unknown octets m = Unit {0}
 
--- the network that is looked up before an event is decided: a start's, or the pending one of a message's access
+-- the network that is looked up before an event is decided: a start's or an update's, or the pending one of a message's access
 unfoldable pub askOf : Hot → Event → Ask
 askOf h (Card home) = ask.Nothing
 askOf h (Start w manual net code) = ask.Network w net
@@ -50,9 +51,10 @@ askOf h (Message w protected draw) = ask.Network w (accessOf h w .net)
 askOf h (Timer number w) = ask.Nothing
 askOf h Power = ask.Nothing
 askOf h (Key w set) = ask.Nothing
+askOf h (Update w regtype net code uplink sessions) = ask.Network w net
 askOf h Unknown = ask.Nothing
 
--- "area listed (access 0)": the area that is looked up, that of a start over access 0
+-- "area listed (access 0)": the area that is looked up, that of a start or an update over access 0
 unfoldable pub siteAt : ℕ → ℕ → ℕ → Site
 siteAt w net code = cond (eqb w 0) (site.Area net code) site.Nothing
 
@@ -63,6 +65,7 @@ siteOf (Message w protected draw) = site.Nothing
 siteOf (Timer number w) = site.Nothing
 siteOf Power = site.Nothing
 siteOf (Key w set) = site.Nothing
+siteOf (Update w regtype net code uplink sessions) = siteAt w net code
 siteOf Unknown = site.Nothing
 
 -- the event's own access; an event of both does the same on each, and goes as access 0's
@@ -73,6 +76,7 @@ accessIn (Message w protected draw) = w
 accessIn (Timer number w) = w
 accessIn Power = 0
 accessIn (Key w set) = w
+accessIn (Update w regtype net code uplink sessions) = w
 accessIn Unknown = 0
 
 -- the answer; an event that is none of these answers 1
@@ -83,6 +87,7 @@ answerOf h (Message w protected draw) s listed octets = messageAnswer h w protec
 answerOf h (Timer number w) s listed octets = timerAnswer h number w
 answerOf h Power s listed octets = answer.Taken
 answerOf h (Key w set) s listed octets = keyAnswer h w set
+answerOf h (Update w regtype net code uplink sessions) s listed octets = updateAnswer h w regtype net code uplink sessions s listed
 answerOf h Unknown s listed octets = answer.Range
 
 -- what a taken message does
@@ -99,12 +104,13 @@ effectOf h (Message w protected draw) s octets = messageEffect h w protected dra
 effectOf h (Timer number w) s octets = timerEffect h number w
 effectOf h Power s octets = powerEffect h
 effectOf h (Key w set) s octets = keyEffect h w set
+effectOf h (Update w regtype net code uplink sessions) s octets = updateEffect h w regtype net code uplink sessions
 effectOf h Unknown s octets = plain h 0 (still (accessOf h 0)) false
 
 -- the numbers after it
 unfoldable pub hotAfter : Hot → ℕ → Effect → Hot
 hotAfter h w e =
-    hotOf (ticked (flagAfter (e .t3247) (h .dev .t3247)) (e .dev)) w
+    hotOf (ticked (flagAfter (e .t3247) (h .dev .t3247)) (flagAfter (e .t3512) (h .dev .t3512)) (e .dev)) w
     (clocked (e .mine .orders) (e .mine .access))
     (clocked (e .theirs .orders) (e .theirs .access))
 
@@ -118,6 +124,7 @@ takenReply h w e = record {
   c0 = clocksOf (cond (eqb w 0) (e .mine .orders) (e .theirs .orders)) (h .a0);
   c1 = clocksOf (cond (eqb w 0) (e .theirs .orders) (e .mine .orders)) (h .a1);
   t3247 = toldOf (e .t3247) (h .dev .t3247);
+  t3512 = toldOf (e .t3512) (h .dev .t3512);
   restart = askedOn (e .restart) w;
   leave = No;
   update = No;
@@ -148,6 +155,7 @@ refusedReply n w = record {
   c0 = allLeft;
   c1 = allLeft;
   t3247 = Left;
+  t3512 = Left;
   restart = No;
   leave = askedOn (isIgnoring n) w;
   update = askedOn (isIgnoring n) (cond (eqb w 0) 1 0);

@@ -13,7 +13,7 @@ use Rattle.rules.specs.Plan.{askedOn}
 -- the numbers after it
 unfoldable pub hotBy : Hot → Sides → Hot
 hotBy h x = record {
-  dev = ticked (flagAfter (x .t3247) (h .dev .t3247)) (x .dev);
+  dev = ticked (flagAfter (x .t3247) (h .dev .t3247)) (flagAfter (x .t3512) (h .dev .t3512)) (x .dev);
   a0 = clocked (x .t0 .orders) (x .t0 .access);
   a1 = clocked (x .t1 .orders) (x .t1 .access);
 }
@@ -25,6 +25,7 @@ replyBy h w x = record {
   c0 = clocksOf (x .t0 .orders) (h .a0);
   c1 = clocksOf (x .t1 .orders) (h .a1);
   t3247 = toldOf (x .t3247) (h .dev .t3247);
+  t3512 = toldOf (x .t3512) (h .dev .t3512);
   restart = askedOn (x .restart) w;
   leave = No;
   update = No;

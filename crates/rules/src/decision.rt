@@ -11,6 +11,7 @@ use checks::message_answer;
 use checks::row_now;
 use checks::start_answer;
 use checks::timer_answer;
+use checks::update_answer;
 use effects::Sides;
 use effects::accept_effect;
 use effects::card_effect;
@@ -22,6 +23,7 @@ use effects::reject_effect;
 use effects::start_effect;
 use effects::ticked;
 use effects::timer_effect;
+use effects::update_effect;
 use entries::Seen;
 use messages::Reading;
 use record::Access;
@@ -68,6 +70,14 @@ fn heard(e: Event, octets: &[u8]) -> Reading
         } => Reading::Reject(0),
         Event::Power => Reading::Reject(0),
         Event::Key { access: _, set: _ } => Reading::Reject(0),
+        Event::Update {
+            access: _,
+            regtype: _,
+            net: _,
+            code: _,
+            uplink: _,
+            sessions: _,
+        } => Reading::Reject(0),
         Event::Unknown => Reading::Reject(0),
     }
 }
@@ -97,6 +107,14 @@ pub fn ask_of(h: Hot, e: Event) -> Ask
         } => Ask::Nothing,
         Event::Power => Ask::Nothing,
         Event::Key { access: _, set: _ } => Ask::Nothing,
+        Event::Update {
+            access,
+            regtype: _,
+            net,
+            code: _,
+            uplink: _,
+            sessions: _,
+        } => Ask::Network { access, net },
         Event::Unknown => Ask::Nothing,
     }
 }
@@ -132,6 +150,14 @@ pub fn site_of(e: Event) -> Site
         } => Site::Nothing,
         Event::Power => Site::Nothing,
         Event::Key { access: _, set: _ } => Site::Nothing,
+        Event::Update {
+            access,
+            regtype: _,
+            net,
+            code,
+            uplink: _,
+            sessions: _,
+        } => site_at(access, net, code),
         Event::Unknown => Site::Nothing,
     }
 }
@@ -155,6 +181,14 @@ fn access_in(e: Event) -> u8
         Event::Timer { number: _, access } => access,
         Event::Power => 0,
         Event::Key { access, set: _ } => access,
+        Event::Update {
+            access,
+            regtype: _,
+            net: _,
+            code: _,
+            uplink: _,
+            sessions: _,
+        } => access,
         Event::Unknown => 0,
     }
 }
@@ -179,6 +213,14 @@ fn answer_of(h: Hot, e: Event, s: Seen, listed: bool, m: Reading, octets: &[u8])
         Event::Timer { number, access } => timer_answer(h, number, access),
         Event::Power => Answer::Taken,
         Event::Key { access, set } => key_answer(h, access, set),
+        Event::Update {
+            access,
+            regtype,
+            net,
+            code,
+            uplink,
+            sessions,
+        } => update_answer(h, access, regtype, net, code, uplink, sessions, s, listed),
         Event::Unknown => Answer::Range,
     }
 }
@@ -225,6 +267,14 @@ fn effect_of(h: Hot, e: Event, s: Seen, m: Reading, octets: &[u8]) -> Sides
         Event::Timer { number, access } => timer_effect(h, number, access),
         Event::Power => power_effect(h),
         Event::Key { access, set } => key_effect(h, access, set),
+        Event::Update {
+            access,
+            regtype,
+            net,
+            code,
+            uplink,
+            sessions,
+        } => update_effect(h, access, regtype, net, code, uplink, sessions),
         Event::Unknown => none(h, 0),
     }
 }
@@ -238,9 +288,12 @@ fn turned(t: Turn) -> Access
 fn hot_after(h: Hot, e: Sides) -> Hot
     ensures { λ r. ⌜ r ≡ hotBy h e ⌝ }
 {
-    let order = e.t3247;
+    let ban = e.t3247;
+    let periodic = e.t3512;
     let d = h.dev;
-    let dev = ticked(turns::flag_after(order, d.t3247), e.dev);
+    let t3247 = turns::flag_after(ban, d.t3247);
+    let t3512 = turns::flag_after(periodic, d.t3512);
+    let dev = ticked(t3247, t3512, e.dev);
     Hot {
         dev,
         a0: turned(e.t0),

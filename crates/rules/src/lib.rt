@@ -38,6 +38,14 @@ pub enum Event {
         access: u8,
         set: u8,
     },
+    Update {
+        access: u8,
+        regtype: u8,
+        net: u32,
+        code: u32,
+        uplink: u16,
+        sessions: u16,
+    },
     Unknown,
 }
 
@@ -52,6 +60,7 @@ pub struct Reply {
     pub c0: Clocks,
     pub c1: Clocks,
     pub t3247: Told,
+    pub t3512: Told,
     pub restart: Asked,
     pub leave: Asked,
     pub update: Asked,

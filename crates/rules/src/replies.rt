@@ -29,12 +29,15 @@ pub(crate) fn taken_reply(h: Hot, w: u8, e: Sides) -> Reply
     let c0 = clocks_of(t0.orders, h.a0);
     let c1 = clocks_of(t1.orders, h.a1);
     let t3247 = told_of(order, dev.t3247);
+    let periodic = e.t3512;
+    let t3512 = told_of(periodic, dev.t3512);
     let restart = asked_on(e.restart, w);
     Reply {
         answer: Answer::Taken,
         c0,
         c1,
         t3247,
+        t3512,
         restart,
         leave: Asked::No,
         update: Asked::No,
@@ -83,6 +86,7 @@ pub fn refused_reply(n: Answer, w: u8) -> Reply
         c0: left,
         c1: left,
         t3247: Told::Left,
+        t3512: Told::Left,
         restart: Asked::No,
         leave,
         update,

@@ -28,6 +28,11 @@ fn field(name: &[u8], n: u64) {
     number(n);
 }
 
+// The cast stands here alone: beside a whole record its proof is dear.
+fn small(name: &[u8], n: u8) {
+    field(name, n as u64);
+}
+
 fn comma(i: usize) {
     if 0 < i {
         put(b",");
@@ -85,7 +90,7 @@ fn clocks(a: Clocks, b: Clocks) {
 
 fn answer(name: &[u8], r: Reply) {
     let a = r.answer;
-    field(name, record::number(a) as u64);
+    small(name, record::number(a));
 }
 
 fn reply(r: Reply) {
@@ -96,6 +101,9 @@ fn reply(r: Reply) {
     put(b" T3247");
     let t = r.t3247;
     told(t);
+    put(b" T3512");
+    let u = r.t3512;
+    told(u);
     let restart = r.restart;
     asked(b" restart ", restart);
     let leave = r.leave;
@@ -130,14 +138,14 @@ fn areas(name: &[u8], count: u8, list: [u64; 40]) {
 }
 
 fn card(d: Device, suci: [u8; 64]) {
-    field(b" | card ", d.card as u64);
+    small(b" | card ", d.card);
     put(b" home ");
     digits(d.home as u64, 6);
     put(b" suci ");
     hex(&suci, d.suci as usize);
-    field(b" limits ", d.cardlimit as u64);
-    field(b" ", d.banlimit as u64);
-    field(b" ", d.n1limit as u64);
+    small(b" limits ", d.cardlimit);
+    small(b" ", d.banlimit);
+    small(b" ", d.n1limit);
 }
 
 fn capability(n: u8, octets: [u8; 13]) {
@@ -150,6 +158,13 @@ fn security(n: u8, octets: [u8; 8]) {
     hex(&octets, n as usize);
 }
 
+fn timers(d: Device) {
+    small(b" T3247 ", d.t3247);
+    small(b" T3512 ", d.t3512);
+    field(b" length ", d.t3512length as u64);
+    small(b" due ", d.due);
+}
+
 fn device(r: Record) {
     let d = r.hot.dev;
     let suci = r.suci;
@@ -158,7 +173,7 @@ fn device(r: Record) {
     capability(d.capability, c);
     let s = r.security;
     security(d.security, s);
-    field(b" T3247 ", d.t3247 as u64);
+    timers(d);
     let roaming = r.roaming;
     areas(b" roaming ", d.roaming, roaming);
     let regional = r.regional;
@@ -166,16 +181,29 @@ fn device(r: Record) {
 }
 
 fn mode(a: Access) {
-    field(b" state ", a.state as u64);
-    field(b" status ", a.status as u64);
-    field(b" attempts ", a.attempts as u64);
-    field(b" T3510 ", a.t3510 as u64);
-    field(b" T3511 ", a.t3511 as u64);
-    field(b" T3502 ", a.t3502 as u64);
+    small(b" state ", a.state);
+    small(b" status ", a.status);
+    small(b" attempts ", a.attempts);
+    small(b" T3510 ", a.t3510);
+    small(b" T3511 ", a.t3511);
+    small(b" T3502 ", a.t3502);
     field(b" length ", a.t3502length as u64);
+}
+
+// Two octets as they are sent, the low one first.
+fn pair(name: &[u8], n: u16) {
+    put(name);
+    digits((n % 256) as u64, 2);
+    digits((n / 256) as u64, 2);
+}
+
+fn pending(a: Access) {
     put(b" pending ");
     digits(a.net as u64, 6);
     digits(a.code as u64, 6);
+    small(b" type ", a.regtype);
+    pair(b" uplink ", a.uplink);
+    pair(b" sessions ", a.sessions);
 }
 
 fn ten(held: u8) -> usize {
@@ -196,7 +224,7 @@ fn identity(a: Access, guti: [u8; 10]) {
     put(b" guti ");
     hex(&guti, ten(a.guti));
     last(a.visited, a.lastnet, a.lastcode);
-    field(b" ksi ", a.ksi as u64);
+    small(b" ksi ", a.ksi);
 }
 
 fn fifteen(count: u8) -> usize
@@ -227,8 +255,8 @@ fn flag(x: u8, s: &[u8]) {
 
 fn entry(net: u32, ban: u8, n1: u8, forbidden: u8, barred: u8) {
     digits(net as u64, 6);
-    field(b":", ban as u64);
-    field(b":", n1 as u64);
+    small(b":", ban);
+    small(b":", n1);
     put(b":");
     flag(forbidden, b"F");
     flag(barred, b"N");
@@ -248,9 +276,10 @@ fn table(count: u8, e: Entries) {
 
 fn access(a: Access, guti: [u8; 10], list: [u32; 15], e: Entries) {
     mode(a);
+    pending(a);
     identity(a, guti);
     equivalents(a.equivalents, list);
-    field(b" cards ", a.cardcounter as u64);
+    small(b" cards ", a.cardcounter);
     table(a.entries, e);
 }
 
@@ -259,9 +288,9 @@ pub(crate) fn line(count: u64, p: Reply, r: Record) {
     number(count);
     answer(b" ", p);
     let h = r.hot;
-    field(b" ", h.a0.state as u64);
-    field(b" ", h.a1.state as u64);
-    field(b" ", h.dev.t3247 as u64);
+    small(b" ", h.a0.state);
+    small(b" ", h.a1.state);
+    small(b" ", h.dev.t3247);
     put(b"\n");
 }
 

@@ -1,7 +1,9 @@
--- The timer octet (GPRS timer 2), as document 01 has it. Assumes nothing.
+-- The timer octets: GPRS timer 2 as document 01 has it, GPRS timer 3 as document 02 has it. Assumes nothing.
 use Prim.Native.Nat.{ℕ, _*_, _/_, _%_}
 use mathlib.Core.Bool.{cond}
+use mathlib.Core.List.{List, [], _∷_}
 use lib.Dec.{eqb}
+use lib.ListN.{getD}
 use Rattle.timers.specs.declared.Span.{Span}
 use Rattle.timers.specs.declared.Span.the-variants.{Off, Seconds}
 
@@ -12,3 +14,36 @@ unitOf top = cond (eqb top 0) 2 (cond (eqb top 1) 60 (cond (eqb top 2) 360 60))
 -- low five bits times the unit of the top three; 7 means deactivated
 unfoldable pub spanOf : ℕ → Span
 spanOf octet = cond (eqb (octet / 32) 7) Off (Seconds (octet % 32 * unitOf (octet / 32)))
+
+-- A row of a timer's table: the seconds that one count of the low five bits stands for, or deactivated
+pub data TimerRow : Type 0 where
+  unit : ℕ → TimerRow
+  deactivated : TimerRow
+
+-- the row with a number, counted from 0; behind the last there is no time
+abbrev pub rowAt : List TimerRow → ℕ → TimerRow
+rowAt rows top = getD rows top deactivated
+
+-- what a row makes of a count
+abbrev pub spanIn : TimerRow → ℕ → Span
+spanIn (unit seconds) count = Seconds (count * seconds)
+spanIn deactivated count = Off
+
+-- a timer octet by its table: the top three bits are the row's number, the low five the count
+abbrev pub spanBy : List TimerRow → ℕ → Span
+spanBy rows octet = spanIn (rowAt rows (octet / 32)) (octet % 32)
+
+-- "GPRS timer 3, units 10 min, 1 h, 10 h, 2 s, 30 s, 1 min, 320 h, deactivated"
+unfoldable pub timer3Rows : List TimerRow
+timer3Rows =
+    unit 600 ∷  -- 0: 10 min
+    unit 3600 ∷  -- 1: 1 h
+    unit 36000 ∷  -- 2: 10 h
+    unit 2 ∷  -- 3: 2 s
+    unit 30 ∷  -- 4: 30 s
+    unit 60 ∷  -- 5: 1 min
+    unit 1152000 ∷  -- 6: 320 h
+    deactivated ∷ []  -- 7: deactivated
+
+unfoldable pub span3Of : ℕ → Span
+span3Of octet = spanBy timer3Rows octet

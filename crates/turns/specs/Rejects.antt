@@ -1,7 +1,7 @@
 -- Document 01, "Rejects": "Every taken reject stops T3510.", T3247, the two-access rule, the row that a reject falls under, and each row's text. Assumes nothing.
 use Prim.Native.Nat.{ℕ}
 use mathlib.Core.Bool.{Bool, cond}
-use lib.Dec.{eqb}
+use lib.Dec.{ltb, eqb}
 use Rattle.record.specs.Tests.{both, either}
 use Rattle.record.specs.New.{u3}
 use Rattle.record.specs.declared.Access.{Access}
@@ -38,9 +38,17 @@ startsT3247 c = either (isCard c) (either (isNetworkNo c) (either (isAreaNo c) (
 unfoldable pub rejectT3247 : ℕ → ℕ → ℕ → ℕ → Order
 rejectT3247 t3247 protected cause draw = cond (both (eqb protected 0) (both (startsT3247 cause) (eqb t3247 0))) (Run draw) Leave
 
+-- Document 02, R-5: an update is pending in state 4 with type 2 or 3
+unfoldable pub isUpdating : Access → Bool
+isUpdating a = both (eqb (a .state) 4) (ltb 1 (a .regtype))
+
+-- "A pending update counts as registered for the two-access rule"
+unfoldable pub isRegistered : Access → Bool
+isRegistered a = either (eqb (a .state) 5) (isUpdating a)
+
 -- "Two-access rule: cause 3, 6 or 7, unprotected, other access in state 5"
 unfoldable pub isIgnored : ℕ → ℕ → Access → Bool
-isIgnored protected cause other = both (isCard cause) (both (eqb protected 0) (eqb (other .state) 5))
+isIgnored protected cause other = both (isCard cause) (both (eqb protected 0) (isRegistered other))
 
 -- The row of a cause over access w; unprotected or not; at home or away; card counter below its limit or not
 unfoldable pub rowOf : ℕ → Bool → Bool → Bool → ℕ → Row

@@ -2,7 +2,9 @@
 use Prim.Native.Nat.{ℕ}
 use mathlib.Core.Bool.{Bool, cond}
 use lib.Dec.{eqb}
+use Rattle.record.specs.Tests.{either}
 use Rattle.record.specs.declared.Access.{Access}
+use Rattle.record.specs.declared.Device.{Device}
 use Rattle.turns.specs.declared.Order.{Order}
 use Rattle.turns.specs.declared.Order.the-variants.{Leave, Stop, Run}
 use Rattle.turns.specs.declared.Orders.{Orders}
@@ -10,9 +12,13 @@ use Rattle.turns.specs.declared.Told.{Told}
 use Rattle.turns.specs.declared.Told.the-variants.{Left, Stopped, Started}
 use Rattle.turns.specs.declared.Clocks.{Clocks}
 
--- "1 T3510, 2 T3511, 3 T3502, 4 T3247": T3247 is the device's, the others are an access's
+-- "1 T3510, 2 T3511, 3 T3502, 4 T3247", "timer 5 is T3512 (access 0)": T3247 and T3512 are the device's, the others are an access's
 unfoldable pub isDeviceTimer : ℕ → Bool
-isDeviceTimer number = eqb number 4
+isDeviceTimer number = either (eqb number 4) (eqb number 5)
+
+-- whether a timer of the device runs
+unfoldable pub runsIn : ℕ → Device → ℕ
+runsIn number d = cond (eqb number 4) (d .t3247) (d .t3512)
 
 -- whether a timer of an access runs
 unfoldable pub runsOn : ℕ → Access → ℕ
@@ -36,6 +42,9 @@ clocked o a = record {
   t3502length = a .t3502length;
   net = a .net;
   code = a .code;
+  regtype = a .regtype;
+  uplink = a .uplink;
+  sessions = a .sessions;
   guti = a .guti;
   visited = a .visited;
   lastnet = a .lastnet;
@@ -57,7 +66,7 @@ toldOf (Run s) flag = Started s
 abbrev pub quiet : Orders
 quiet = record { t3510 = Leave; t3511 = Leave; t3502 = Leave }
 
--- start: "T3510 (15 s) runs, T3511 and T3502 stop"
+-- start: "T3510 (15 s) runs, T3511 and T3502 stop"; update: "stops its access's T3511 and T3502"
 abbrev pub starting : Orders
 starting = record { t3510 = Run 15; t3511 = Stop; t3502 = Stop }
 

@@ -9,7 +9,7 @@ use Rattle.turns.specs.declared.Orders.{Orders}
 use Rattle.turns.specs.declared.Turn.{Turn}
 use Rattle.turns.specs.declared.Row.{Row}
 use Rattle.turns.specs.Words.{Text, says, asT3510Out, Across, untouched, cardCounterToLimit, counterAfter, ordersAfter, applied, acrossOf}
-use Rattle.turns.specs.Rejects.{rowText}
+use Rattle.turns.specs.Rejects.{isUpdating, rowText}
 use Rattle.turns.specs.Timers.{quiet, starting, answered, retrying, resting, t3511Stops, t3502Stops, halted}
 use Rattle.record.specs.Setters.{inState, withStatus, withAttempts, forgotten, emptied, counted, pending, keyed, taught}
 
@@ -20,9 +20,13 @@ turnOf a o = record { access = a; orders = o }
 abbrev pub still : Access → Turn
 still a = turnOf a quiet
 
--- Start: "state 4, T3510 (15 s) runs, T3511 and T3502 stop"
+-- Start: "state 4, T3510 (15 s) runs, T3511 and T3502 stop"; its type is 1, and it says nothing of sessions
 unfoldable pub started : ℕ → ℕ → Access → Turn
-started net code a = turnOf (pending net code (inState 4 a)) starting
+started net code a = turnOf (pending 1 net code 0 0 (inState 4 a)) starting
+
+-- Update (document 02, R-5): "state 4 while pending, types 2 and 3", with its octets of 40 and 50
+unfoldable pub updated : ℕ → ℕ → ℕ → ℕ → ℕ → Access → Turn
+updated regtype net code uplink sessions a = turnOf (pending regtype net code uplink sessions (inState 4 a)) starting
 
 -- Key set: stored as ngKSI
 unfoldable pub keySet : ℕ → Access → Turn
@@ -33,11 +37,21 @@ unfoldable pub accepted : Bool → ℕ → ℕ → Access → Turn
 accepted given count t3502length a = turnOf (taught given count t3502length (withAttempts 0 (withStatus u1 (inState 5 a)))) answered
 
 -- T3510 out, with the attempt counter now n: "stops; .. state 3. Below 5, T3511 (10 s) starts. At 5, clear identity and equivalents, 5U2, T3502 starts."
-unfoldable pub failed : ℕ → Access → Turn
-failed n a =
+unfoldable pub startFailed : ℕ → Access → Turn
+startFailed n a =
     cond (ltb n 5)
     (turnOf (inState 3 (withAttempts n a)) retrying)
     (turnOf (withStatus u2 (emptied (forgotten (inState 3 (withAttempts n a))))) (resting (a .t3502length)))
+
+-- The same in an update (document 02, R-5): "5U2, .., back to state 5; below 5 T3511, at 5 T3502 and no equivalents"
+unfoldable pub updateFailed : ℕ → Access → Turn
+updateFailed n a =
+    cond (ltb n 5)
+    (turnOf (inState 5 (withStatus u2 (withAttempts n a))) retrying)
+    (turnOf (emptied (inState 5 (withStatus u2 (withAttempts n a)))) (resting (a .t3502length)))
+
+unfoldable pub failed : ℕ → Access → Turn
+failed n a = cond (isUpdating a) (updateFailed n a) (startFailed n a)
 
 -- "attempt counter up by one unless 5"
 unfoldable pub t3510Out : Access → Turn

@@ -4,16 +4,24 @@ use crate::Order;
 use crate::Orders;
 use crate::Told;
 use record::Access;
+use record::Device;
+use record::or;
 use record::pick;
 ghost use mathlib.Core.Path.{_≡_};
 ghost use mathlib.Core.Bool.{cond};
-ghost use Rattle.turns.specs.Timers.{isDeviceTimer, runsOn, flagAfter, clocked, toldOf, clocksOf};
+ghost use Rattle.turns.specs.Timers.{isDeviceTimer, runsIn, runsOn, flagAfter, clocked, toldOf, clocksOf};
 ghost use Rattle.turns.specs.declared.Told.the-variants.{Left, Stopped};
 
 pub fn is_device_timer(number: u8) -> bool
     ensures { λ r. ⌜ r ≡ isDeviceTimer number ⌝ }
 {
-    number == 4
+    or(number == 4, number == 5)
+}
+
+pub fn runs_in(number: u8, d: Device) -> u8
+    ensures { λ r. ⌜ r ≡ runsIn number d ⌝ }
+{
+    pick(number == 4, d.t3247, d.t3512)
 }
 
 pub fn runs_on(number: u8, a: Access) -> u8

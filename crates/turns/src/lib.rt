@@ -10,9 +10,11 @@ pub use flags::clocked;
 pub use flags::clocks_of;
 pub use flags::flag_after;
 pub use flags::is_device_timer;
+pub use flags::runs_in;
 pub use flags::runs_on;
 pub use flags::told_of;
 pub use rows::is_card;
+pub use rows::is_registered;
 pub use rows::needs_entry;
 pub use rows::row_of;
 pub use rows::starts_t3247;
@@ -29,6 +31,7 @@ pub use turns::still;
 pub use turns::t3502_out;
 pub use turns::t3510_out;
 pub use turns::t3511_out;
+pub use turns::updated;
 
 // What an event does to a timer: nothing, stop it, or run it for so many seconds.
 pub enum Order {

@@ -1,12 +1,13 @@
 // The table of rejects: which row a reject falls under, and what the row says of lists and of T3247.
 use crate::Row;
+use record::Access;
 use record::and;
 use record::not;
 use record::or;
 ghost use mathlib.Core.Path.{_≡_};
 ghost use mathlib.Core.Bool.{cond, false};
 ghost use lib.Dec.{eqb};
-ghost use Rattle.turns.specs.Rejects.{isCard, isNetworkNo, isAreaNo, isN1No, isProtocol, rowOf, startsT3247, needsEntry, toRoaming, toRegional};
+ghost use Rattle.turns.specs.Rejects.{isUpdating, isRegistered, isCard, isNetworkNo, isAreaNo, isN1No, isProtocol, rowOf, startsT3247, needsEntry, toRoaming, toRegional};
 ghost use Rattle.turns.specs.declared.Row.the-variants.{CardBelow, CardLimit, CardProtected, Away, Home, Area, N1, Protocol, Other};
 
 pub fn is_card(cause: u8) -> bool
@@ -38,6 +39,19 @@ fn is_protocol(cause: u8) -> bool
 {
     let last = or(cause == 97, or(cause == 99, cause == 111));
     or(cause == 95, or(cause == 96, last))
+}
+
+// An update is pending.
+pub(crate) fn is_updating(a: Access) -> bool
+    ensures { λ r. ⌜ r ≡ isUpdating a ⌝ }
+{
+    and(a.state == 4, 1 < a.regtype)
+}
+
+pub fn is_registered(a: Access) -> bool
+    ensures { λ r. ⌜ r ≡ isRegistered a ⌝ }
+{
+    or(a.state == 5, is_updating(a))
 }
 
 fn card_row(unprotected: bool, below: bool) -> Row

@@ -10,6 +10,7 @@ use crate::given::retrying;
 use crate::given::starting;
 use crate::given::t3502_stops;
 use crate::given::t3511_stops;
+use crate::rows::is_updating;
 use entries::one_more;
 use record::Access;
 use record::U1;
@@ -53,9 +54,16 @@ pub fn started(net: u32, code: u32, a: Access) -> Turn
     ensures { λ r. ⌜ r ≡ events.started net code a ⌝ }
 {
     timed(
-        pending(net, code, moved(4, a.status, a.attempts, a)),
+        pending(1, net, code, 0, 0, moved(4, a.status, a.attempts, a)),
         starting(),
     )
+}
+
+pub fn updated(regtype: u8, net: u32, code: u32, uplink: u16, sessions: u16, a: Access) -> Turn
+    ensures { λ r. ⌜ r ≡ events.updated regtype net code uplink sessions a ⌝ }
+{
+    let b = moved(4, a.status, a.attempts, a);
+    timed(pending(regtype, net, code, uplink, sessions, b), starting())
 }
 
 // Stored as ngKSI.
@@ -73,10 +81,10 @@ pub fn accepted(given: bool, count: u8, t3502length: u16, a: Access) -> Turn
 }
 
 // Below 5, T3511 starts.
-fn again(n: u8, a: Access) -> Turn
-    ensures { λ r. ⌜ r ≡ events.turnOf (sets.withAttempts n (sets.withStatus (a .status) (sets.inState 3 a))) timers.retrying ⌝ }
+fn again(state: u8, status: u8, n: u8, a: Access) -> Turn
+    ensures { λ r. ⌜ r ≡ events.turnOf (sets.withAttempts n (sets.withStatus status (sets.inState state a))) timers.retrying ⌝ }
 {
-    timed(moved(3, a.status, n, a), retrying())
+    timed(moved(state, status, n, a), retrying())
 }
 
 fn seconds(t3502length: u16) -> u32
@@ -85,19 +93,43 @@ fn seconds(t3502length: u16) -> u32
     t3502length as u32
 }
 
-// At 5, T3502 starts with the stored length.
-fn spent(n: u8, a: Access) -> Turn
-    ensures { λ r. ⌜ r ≡ events.turnOf (sets.emptied (sets.forgotten (sets.withAttempts n (sets.withStatus u2 (sets.inState 3 a))))) (timers.resting (a .t3502length)) ⌝ }
+// At 5, no equivalents, 5U2, and T3502 starts with the stored length.
+fn spent(state: u8, n: u8, a: Access) -> Turn
+    ensures { λ r. ⌜ r ≡ events.turnOf (sets.emptied (sets.withAttempts n (sets.withStatus u2 (sets.inState state a)))) (timers.resting (a .t3502length)) ⌝ }
 {
-    let b = emptied(forgotten(moved(3, U2, n, a)));
+    let b = emptied(moved(state, U2, n, a));
     timed(b, resting(seconds(a.t3502length)))
+}
+
+fn start_failed(n: u8, a: Access) -> Turn
+    ensures { λ r. ⌜ r ≡ events.startFailed n a ⌝ }
+{
+    if n < 5 {
+        again(3, a.status, n, a)
+    } else {
+        spent(3, n, forgotten(a))
+    }
+}
+
+fn update_failed(n: u8, a: Access) -> Turn
+    ensures { λ r. ⌜ r ≡ events.updateFailed n a ⌝ }
+{
+    if n < 5 {
+        again(5, U2, n, a)
+    } else {
+        spent(5, n, a)
+    }
 }
 
 // T3510 out, with the attempt counter now n.
 fn failed(n: u8, a: Access) -> Turn
     ensures { λ r. ⌜ r ≡ events.failed n a ⌝ }
 {
-    if n < 5 { again(n, a) } else { spent(n, a) }
+    if is_updating(a) {
+        update_failed(n, a)
+    } else {
+        start_failed(n, a)
+    }
 }
 
 pub fn t3510_out(a: Access) -> Turn

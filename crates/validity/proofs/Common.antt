@@ -15,7 +15,7 @@ use Rattle.record.specs.Tests.{within, isShort}
 use Rattle.record.specs.Network.{isNetwork}
 use Rattle.record.specs.New.{zeros}
 use Rattle.ranges.specs.Valid.{suciOf}
-use Rattle.turns.specs.declared.Order.the-variants.{Stop}
+use Rattle.turns.specs.declared.Order.the-variants.{Leave, Stop}
 use Rattle.turns.specs.Timers.{flagAfter}
 use Rattle.turns.specs.Turns as turns
 use Rattle.record.specs.Sides.{accessOf, otherOf, hotOf}
@@ -57,7 +57,7 @@ module _ (r : Record) (g : Good r) (z : Sized r) (octets : List ℕ) where
       (swept (r .hot .a1 .entries) (r .hot .dev .banlimit) (r .hot .dev .n1limit) (r .e1))
       (still-turned (r .hot .dev .card) (r .hot .dev .cardlimit) (r .hot .a1) (g .half1 .fit) (g .half1 .timely) (g .half1 .carded)) (g .half1 .equals)
       (swept-held (r .hot .dev .banlimit) (r .hot .dev .n1limit) (r .hot .a1 .entries) (r .e1) (z .e1) (g .half1 .held) (g .half1 .fit .entries)) in
-      good-next r octets (takenPlan (r .hot) 0 (t3247Effect (r .hot) 0)) (ticked-fair (r .hot .dev) Stop (g .fair))
+      good-next r octets (takenPlan (r .hot) 0 (t3247Effect (r .hot) 0)) (ticked-fair (r .hot .dev) Stop Leave (g .fair))
       (record { fit = a .fit; timely = a .timely; carded = a .carded; equals = a .equals; held = a .held })
       (record { fit = b .fit; timely = b .timely; carded = b .carded; equals = b .equals; held = b .held })
       (list-kept task.Sweep (r .hot .dev .roaming) (r .roaming) (z .roaming) (g .roaming) tt)
@@ -76,7 +76,7 @@ module _ (r : Record) (g : Good r) (z : Sized r) (octets : List ℕ) where
       (powered (r .hot .a1 .entries) (r .hot .dev .banlimit) (r .e1))
       (cycled-turned (r .hot .dev .card) (r .hot .dev .cardlimit) (r .hot .a1) (g .half1 .fit) (g .fair .card)) (g .half1 .equals)
       (cycled-held (r .hot .dev .banlimit) (r .hot .dev .n1limit) (r .hot .a1 .entries) (r .e1) (z .e1) (g .half1 .held) (g .half1 .fit .entries)) in
-      good-next r octets (takenPlan (r .hot) 0 (powerEffect (r .hot))) (ticked-fair (r .hot .dev) Stop (g .fair))
+      good-next r octets (takenPlan (r .hot) 0 (powerEffect (r .hot))) (ticked-fair (r .hot .dev) Stop Stop (g .fair))
       (record { fit = a .fit; timely = a .timely; carded = a .carded; equals = a .equals; held = a .held })
       (record { fit = b .fit; timely = b .timely; carded = b .carded; equals = b .equals; held = b .held })
       (list-kept task.Clear (r .hot .dev .roaming) (r .roaming) (z .roaming) (g .roaming) tt)
@@ -100,10 +100,13 @@ module _ (r : Record) (g : Good r) (z : Sized r) (octets : List ℕ) where
         capability = g .fair .capability;
         security = g .fair .security;
         t3247 = refl;
+        t3512 = refl;
+        t3512length = refl;
+        due = refl;
         home = p;
       })
-      (half-turned (ticked 0 (carded home (length octets) (r .hot .dev))) 0 0 (after turns.renewed) (zeros 15) none a (none-short (zeros 15)) (none-held (r .hot .dev .banlimit) (r .hot .dev .n1limit) none))
-      (half-turned (ticked 0 (carded home (length octets) (r .hot .dev))) 0 0 (after turns.renewed) (zeros 15) none a (none-short (zeros 15)) (none-held (r .hot .dev .banlimit) (r .hot .dev .n1limit) none))
+      (half-turned (ticked 0 0 (carded home (length octets) (r .hot .dev))) 0 0 (after turns.renewed) (zeros 15) none a (none-short (zeros 15)) (none-held (r .hot .dev .banlimit) (r .hot .dev .n1limit) none))
+      (half-turned (ticked 0 0 (carded home (length octets) (r .hot .dev))) 0 0 (after turns.renewed) (zeros 15) none a (none-short (zeros 15)) (none-held (r .hot .dev .banlimit) (r .hot .dev .n1limit) none))
       (list-kept task.Clear (r .hot .dev .roaming) (r .roaming) (z .roaming) (g .roaming) tt)
       (list-kept task.Clear (r .hot .dev .regional) (r .regional) (z .regional) (g .regional) tt)
       (rw (most-is 64 (length octets) (le-leb (length octets) 64 (most 9 64 (length octets) q)), copied-first (length octets) octets (zeros 64) b (omega arith)) o)

@@ -8,7 +8,7 @@ use Rattle.entries.specs.declared.Entries.{Entries}
 use Rattle.record.specs.declared.Device.{Device}
 use Rattle.record.specs.declared.Access.{Access}
 use Rattle.record.specs.declared.Record.{Record}
-use Rattle.record.specs.Tests.{both, either, within, upTo, isFlag, isShort}
+use Rattle.record.specs.Tests.{both, either, within, upTo, isFlag, isShort, isClear0}
 use Rattle.record.specs.Network.{isNetwork}
 use Rattle.ranges.specs.Valid.{isItem, suciOf, itself, halved}
 use Rattle.validity.proofs.Arrays.{All, Once}
@@ -23,6 +23,9 @@ pub record Fair (d : Device) : Type 0 where
   pub capability : within 1 13 (d .capability) ≡ true
   pub security : within 2 8 (d .security) ≡ true
   pub t3247 : isFlag (d .t3247) ≡ true
+  pub t3512 : isFlag (d .t3512) ≡ true
+  pub t3512length : upTo 35712000 (d .t3512length) ≡ true
+  pub due : isFlag (d .due) ≡ true
   pub home : isNetwork (d .home) ≡ true
 
 -- an access's numbers, in the groups that the setters change
@@ -33,7 +36,12 @@ abbrev Flags : Access → Type 0
 Flags a = (isFlag (a .t3510) ≡ true) × (isFlag (a .t3511) ≡ true) × (isFlag (a .t3502) ≡ true)
 
 abbrev Pending : Access → Type 0
-Pending a = (isNetwork (a .net) ≡ true) × (isShort (a .code) ≡ true)
+Pending a =
+    (isNetwork (a .net) ≡ true)
+    × (isShort (a .code) ≡ true)
+    × (within 1 3 (a .regtype) ≡ true)
+    × (isClear0 (a .uplink) ≡ true)
+    × (isClear0 (a .sessions) ≡ true)
 
 abbrev Known : Access → Type 0
 Known a =

@@ -4,36 +4,42 @@ use mathlib.Core.Path.{_≡_, refl}
 use mathlib.Core.Bool.{Bool, true, false, cond, false≢true}
 use mathlib.Core.List.{List}
 use native.Mathlib.Omega.{arith}
-use lib.Dec.{eqb}
+use lib.Dec.{leb, eqb}
 use borrow.Author.Tests.{eqb-true, le-leb, leb-true}
 use Rattle.messages.specs.declared.Reading.{Reading}
 use Rattle.messages.specs.declared.Reading.the-variants as reading
 use Rattle.messages.specs.Message.{readingOf}
 use Rattle.record.specs.declared.Record.{Record}
 use Rattle.record.specs.Answers.{isTaken}
-use Rattle.record.specs.Tests.{either, flip, isFlag}
+use Rattle.record.specs.Tests.{either, flip, within, isFlag}
 use Rattle.ranges.specs.Valid.{validOf}
 use Rattle.turns.specs.Timers.{isDeviceTimer, runsOn}
-use Rattle.turns.specs.Turns.{started, keySet, t3510Out, t3511Out, t3502Out}
+use Rattle.turns.specs.declared.Order.the-variants.{Leave, Stop}
+use Rattle.turns.specs.Turns.{still, started, updated, keySet, t3510Out, t3511Out, t3502Out}
 use Rattle.rules.specs.declared.Event.{Event}
-use Rattle.rules.specs.declared.Event.the-variants.{Card, Start, Message, Timer, Power, Key, Unknown}
+use Rattle.rules.specs.declared.Event.the-variants.{Card, Start, Message, Timer, Power, Key, Update, Unknown}
 use Rattle.record.specs.Sides.{accessOf}
 use Rattle.checks.specs.Answers.{rowNow, readAnswer, runs}
-use Rattle.effects.specs.Effects.{plain, startEffect, keyEffect, clockEffect, timerEffect}
+use Rattle.effects.specs.Effects.{plain, startEffect, updateEffect, keyEffect, clockEffect, t3247Effect, t3512Effect, deviceEffect, timerEffect}
 use Rattle.rules.specs.Plan.{askOf, accessIn, answerOf, messageEffect, effectOf, takenPlan}
 use Rattle.events.specs.Step.{advanceOf, stepOf}
+use Rattle.record.proofs.Bounds.{most, least}
 use Rattle.validity.specs.Sized.{Sized}
 use Rattle.validity.specs.Answered.{seenAt, listedAt, answeredBy}
 use Rattle.validity.specs.Run.{Octets}
-use Rattle.validity.proofs.Bools.{either-second, either-left}
+use Rattle.validity.proofs.Bools.{both-true, either-second, either-left}
 use Rattle.validity.proofs.Good.{Good}
 use Rattle.validity.proofs.Valid.{valid-good, good-valid}
-use Rattle.validity.proofs.Turns.{started-turned, key-turned, t3510-turned, t3511-turned, t3502-turned}
+use Rattle.validity.proofs.Turns.{still-turned, started-turned, updated-turned, key-turned, t3510-turned, t3511-turned, t3502-turned}
 use Rattle.validity.proofs.Messages.{Mild, reading-mild}
-use Rattle.validity.proofs.Taken.{start-passed, message-passed, reject-passed, timer-passed, key-passed, card-passed}
+use Rattle.validity.proofs.Taken.{start-passed, update-passed, message-passed, reject-passed, timer-passed, key-passed, card-passed}
 use Rattle.validity.proofs.Refusal.{carry, effectIn, taken-plan, refused}
-use Rattle.validity.proofs.Own.{access-fit, access-timely, access-carded, plain-good, accept-good, pendingSeen, reject-good}
+use Rattle.validity.proofs.Own.{access-fit, access-timely, access-carded, bare-good, same-good, plain-good, accept-good, pendingSeen, reject-good}
 use Rattle.validity.proofs.Common.{t3247-good, power-good, card-good}
+
+-- types 2 and 3 are types
+from-two : (n : ℕ) → within 2 3 n ≡ true → within 1 3 n ≡ true
+from-two n h = both-true (leb 1 n) (leb n 3) (le-leb 1 n (let l = least 2 3 n h in omega arith)) (le-leb n 3 (most 2 3 n h))
 
 module _ (r : Record) (g : Good r) (z : Sized r) (octets : List ℕ) where
   -- state 4 has a card
@@ -47,7 +53,7 @@ module _ (r : Record) (g : Good r) (z : Sized r) (octets : List ℕ) where
       → Good (carry r octets (takenPlan (r .hot) w (messageEffect (r .hot) w protected draw m (pendingSeen r w))) .next)
   unfolding messageEffect readAnswer isTaken
   message-good w protected draw (reading.Accept a) mild o h c q =
-      accept-good r g z octets w h a (pendingSeen r w) (mild .0) (mild .1) o c
+      accept-good r g z octets w h a (pendingSeen r w) (mild .0) (mild .1) (mild .2) o c
   message-good w protected draw (reading.Reject cause) mild o h c q =
       reject-good r g z octets protected draw cause (rowNow (r .hot) w protected cause) c w h (reject-passed (r .hot) w protected cause (pendingSeen r w) q)
   message-good w protected draw (reading.Bad f at) mild o h c q = absurd (false≢true q)
@@ -80,6 +86,15 @@ module _ (r : Record) (g : Good r) (z : Sized r) (octets : List ℕ) where
           (state-card w (either-second (eqb (accessOf (r .hot) w .t3510) 0) (eqb (accessOf (r .hot) w .state) 4) (access-timely r g w) (running e)))))
       go false e = rw e other
 
+  -- T3247 out and T3512 out, which makes an update due
+  device-good : (number : ℕ) → Good (carry r octets (takenPlan (r .hot) 0 (deviceEffect (r .hot) number 0)) .next)
+  unfolding deviceEffect t3512Effect
+  device-good number = elim (eqb number 4) as (λ b. Good (carry r octets (takenPlan (r .hot) 0 (cond b (t3247Effect (r .hot) 0) (t3512Effect (r .hot) 0))) .next)) [
+    | true ↦ t3247-good r g z octets
+    | false ↦ bare-good r g z octets 0 refl (r .hot .dev .t3512length) 1 (g .fair .t3512length) refl (still (accessOf (r .hot) 0)) Stop false
+        (still-turned (r .hot .dev .card) (r .hot .dev .cardlimit) (accessOf (r .hot) 0) (access-fit r g 0) (access-timely r g 0) (access-carded r g 0))
+  ]
+
   timer-good : (number w : ℕ) → isFlag w ≡ true → either (flip (isDeviceTimer number)) (eqb w 0) ≡ true → eqb (runs (r .hot) number w) 0 ≡ false
       → Good (carry r octets (takenPlan (r .hot) w (timerEffect (r .hot) number w)) .next)
   unfolding timerEffect
@@ -88,12 +103,12 @@ module _ (r : Record) (g : Good r) (z : Sized r) (octets : List ℕ) where
       go : (b : Bool) → isDeviceTimer number ≡ b → Good (carry r octets (takenPlan (r .hot) w (timerEffect (r .hot) number w)) .next)
       go true e =
           let f : w ≡ 0 = eqb-true w 0 (either-second (flip (isDeviceTimer number)) (eqb w 0) p (rw e)) in
-          rw (e, f) (t3247-good r g z octets)
+          rw (e, f) (device-good number)
       go false e = rw e (clock-good number w h e q)
 
   taken-good : (e : Event) → Octets octets → isTaken (answeredBy r e octets) ≡ true
       → Good (carry r octets (takenPlan (r .hot) (accessIn e) (effectIn r e octets)) .next)
-  unfolding answeredBy answerOf askOf accessIn effectOf startEffect keyEffect isTaken
+  unfolding answeredBy answerOf askOf accessIn effectOf startEffect updateEffect keyEffect isTaken
   taken-good (Card home) o q =
       let p = card-passed home octets q in
       card-good r g z octets home (p .0) (p .1) (p .2)
@@ -113,6 +128,12 @@ module _ (r : Record) (g : Good r) (z : Sized r) (octets : List ℕ) where
       let p = key-passed (r .hot) w set q in
       plain-good r g z octets w (p .0) (keySet set (accessOf (r .hot) w)) false
       (key-turned (r .hot .dev .card) (r .hot .dev .cardlimit) (accessOf (r .hot) w) (access-fit r g w) (access-timely r g w) (access-carded r g w) set (le-leb set 7 (let l = leb-true set 6 (p .1) in omega arith)))
+  taken-good (Update w regtype net code uplink sessions) o q =
+      let p = update-passed (r .hot) w regtype net code uplink sessions (seenAt r (Update w regtype net code uplink sessions)) (listedAt r (Update w regtype net code uplink sessions)) q in
+      same-good r g z octets w (p .0) (updated regtype net code uplink sessions (accessOf (r .hot) w)) (cond (eqb w 0) Stop Leave) false
+      (updated-turned (r .hot .dev .card) (r .hot .dev .cardlimit) (accessOf (r .hot) w) (access-fit r g w)
+      (either-left (eqb (r .hot .dev .card) 1) (eqb (accessOf (r .hot) w .state) 0) (access-carded r g w) (rw (eqb-true (accessOf (r .hot) w .state) 5 (p .6))))
+      regtype net code uplink sessions (p .2) (p .3) (from-two regtype (p .1)) (p .4) (p .5))
   taken-good Unknown o q = absurd (false≢true q)
 
 advance-good : (r : Record) (e : Event) (octets : List ℕ) → Sized r → Octets octets → Good r → Good (advanceOf r e octets .next)

@@ -25,3 +25,5 @@ pub mod Reply
 pub mod Silent
 pub mod Told
 pub mod Power
+pub mod Update
+pub mod Steady

@@ -1,5 +1,5 @@
--- What an accept brings is in range: at most 15 equivalents, each of three octets, and a T3502 length of at most 31 times 360 s. Assumes nothing.
-use Prim.Native.Nat.{ℕ, zero, suc, _+_, _*_, _/_, _%_, _≤_}
+-- What an accept brings is in range: at most 15 equivalents, each of three octets, a T3502 length of at most 31 times 360 s and a T3512 length of at most 31 times 320 h. Assumes nothing.
+use Prim.Native.Nat.{ℕ, zero, suc, _+_, _/_, _≤_}
 use mathlib.Core.Path.{_≡_, refl}
 use mathlib.Core.Bool.{Bool, true, false, cond}
 use mathlib.Core.List.{List}
@@ -16,11 +16,10 @@ use Rattle.octets.specs.declared.Part.{Part}
 use Rattle.octets.specs.declared.Ending.{Ending}
 use Rattle.octets.specs.declared.Ending.the-variants.{Broken, Whole}
 use Rattle.octets.specs.Element.{Elements, elementsFrom, firstOf, endOf}
-use Rattle.timers.specs.declared.Span.the-variants.{Off, Seconds}
-use Rattle.timers.specs.Timer.{unitOf, spanOf}
 use Rattle.messages.specs.declared.Reading.{Reading}
 use Rattle.messages.specs.declared.Reading.the-variants as reading
-use Rattle.messages.specs.Message.{countOf, t3502Of, secondsOf, acceptOf, acceptedOf, acceptReading, rejectReading, typeReading, endedBy, openedBy, readingOf}
+use Rattle.messages.specs.Message.{countOf, t3502Of, t3512Of, secondsOf, acceptOf, acceptedOf, acceptReading, rejectReading, typeReading, endedBy, openedBy, readingOf}
+use Rattle.messages.proofs.Lengths.{t3502-fits, t3512-fits}
 use Rattle.record.specs.Tests.{upTo, isShort}
 use Rattle.record.specs.Network.{networkOf}
 use Rattle.events.specs.Parts.{networksOf}
@@ -30,33 +29,9 @@ use Rattle.validity.proofs.Arrays.{All, upto-reads}
 
 -- a reading whose numbers fit an access
 abbrev pub Mild : Reading → Type 0
-Mild (reading.Accept g) = (upTo 15 (g .count) ≡ true) × (upTo 11160 (g .t3502length) ≡ true)
+Mild (reading.Accept g) = (upTo 15 (g .count) ≡ true) × (upTo 11160 (g .t3502length) ≡ true) × (upTo 35712000 (g .t3512length) ≡ true)
 Mild (reading.Reject cause) = Unit {0}
 Mild (reading.Bad f at) = Unit {0}
-
-unit-fits : (n top : ℕ) → n ≤ 31 → n * unitOf top ≤ 11160
-unfolding unitOf
-unit-fits n top h = elim (eqb top 0) as (λ b. n * cond b 2 (cond (eqb top 1) 60 (cond (eqb top 2) 360 60)) ≤ 11160) [
-  | true ↦ omega arith
-  | false ↦ elim (eqb top 1) as (λ b. n * cond b 60 (cond (eqb top 2) 360 60) ≤ 11160) [
-    | true ↦ omega arith
-    | false ↦ elim (eqb top 2) as (λ b. n * cond b 360 60 ≤ 11160) [ true ↦ omega arith | false ↦ omega arith ]
-  ]
-]
-
-span-fits : (octet : ℕ) → secondsOf (spanOf octet) ≤ 11160
-unfolding spanOf
-span-fits octet = elim (eqb (octet / 32) 7) as (λ b. secondsOf (cond b Off (Seconds (octet % 32 * unitOf (octet / 32)))) ≤ 11160) [
-  | true ↦ omega arith
-  | false ↦ unit-fits (octet % 32) (octet / 32) (omega arith)
-]
-
-length-fits : (s : List ℕ) (p : Part) → secondsOf (t3502Of s p) ≤ 11160
-unfolding t3502Of
-length-fits s p = elim (p .held) as (λ b. secondsOf (cond b (cond (eqb (p .len) 0) Off (spanOf (getD s (p .start) 0))) Off) ≤ 11160) [
-  | true ↦ elim (eqb (p .len) 0) as (λ b. secondsOf (cond b Off (spanOf (getD s (p .start) 0))) ≤ 11160) [ true ↦ omega arith | false ↦ span-fits (getD s (p .start) 0) ]
-  | false ↦ omega arith
-]
 
 count-fits : (p : Part) → countOf p ≤ 15
 unfolding countOf
@@ -70,7 +45,11 @@ ended-mild Whole m h = h
 accepted-mild : (s : List ℕ) (l : Elements) → Mild (acceptedOf s l)
 unfolding acceptedOf acceptOf
 accepted-mild s l =
-    ended-mild (endOf l) (reading.Accept (acceptOf s l)) (le-leb (countOf (firstOf 0x4A l)) 15 (count-fits (firstOf 0x4A l)), le-leb (secondsOf (t3502Of s (firstOf 0x16 l))) 11160 (length-fits s (firstOf 0x16 l)))
+    ended-mild (endOf l) (reading.Accept (acceptOf s l)) (
+      le-leb (countOf (firstOf 0x4A l)) 15 (count-fits (firstOf 0x4A l)),
+      le-leb (secondsOf (t3502Of s (firstOf 0x16 l))) 11160 (t3502-fits s (firstOf 0x16 l)),
+      le-leb (secondsOf (t3512Of s (firstOf 0x5E l))) 35712000 (t3512-fits s (firstOf 0x5E l)),
+    )
 
 cond-mild : (b : Bool) (m n : Reading) → Mild m → Mild n → Mild (cond b m n)
 cond-mild true m n p q = p

@@ -12,7 +12,7 @@ use Rattle.areas.specs.Areas.{listAfter, countAfter}
 use Rattle.record.specs.declared.Device.{Device}
 use Rattle.record.specs.declared.Access.{Access}
 use Rattle.record.specs.declared.Record.{Record}
-use Rattle.record.specs.Tests.{isShort}
+use Rattle.record.specs.Tests.{upTo, isFlag, isShort}
 use Rattle.ranges.specs.Valid.{suciOf}
 use Rattle.turns.specs.declared.Order.{Order}
 use Rattle.turns.specs.declared.Turn.{Turn}
@@ -20,7 +20,7 @@ use Rattle.turns.specs.Timers.{flagAfter}
 use Rattle.rules.specs.declared.Plan.{Plan}
 use Rattle.effects.specs.declared.Keep.{Keep}
 use Rattle.effects.specs.declared.Keep.the-variants as keep
-use Rattle.effects.specs.Effects.{Effect, ticked}
+use Rattle.effects.specs.Effects.{Effect, ticked, scheduled}
 use Rattle.record.specs.Sides.{hotOf}
 use Rattle.rules.specs.Plan.{hotAfter, takenPlan, deedOn, deedOf}
 use Rattle.events.specs.Parts.{tableAfter, withCounts, doneOf, carriedOut, equivalentsAfter, suciAfter, keptAfter}
@@ -53,6 +53,9 @@ good-next r octets p f a b roaming regional suci = record {
     capability = f .capability;
     security = f .security;
     t3247 = f .t3247;
+    t3512 = f .t3512;
+    t3512length = f .t3512length;
+    due = f .due;
     home = f .home;
   };
   half0 = record { fit = a .fit; timely = a .timely; carded = a .carded; equals = a .equals; held = a .held };
@@ -91,9 +94,9 @@ suci-stays keep.Nothing c octets xs = refl
 suci-stays (keep.Gift g) c octets xs = refl
 suci-stays keep.Card c octets xs = absurd c
 
-pub ticked-fair : (d : Device) (o : Order) → Fair d → Fair (ticked (flagAfter o (d .t3247)) d)
+pub ticked-fair : (d : Device) (o p : Order) → Fair d → Fair (ticked (flagAfter o (d .t3247)) (flagAfter p (d .t3512)) d)
 unfolding ticked
-ticked-fair d o f = record {
+ticked-fair d o p f = record {
   card = f .card;
   suci = f .suci;
   cardlimit = f .cardlimit;
@@ -102,35 +105,60 @@ ticked-fair d o f = record {
   capability = f .capability;
   security = f .security;
   t3247 = flag-after o (d .t3247) (f .t3247);
+  t3512 = flag-after p (d .t3512) (f .t3512);
+  t3512length = f .t3512length;
+  due = f .due;
   home = f .home;
 }
 
--- an event of one access: the device's numbers stay but for T3247, and the other access's entries
-abbrev ownEffect : Record → Turn → Turn → Order → Deed → Task → Task → Keep → Bool → Effect
-ownEffect r mine theirs o d roaming regional k restart = record {
-  dev = r .hot .dev;
+scheduled-fair : (d : Device) (time due : ℕ) → upTo 35712000 time ≡ true → isFlag due ≡ true → Fair d → Fair (scheduled time due d)
+unfolding scheduled
+scheduled-fair d time due h i f = record {
+  card = f .card;
+  suci = f .suci;
+  cardlimit = f .cardlimit;
+  banlimit = f .banlimit;
+  n1limit = f .n1limit;
+  capability = f .capability;
+  security = f .security;
+  t3247 = f .t3247;
+  t3512 = f .t3512;
+  t3512length = h;
+  due = i;
+  home = f .home;
+}
+
+-- an event of one access: the device's numbers stay but for its timers, T3512's time and whether an update is due, and so do the other access's entries
+abbrev ownEffect : Record → ℕ → ℕ → Turn → Turn → Order → Order → Deed → Task → Task → Keep → Bool → Effect
+ownEffect r time due mine theirs o p d roaming regional k restart = record {
+  dev = scheduled time due (r .hot .dev);
   mine = mine;
   theirs = theirs;
   t3247 = o;
+  t3512 = p;
   work = record { mine = d; theirs = deed.Nothing; roaming = roaming; regional = regional; keep = k };
   restart = restart;
 }
 
-module _ (r : Record) (g : Good r) (z : Sized r) (octets : List ℕ) (mine theirs : Turn) (o : Order)
+module _ (r : Record) (g : Good r) (z : Sized r) (octets : List ℕ) (time due : ℕ) (h : upTo 35712000 time ≡ true) (i : isFlag due ≡ true) (mine theirs : Turn) (o p : Order)
     (d : Deed) (roaming regional : Task) (k : Keep) (restart : Bool) (c : NoCard k) (u : Short roaming) (v : Short regional) where
   abbrev planned : ℕ → Plan
-  planned w = takenPlan (r .hot) w (ownEffect r mine theirs o d roaming regional k restart)
+  planned w = takenPlan (r .hot) w (ownEffect r time due mine theirs o p d roaming regional k restart)
+
+  fair : Fair (ticked (flagAfter o (r .hot .dev .t3247)) (flagAfter p (r .hot .dev .t3512)) (scheduled time due (r .hot .dev)))
+  unfolding scheduled
+  fair = ticked-fair (scheduled time due (r .hot .dev)) o p (scheduled-fair (r .hot .dev) time due h i (g .fair))
 
   pub own-first : Half (r .hot .dev) (after mine) (equivalentsAfter k true octets (r .equivalents0)) (tableAfter (planned 0) 0 (r .hot .a0 .entries) (r .hot) (r .e0))
       → Turned (r .hot .dev .card) (r .hot .dev .cardlimit) (r .hot .a1 .equivalents) (r .hot .a1 .entries) (after theirs)
       → Good (carry r octets (planned 0) .next)
-  unfolding takenPlan hotAfter hotOf ticked suciOf deedOf deedOn
+  unfolding takenPlan hotAfter hotOf ticked scheduled suciOf deedOf deedOn
   own-first a b =
       let t = table-idle (planned 0) 1 (r .hot .a1 .entries) (r .hot) (r .e1) refl in
-      let h = half-turned (r .hot .dev) (r .hot .a1 .equivalents) (r .hot .a1 .entries) (after theirs) (r .equivalents1) (r .e1) b (g .half1 .equals) (g .half1 .held) in
-      good-next r octets (planned 0) (ticked-fair (r .hot .dev) o (g .fair))
+      let half = half-turned (r .hot .dev) (r .hot .a1 .equivalents) (r .hot .a1 .entries) (after theirs) (r .equivalents1) (r .e1) b (g .half1 .equals) (g .half1 .held) in
+      good-next r octets (planned 0) fair
       (record { fit = a .fit; timely = a .timely; carded = a .carded; equals = a .equals; held = a .held })
-      (rw (t, equivalents-stay k c octets (r .equivalents1)) (record { fit = h .fit; timely = h .timely; carded = h .carded; equals = h .equals; held = h .held }))
+      (rw (t, equivalents-stay k c octets (r .equivalents1)) (record { fit = half .fit; timely = half .timely; carded = half .carded; equals = half .equals; held = half .held }))
       (list-kept roaming (r .hot .dev .roaming) (r .roaming) (z .roaming) (g .roaming) u)
       (list-kept regional (r .hot .dev .regional) (r .regional) (z .regional) (g .regional) v)
       (rw (suci-stays k c octets (r .suci)) (g .suci))
@@ -138,12 +166,12 @@ module _ (r : Record) (g : Good r) (z : Sized r) (octets : List ℕ) (mine their
   pub own-second : Half (r .hot .dev) (after mine) (equivalentsAfter k true octets (r .equivalents1)) (tableAfter (planned 1) 1 (r .hot .a1 .entries) (r .hot) (r .e1))
       → Turned (r .hot .dev .card) (r .hot .dev .cardlimit) (r .hot .a0 .equivalents) (r .hot .a0 .entries) (after theirs)
       → Good (carry r octets (planned 1) .next)
-  unfolding takenPlan hotAfter hotOf ticked suciOf deedOf deedOn
+  unfolding takenPlan hotAfter hotOf ticked scheduled suciOf deedOf deedOn
   own-second a b =
       let t = table-idle (planned 1) 0 (r .hot .a0 .entries) (r .hot) (r .e0) refl in
-      let h = half-turned (r .hot .dev) (r .hot .a0 .equivalents) (r .hot .a0 .entries) (after theirs) (r .equivalents0) (r .e0) b (g .half0 .equals) (g .half0 .held) in
-      good-next r octets (planned 1) (ticked-fair (r .hot .dev) o (g .fair))
-      (rw (t, equivalents-stay k c octets (r .equivalents0)) (record { fit = h .fit; timely = h .timely; carded = h .carded; equals = h .equals; held = h .held }))
+      let half = half-turned (r .hot .dev) (r .hot .a0 .equivalents) (r .hot .a0 .entries) (after theirs) (r .equivalents0) (r .e0) b (g .half0 .equals) (g .half0 .held) in
+      good-next r octets (planned 1) fair
+      (rw (t, equivalents-stay k c octets (r .equivalents0)) (record { fit = half .fit; timely = half .timely; carded = half .carded; equals = half .equals; held = half .held }))
       (record { fit = a .fit; timely = a .timely; carded = a .carded; equals = a .equals; held = a .held })
       (list-kept roaming (r .hot .dev .roaming) (r .roaming) (z .roaming) (g .roaming) u)
       (list-kept regional (r .hot .dev .regional) (r .regional) (z .regional) (g .regional) v)

@@ -21,7 +21,8 @@ use Rattle.record.specs.declared.Access.{Access}
 use Rattle.record.specs.declared.Record.{Record}
 use Rattle.record.specs.Tests.{upTo, isFlag}
 use Rattle.record.specs.Network.{isNetwork}
-use Rattle.turns.specs.declared.Order.the-variants.{Leave}
+use Rattle.turns.specs.declared.Order.{Order}
+use Rattle.turns.specs.declared.Order.the-variants.{Leave, Run}
 use Rattle.turns.specs.declared.Turn.{Turn}
 use Rattle.turns.specs.declared.Row.{Row}
 use Rattle.turns.specs.Words.{Mark, noMark, forbiddenAndCounted, n1NotAllowedAndCounted, isMark, markIn}
@@ -31,7 +32,7 @@ use Rattle.rules.specs.declared.Ask.the-variants as ask
 use Rattle.rules.specs.declared.Plan.{Plan}
 use Rattle.record.specs.Sides.{accessOf, otherOf}
 use Rattle.effects.specs.declared.Keep.the-variants as keep
-use Rattle.effects.specs.Effects.{plain, acceptEffect, markDeed, rowDeed, rowWork, rejectEffect}
+use Rattle.effects.specs.Effects.{Effect, scheduled, idle, plain, t3512Time, acceptT3512, acceptDevice, acceptEffect, markDeed, rowDeed, rowWork, rejectEffect}
 use Rattle.rules.specs.Plan.{takenPlan, deedOn, deedOf}
 use Rattle.events.specs.Parts.{sightOf, seenBy, seenOf, tableAfter, networksOf, equivalentsAfter}
 use Rattle.validity.specs.Sized.{Columns, Sized}
@@ -71,22 +72,37 @@ module _ (r : Record) (g : Good r) where
   second-still = still-turned (r .hot .dev .card) (r .hot .dev .cardlimit) (r .hot .a1) (g .half1 .fit) (g .half1 .timely) (g .half1 .carded)
 
   module _ (z : Sized r) (octets : List ℕ) where
-    -- an event that touches no array
+    -- an event that touches no array: T3512's time and whether an update is due are those that it leaves
+    abbrev pub bare : ℕ → ℕ → ℕ → Turn → Order → Bool → Effect
+    bare w time due t p restart = record { dev = scheduled time due (r .hot .dev); mine = t; theirs = still (otherOf (r .hot) w); t3247 = Leave; t3512 = p; work = idle; restart = restart }
+
+    pub bare-good : (w : ℕ) → isFlag w ≡ true → (time due : ℕ) → upTo 35712000 time ≡ true → isFlag due ≡ true → (t : Turn) (p : Order) (restart : Bool)
+        → Turned (r .hot .dev .card) (r .hot .dev .cardlimit) (accessOf (r .hot) w .equivalents) (accessOf (r .hot) w .entries) (after t)
+        → Good (carry r octets (takenPlan (r .hot) w (bare w time due t p restart)) .next)
+    unfolding accessOf otherOf takenPlan deedOf deedOn equivalentsAfter
+    bare-good zero h time due l f t p restart u =
+        own-first r g z octets time due l f t (still (r .hot .a1)) Leave p deed.Nothing task.Nothing task.Nothing keep.Nothing restart tt tt tt
+        (rw (table-idle (takenPlan (r .hot) 0 (bare 0 time due t p restart)) 0 (r .hot .a0 .entries) (r .hot) (r .e0) refl)
+        (half-turned (r .hot .dev) (r .hot .a0 .equivalents) (r .hot .a0 .entries) (after t) (r .equivalents0) (r .e0) u (g .half0 .equals) (g .half0 .held)))
+        second-still
+    bare-good (suc zero) h time due l f t p restart u =
+        own-second r g z octets time due l f t (still (r .hot .a0)) Leave p deed.Nothing task.Nothing task.Nothing keep.Nothing restart tt tt tt
+        (rw (table-idle (takenPlan (r .hot) 1 (bare 1 time due t p restart)) 1 (r .hot .a1 .entries) (r .hot) (r .e1) refl)
+        (half-turned (r .hot .dev) (r .hot .a1 .equivalents) (r .hot .a1 .entries) (after t) (r .equivalents1) (r .e1) u (g .half1 .equals) (g .half1 .held)))
+        first-still
+    bare-good (suc (suc w)) h time due l f t p restart u = absurd (no-third w h)
+
+    -- the same with both as they were
+    pub same-good : (w : ℕ) → isFlag w ≡ true → (t : Turn) (p : Order) (restart : Bool)
+        → Turned (r .hot .dev .card) (r .hot .dev .cardlimit) (accessOf (r .hot) w .equivalents) (accessOf (r .hot) w .entries) (after t)
+        → Good (carry r octets (takenPlan (r .hot) w (record { dev = r .hot .dev; mine = t; theirs = still (otherOf (r .hot) w); t3247 = Leave; t3512 = p; work = idle; restart = restart })) .next)
+    unfolding scheduled
+    same-good w h t p restart u = bare-good w h (r .hot .dev .t3512length) (r .hot .dev .due) (g .fair .t3512length) (g .fair .due) t p restart u
+
     pub plain-good : (w : ℕ) → isFlag w ≡ true → (t : Turn) (restart : Bool)
         → Turned (r .hot .dev .card) (r .hot .dev .cardlimit) (accessOf (r .hot) w .equivalents) (accessOf (r .hot) w .entries) (after t)
         → Good (carry r octets (takenPlan (r .hot) w (plain (r .hot) w t restart)) .next)
-    unfolding accessOf otherOf takenPlan deedOf deedOn equivalentsAfter
-    plain-good zero h t restart u =
-        own-first r g z octets t (still (r .hot .a1)) Leave deed.Nothing task.Nothing task.Nothing keep.Nothing restart tt tt tt
-        (rw (table-idle (takenPlan (r .hot) 0 (plain (r .hot) 0 t restart)) 0 (r .hot .a0 .entries) (r .hot) (r .e0) refl)
-        (half-turned (r .hot .dev) (r .hot .a0 .equivalents) (r .hot .a0 .entries) (after t) (r .equivalents0) (r .e0) u (g .half0 .equals) (g .half0 .held)))
-        second-still
-    plain-good (suc zero) h t restart u =
-        own-second r g z octets t (still (r .hot .a0)) Leave deed.Nothing task.Nothing task.Nothing keep.Nothing restart tt tt tt
-        (rw (table-idle (takenPlan (r .hot) 1 (plain (r .hot) 1 t restart)) 1 (r .hot .a1 .entries) (r .hot) (r .e1) refl)
-        (half-turned (r .hot .dev) (r .hot .a1 .equivalents) (r .hot .a1 .entries) (after t) (r .equivalents1) (r .e1) u (g .half1 .equals) (g .half1 .held)))
-        first-still
-    plain-good (suc (suc w)) h t restart u = absurd (no-third w h)
+    plain-good w h t restart u = same-good w h t Leave restart u
 
     -- T3502's length that an accept leaves
     abbrev lengthOf : Accept → ℕ
@@ -95,27 +111,32 @@ module _ (r : Record) (g : Good r) where
     length-fits : (a : Accept) → upTo 11160 (a .t3502length) ≡ true → upTo 11160 (lengthOf a) ≡ true
     length-fits a q = elim (a .timed) as (λ b. upTo 11160 (cond b (a .t3502length) 720) ≡ true) [ true ↦ q | false ↦ refl ]
 
+    -- T3512's time that an accept on access 0 leaves
+    time-fits : (a : Accept) → upTo 35712000 (a .t3512length) ≡ true → upTo 35712000 (t3512Time a (r .hot .dev)) ≡ true
+    unfolding t3512Time
+    time-fits a q = elim (a .paced) as (λ b. upTo 35712000 (cond b (a .t3512length) (r .hot .dev .t3512length)) ≡ true) [ true ↦ q | false ↦ g .fair .t3512length ]
+
     -- an accept: its equivalents are the message's, and its mark clears
-    pub accept-good : (w : ℕ) → isFlag w ≡ true → (a : Accept) (s : Seen) → upTo 15 (a .count) ≡ true → upTo 11160 (a .t3502length) ≡ true → Octets octets → eqb (r .hot .dev .card) 1 ≡ true
+    pub accept-good : (w : ℕ) → isFlag w ≡ true → (a : Accept) (s : Seen) → upTo 15 (a .count) ≡ true → upTo 11160 (a .t3502length) ≡ true → upTo 35712000 (a .t3512length) ≡ true → Octets octets → eqb (r .hot .dev .card) 1 ≡ true
         → Good (carry r octets (takenPlan (r .hot) w (acceptEffect (r .hot) w a s)) .next)
-    unfolding accessOf otherOf takenPlan acceptEffect tableAfter entriesAfter deedOf deedOn equivalentsAfter
-    accept-good zero h a s p q o c =
-        own-first r g z octets (accepted (a .given) (a .count) (lengthOf a) (r .hot .a0)) (still (r .hot .a1)) Leave (deed.Accept (seatOf s (r .hot .a0 .net) 1)) task.Nothing task.Nothing (keep.Gift a) false tt tt tt
+    unfolding accessOf otherOf takenPlan acceptEffect acceptDevice acceptT3512 scheduled tableAfter entriesAfter deedOf deedOn equivalentsAfter
+    accept-good zero h a s p q l o c =
+        own-first r g z octets (t3512Time a (r .hot .dev)) 0 (time-fits a l) refl (accepted (a .given) (a .count) (lengthOf a) (r .hot .a0)) (still (r .hot .a1)) Leave (cond (eqb (t3512Time a (r .hot .dev)) 0) Leave (Run (t3512Time a (r .hot .dev)))) (deed.Accept (seatOf s (r .hot .a0 .net) 1)) task.Nothing task.Nothing (keep.Gift a) false tt tt tt
         (half-turned (r .hot .dev) (a .count) (r .hot .a0 .entries) (after (accepted (a .given) (a .count) (lengthOf a) (r .hot .a0)))
         (copied (atMost 15 (a .count)) (networksOf (atMost 15 (a .count)) (drop (a .triplets) octets)) (r .equivalents0)) (unforbidden (seatOf s (r .hot .a0 .net) 1) (r .e0))
         (accepted-turned (r .hot .dev .card) (r .hot .dev .cardlimit) (r .hot .a0) (g .half0 .fit) c (a .given) (a .count) (lengthOf a) p (length-fits a q))
         (copied-short (a .count) (a .triplets) octets (r .equivalents0) p o)
         (accepted-held (r .hot .dev .banlimit) (r .hot .dev .n1limit) (r .hot .a0 .entries) (r .e0) (z .e0) (g .half0 .held) (seatOf s (r .hot .a0 .net) 1)))
         second-still
-    accept-good (suc zero) h a s p q o c =
-        own-second r g z octets (accepted (a .given) (a .count) (lengthOf a) (r .hot .a1)) (still (r .hot .a0)) Leave (deed.Accept (seatOf s (r .hot .a1 .net) 1)) task.Nothing task.Nothing (keep.Gift a) false tt tt tt
+    accept-good (suc zero) h a s p q l o c =
+        own-second r g z octets (r .hot .dev .t3512length) (r .hot .dev .due) (g .fair .t3512length) (g .fair .due) (accepted (a .given) (a .count) (lengthOf a) (r .hot .a1)) (still (r .hot .a0)) Leave Leave (deed.Accept (seatOf s (r .hot .a1 .net) 1)) task.Nothing task.Nothing (keep.Gift a) false tt tt tt
         (half-turned (r .hot .dev) (a .count) (r .hot .a1 .entries) (after (accepted (a .given) (a .count) (lengthOf a) (r .hot .a1)))
         (copied (atMost 15 (a .count)) (networksOf (atMost 15 (a .count)) (drop (a .triplets) octets)) (r .equivalents1)) (unforbidden (seatOf s (r .hot .a1 .net) 1) (r .e1))
         (accepted-turned (r .hot .dev .card) (r .hot .dev .cardlimit) (r .hot .a1) (g .half1 .fit) c (a .given) (a .count) (lengthOf a) p (length-fits a q))
         (copied-short (a .count) (a .triplets) octets (r .equivalents1) p o)
         (accepted-held (r .hot .dev .banlimit) (r .hot .dev .n1limit) (r .hot .a1 .entries) (r .e1) (z .e1) (g .half1 .held) (seatOf s (r .hot .a1 .net) 1)))
         first-still
-    accept-good (suc (suc w)) h a s p q o c = absurd (no-third w h)
+    accept-good (suc (suc w)) h a s p q l o c = absurd (no-third w h)
 
 -- the seat of a network in these entries
 abbrev pub seatIn : ℕ → ℕ → ℕ → List ℕ → Seat
@@ -147,10 +168,10 @@ module _ (r : Record) (g : Good r) (z : Sized r) (octets : List ℕ) (protected 
 
   -- a reject, by its row, where an entry that it needs is there or free
   pub reject-good : (w : ℕ) → isFlag w ≡ true → (needsEntry row ≡ true → pendingSeen r w .found ≡ false → leb 16 (accessOf (r .hot) w .entries) ≡ false) → Good (carry r octets (rejectPlan w) .next)
-  unfolding accessOf otherOf takenPlan rejectEffect rowWork rowDeed needsEntry tableAfter deedOf deedOn seenOf seenBy sightOf seenIn equivalentsAfter
+  unfolding accessOf otherOf takenPlan rejectEffect scheduled rowWork rowDeed needsEntry tableAfter deedOf deedOn seenOf seenBy sightOf seenIn equivalentsAfter
   reject-good zero h f =
-      own-first r g z octets (rowTurn row 0 (r .hot .dev .cardlimit) cause (pendingSeen r 0 .found) (r .hot .a0)) (otherTurn row (r .hot .dev .cardlimit) (r .hot .a1))
-      (rejectT3247 (r .hot .dev .t3247) protected cause draw) (rowDeed row (seatOf (pendingSeen r 0) (r .hot .a0 .net) protected)) (task-if (toRoaming 0 cause row) (r .hot .a0)) (task-if (toRegional 0 cause row) (r .hot .a0)) keep.Nothing false tt
+      own-first r g z octets (r .hot .dev .t3512length) (r .hot .dev .due) (g .fair .t3512length) (g .fair .due) (rowTurn row 0 (r .hot .dev .cardlimit) cause (pendingSeen r 0 .found) (r .hot .a0)) (otherTurn row (r .hot .dev .cardlimit) (r .hot .a1))
+      (rejectT3247 (r .hot .dev .t3247) protected cause draw) Leave (rowDeed row (seatOf (pendingSeen r 0) (r .hot .a0 .net) protected)) (task-if (toRoaming 0 cause row) (r .hot .a0)) (task-if (toRegional 0 cause row) (r .hot .a0)) keep.Nothing false tt
       (put-short (toRoaming 0 cause row) (r .hot .a0) (g .half0 .fit)) (put-short (toRegional 0 cause row) (r .hot .a0) (g .half0 .fit))
       (half-turned (r .hot .dev) (r .hot .a0 .equivalents) (cond (needsEntry row) (grown (pendingSeen r 0 .found) (r .hot .a0 .entries)) (r .hot .a0 .entries))
       (after (rowTurn row 0 (r .hot .dev .cardlimit) cause (pendingSeen r 0 .found) (r .hot .a0))) (r .equivalents0) (tableAfter (rejectPlan 0) 0 (r .hot .a0 .entries) (r .hot) (r .e0))
@@ -159,8 +180,8 @@ module _ (r : Record) (g : Good r) (z : Sized r) (octets : List ℕ) (protected 
       (row-held (r .hot .dev .banlimit) (r .hot .dev .n1limit) (r .hot .a0 .entries) (r .e0) (z .e0) (g .half0 .held) (g .half0 .fit .entries) (markIn (rowText row)) (r .hot .a0 .net) protected f (g .half0 .fit .pending .0)))
       (other-turned (r .hot .dev .card) (r .hot .dev .cardlimit) (r .hot .a1) (g .half1 .fit) (g .half1 .timely) (g .half1 .carded) row)
   reject-good (suc zero) h f =
-      own-second r g z octets (rowTurn row 1 (r .hot .dev .cardlimit) cause (pendingSeen r 1 .found) (r .hot .a1)) (otherTurn row (r .hot .dev .cardlimit) (r .hot .a0))
-      (rejectT3247 (r .hot .dev .t3247) protected cause draw) (rowDeed row (seatOf (pendingSeen r 1) (r .hot .a1 .net) protected)) (task-if (toRoaming 1 cause row) (r .hot .a1)) (task-if (toRegional 1 cause row) (r .hot .a1)) keep.Nothing false tt
+      own-second r g z octets (r .hot .dev .t3512length) (r .hot .dev .due) (g .fair .t3512length) (g .fair .due) (rowTurn row 1 (r .hot .dev .cardlimit) cause (pendingSeen r 1 .found) (r .hot .a1)) (otherTurn row (r .hot .dev .cardlimit) (r .hot .a0))
+      (rejectT3247 (r .hot .dev .t3247) protected cause draw) Leave (rowDeed row (seatOf (pendingSeen r 1) (r .hot .a1 .net) protected)) (task-if (toRoaming 1 cause row) (r .hot .a1)) (task-if (toRegional 1 cause row) (r .hot .a1)) keep.Nothing false tt
       (put-short (toRoaming 1 cause row) (r .hot .a1) (g .half1 .fit)) (put-short (toRegional 1 cause row) (r .hot .a1) (g .half1 .fit))
       (half-turned (r .hot .dev) (r .hot .a1 .equivalents) (cond (needsEntry row) (grown (pendingSeen r 1 .found) (r .hot .a1 .entries)) (r .hot .a1 .entries))
       (after (rowTurn row 1 (r .hot .dev .cardlimit) cause (pendingSeen r 1 .found) (r .hot .a1))) (r .equivalents1) (tableAfter (rejectPlan 1) 1 (r .hot .a1 .entries) (r .hot) (r .e1))

@@ -17,6 +17,7 @@ use Rattle.record.specs.Tests.{isFlag}
 use Rattle.ranges.specs.Valid.{validOf}
 use Rattle.turns.specs.Words.{Mark, noMark, forbiddenAndCounted, n1NotAllowedAndCounted, markIn}
 use Rattle.turns.specs.Rejects.{rowText, toRoaming, toRegional}
+use Rattle.turns.specs.Timers.{flagAfter}
 use Rattle.turns.specs.Turns.{rowTurn, otherTurn}
 use Rattle.checks.specs.Answers.{rowNow}
 use Rattle.effects.specs.Effects.{ticked, markDeed, rowDeed, rowWork, rejectEffect}
@@ -63,7 +64,7 @@ module _ (r : Record) (protected draw cause : ℕ) (octets : List ℕ) where
 
   -- over access 0, and over access 1
   carried : (w : ℕ) → isFlag w ≡ true → carry r octets (rejectPlan w) .next ≡ rejectRecord r w protected draw cause
-  unfolding joinedOf together carriedOut doneOf withCounts takenPlan hotAfter hotOf ticked rejectEffect rowTurn otherTurn rowWork rowDeed toRoaming toRegional accessOf otherOf seenOf seenBy sightOf seenIn keptAfter gutiAfter equivalentsAfter suciAfter rejectRecord recordAfter tableAfter deedOf deedOn
+  unfolding joinedOf together carriedOut doneOf withCounts takenPlan hotAfter hotOf ticked flagAfter rejectEffect rowTurn otherTurn rowWork rowDeed toRoaming toRegional accessOf otherOf seenOf seenBy sightOf seenIn keptAfter gutiAfter equivalentsAfter suciAfter rejectRecord recordAfter tableAfter deedOf deedOn
   carried zero h = rw (
     entry-marked (markIn (rowText (rowNow (r .hot) 0 protected cause))) (seat protected (r .hot .a0) (r .e0)) (r .hot .a0 .entries) (r .hot .dev .banlimit) (r .hot .dev .n1limit) (r .e0),
     entry-kept (r .hot .a1 .entries) (r .hot .dev .banlimit) (r .hot .dev .n1limit) (r .e1),

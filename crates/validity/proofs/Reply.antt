@@ -14,8 +14,8 @@ use Rattle.record.specs.Tests.{isFlag}
 use Rattle.ranges.specs.Valid.{validOf}
 use Rattle.turns.specs.Timers.{toldOf, clocksOf}
 use Rattle.turns.specs.Words.{Text, says, asT3510Out, Across, untouched, cardCounterToLimit, counterAfter, acrossOf}
-use Rattle.turns.specs.Rejects.{rowText}
-use Rattle.turns.specs.Turns.{failed, turned, rowTurn, otherTurned, otherTurn}
+use Rattle.turns.specs.Rejects.{isUpdating, rowText}
+use Rattle.turns.specs.Turns.{startFailed, updateFailed, failed, turned, rowTurn, otherTurned, otherTurn}
 use Rattle.checks.specs.Answers.{rowNow}
 use Rattle.effects.specs.Effects.{rejectEffect}
 use Rattle.rules.specs.declared.Event.the-variants.{Message}
@@ -30,13 +30,15 @@ use Rattle.validity.proofs.Taken.{message-passed}
 use Rattle.validity.proofs.Own.{no-third, pendingSeen}
 
 turned-orders : (t : Text) (w limit cause : ℕ) (found : Bool) (a : Access) → turned t w limit cause found a .orders ≡ ordersBy t w cause a
-unfolding turned ordersBy failed
+unfolding turned ordersBy failed startFailed updateFailed
 turned-orders (says t) w limit cause found a = refl
-turned-orders (asT3510Out n) w limit cause found a = go (ltb (counterAfter n w cause 5 (a .attempts)) 5) refl
+turned-orders (asT3510Out n) w limit cause found a = go (isUpdating a) refl (ltb (counterAfter n w cause 5 (a .attempts)) 5) refl
   where
-    go : (b : Bool) → ltb (counterAfter n w cause 5 (a .attempts)) 5 ≡ b → turned (asT3510Out n) w limit cause found a .orders ≡ ordersBy (asT3510Out n) w cause a
-    go true q = rw q
-    go false q = rw q
+    go : (u : Bool) → isUpdating a ≡ u → (b : Bool) → ltb (counterAfter n w cause 5 (a .attempts)) 5 ≡ b → turned (asT3510Out n) w limit cause found a .orders ≡ ordersBy (asT3510Out n) w cause a
+    go true p true q = rw (p, q)
+    go true p false q = rw (p, q)
+    go false p true q = rw (p, q)
+    go false p false q = rw (p, q)
 
 across-told : (o : Across) (limit : ℕ) (a b : Access) → clocksOf (otherTurned o limit a .orders) b ≡ allLeft
 unfolding otherTurned clocksOf toldOf
@@ -51,7 +53,7 @@ module _ (r : Record) (protected draw cause : ℕ) (octets : List ℕ) where
   text w = rowText (rowNow (r .hot) w protected cause)
 
   reply-told : (w : ℕ) → isFlag w ≡ true → carry r octets (rejectPlan w) .reply ≡ rejectReply r w protected draw cause
-  unfolding joinedOf together carriedOut doneOf takenPlan takenReply rejectEffect rowTurn otherTurn accessOf otherOf rejectReply
+  unfolding joinedOf together carriedOut doneOf takenPlan takenReply toldOf rejectEffect rowTurn otherTurn accessOf otherOf rejectReply
   reply-told zero h = rw (turned-orders (text 0) 0 (r .hot .dev .cardlimit) cause (pendingSeen r 0 .found) (r .hot .a0), across-told (acrossOf (text 0)) (r .hot .dev .cardlimit) (r .hot .a1) (r .hot .a1))
   reply-told (suc zero) h = rw (turned-orders (text 1) 1 (r .hot .dev .cardlimit) cause (pendingSeen r 1 .found) (r .hot .a1), across-told (acrossOf (text 1)) (r .hot .dev .cardlimit) (r .hot .a0) (r .hot .a0))
   reply-told (suc (suc w)) h = absurd (no-third w h)

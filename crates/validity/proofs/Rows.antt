@@ -4,7 +4,7 @@ use Prim.Native.Nat.{ℕ}
 use mathlib.Core.Path.{_≡_, refl, _∙_}
 use mathlib.Core.Bool.{Bool, true, false}
 use mathlib.Core.List.{List}
-use lib.Dec.{ltb}
+use lib.Dec.{ltb, eqb}
 use Rattle.laws.specs.Bounds.{oneMore}
 use Rattle.areas.specs.Areas.{areaOf}
 use Rattle.messages.specs.declared.Reading.the-variants as reading
@@ -18,8 +18,8 @@ use Rattle.turns.specs.declared.Row.{Row}
 use Rattle.turns.specs.declared.Row.the-variants.{CardBelow, CardLimit, CardProtected, Away, Home, Area, N1, Protocol, Other}
 use Rattle.turns.specs.Timers.{flagAfter, clocked}
 use Rattle.turns.specs.Words.{holds, counterAfter, stateAfter, isRoaming, isRegional, isMark, ordersAfter, listOf, markIn, acrossOf, applied}
-use Rattle.turns.specs.Rejects.{rejectT3247, rowText}
-use Rattle.turns.specs.Turns.{failed, turned, otherTurned}
+use Rattle.turns.specs.Rejects.{isUpdating, rejectT3247, rowText}
+use Rattle.turns.specs.Turns.{startFailed, updateFailed, failed, turned, otherTurned}
 use Rattle.checks.specs.Answers.{rowNow}
 use Rattle.rules.specs.declared.Event.the-variants.{Message}
 use Rattle.events.specs.Step.{stepOf}
@@ -30,12 +30,16 @@ use Rattle.validity.proofs.Reject.{step-reject}
 
 -- T3510 out with the attempt counter at n
 out-figures : (n : ℕ) (found : Bool) (a : Access) → after (failed n a) ≡ withFigures (outFigures n a) false found a
-unfolding failed inState withStatus withAttempts forgotten emptied clocked flagAfter
-out-figures n found a = go (ltb n 5) refl
+unfolding failed isUpdating startFailed updateFailed inState withStatus withAttempts forgotten emptied clocked flagAfter
+out-figures n found a = go (eqb (a .state) 4) refl (ltb 1 (a .regtype)) refl (ltb n 5) refl
   where
-    go : (b : Bool) → ltb n 5 ≡ b → after (failed n a) ≡ withFigures (outFigures n a) false found a
-    go true q = rw q
-    go false q = rw q
+    go : (s : Bool) → eqb (a .state) 4 ≡ s → (t : Bool) → ltb 1 (a .regtype) ≡ t → (b : Bool) → ltb n 5 ≡ b → after (failed n a) ≡ withFigures (outFigures n a) false found a
+    go true p true u true q = rw (p, u, q)
+    go true p true u false q = rw (p, u, q)
+    go true p false u true q = rw (p, u, q)
+    go true p false u false q = rw (p, u, q)
+    go false p t u true q = rw (p, q)
+    go false p t u false q = rw (p, q)
 
 module _ (w protected cause t3247 area : ℕ) (r : Record) where
   row-record : (row : Row) → recordAfter (rowText row) w protected cause t3247 area r ≡ rowRecord row w protected cause t3247 area r

@@ -5,7 +5,7 @@ use mathlib.Core.Bool.{Bool, true, false, cond}
 use lib.Dec.{eqb}
 use Rattle.laws.specs.Bounds.{oneMore}
 use Rattle.record.specs.declared.Access.{Access}
-use Rattle.record.specs.Tests.{both, either, within, upTo, isFlag, isShort}
+use Rattle.record.specs.Tests.{both, either, within, upTo, isFlag, isShort, isClear0}
 use Rattle.record.specs.Network.{isNetwork, half, isDigit}
 use Rattle.turns.specs.declared.Order.{Order}
 use Rattle.turns.specs.declared.Order.the-variants.{Leave, Stop, Run}
@@ -73,10 +73,11 @@ module _ (limit : ℕ) (a : Access) (g : Fit limit a) where
   fit-counted n p =
       record { mode = g .mode; flags = g .flags; t3502length = g .t3502length; pending = g .pending; known = g .known; cardcounter = p; equivalents = g .equivalents; entries = g .entries }
 
-  pub fit-pending : (net code : ℕ) → isNetwork net ≡ true → isShort code ≡ true → Fit limit (pending net code a)
+  pub fit-pending : (regtype net code uplink sessions : ℕ) → isNetwork net ≡ true → isShort code ≡ true → within 1 3 regtype ≡ true → isClear0 uplink ≡ true → isClear0 sessions ≡ true
+      → Fit limit (pending regtype net code uplink sessions a)
   unfolding pending
-  fit-pending net code p q =
-      record { mode = g .mode; flags = g .flags; t3502length = g .t3502length; pending = (p, q); known = g .known; cardcounter = g .cardcounter; equivalents = g .equivalents; entries = g .entries }
+  fit-pending regtype net code uplink sessions p q x y z =
+      record { mode = g .mode; flags = g .flags; t3502length = g .t3502length; pending = (p, q, x, y, z); known = g .known; cardcounter = g .cardcounter; equivalents = g .equivalents; entries = g .entries }
 
   pub fit-keyed : (set : ℕ) → upTo 7 set ≡ true → Fit limit (keyed set a)
   unfolding keyed

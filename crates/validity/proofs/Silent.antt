@@ -45,12 +45,12 @@ ignoring-two Short = refl
 
 refused-silent : (n : Answer) (w : ℕ) → Silent w (refusedReply n w)
 unfolding refusedReply
-refused-silent n w = record { c0 = refl; c1 = refl; t3247 = refl; restart = refl; leave = rw (ignoring-two n); update = rw (ignoring-two n) }
+refused-silent n w = record { c0 = refl; c1 = refl; t3247 = refl; t3512 = refl; restart = refl; leave = rw (ignoring-two n); update = rw (ignoring-two n) }
 
 -- a record that fails the test is answer 1, whatever the event's access
 untested-silent : (w : ℕ) → Silent w (refusedReply Range 0)
 unfolding refusedReply isIgnoring numberOf
-untested-silent w = record { c0 = refl; c1 = refl; t3247 = refl; restart = refl; leave = refl; update = refl }
+untested-silent w = record { c0 = refl; c1 = refl; t3247 = refl; t3512 = refl; restart = refl; leave = refl; update = refl }
 
 -- of any event on any record
 pub refusal-tells-nothing : (r : Record) (e : Event) (octets : List ℕ) → isTaken (stepOf r e octets .reply .answer) ≡ false → Silent (accessIn e) (stepOf r e octets .reply)

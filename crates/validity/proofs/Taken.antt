@@ -11,12 +11,12 @@ use Rattle.record.specs.declared.Hot.{Hot}
 use Rattle.record.specs.declared.Answer.{Answer}
 use Rattle.record.specs.declared.Answer.the-variants as answer
 use Rattle.record.specs.Answers.{isTaken}
-use Rattle.record.specs.Tests.{both, either, flip, within, isFlag, isShort}
+use Rattle.record.specs.Tests.{both, either, flip, within, isFlag, isShort, isClear0}
 use Rattle.record.specs.Network.{isNetwork}
 use Rattle.turns.specs.Timers.{isDeviceTimer}
 use Rattle.turns.specs.Rejects.{isIgnored, needsEntry}
 use Rattle.record.specs.Sides.{accessOf, otherOf}
-use Rattle.checks.specs.Answers.{check, mayStart, startRange, placeAnswer, startAnswer, rowNow, isFull, rejectAnswer, readAnswer, messageRange, messageAnswer, timerRange, runs, timerAnswer, keyAnswer, cardAnswer}
+use Rattle.checks.specs.Answers.{check, mayStart, startRange, placeAnswer, startAnswer, updateRange, mayUpdate, updateAnswer, rowNow, isFull, rejectAnswer, readAnswer, messageRange, messageAnswer, timerRange, runs, timerAnswer, keyAnswer, cardAnswer}
 use Rattle.record.proofs.Bounds.{one, rest}
 use Rattle.validity.proofs.Bools.{flip-true, check-passed, check-rest}
 
@@ -41,6 +41,34 @@ start-passed h w manual net code s listed q = (
 
     place : both (isNetwork net) (isShort code) ≡ true
     place = rest (isFlag manual) (both (isNetwork net) (isShort code)) (rest (isFlag w) (both (isFlag manual) (both (isNetwork net) (isShort code))) range)
+
+pub update-passed : (h : Hot) (w regtype net code uplink sessions : ℕ) (s : Seen) (listed : Bool) → isTaken (updateAnswer h w regtype net code uplink sessions s listed) ≡ true
+    → (isFlag w ≡ true) × (within 2 3 regtype ≡ true) × (isNetwork net ≡ true) × (isShort code ≡ true) × (isClear0 uplink ≡ true) × (isClear0 sessions ≡ true) × (eqb (accessOf h w .state) 5 ≡ true)
+unfolding updateAnswer updateRange mayUpdate isTaken
+update-passed h w regtype net code uplink sessions s listed q = (
+  one (isFlag w) (both (within 2 3 regtype) place) range,
+  one (within 2 3 regtype) place (rest (isFlag w) (both (within 2 3 regtype) place) range),
+  one (isNetwork net) (both (isShort code) clear) there,
+  one (isShort code) clear (rest (isNetwork net) (both (isShort code) clear) there),
+  one (isClear0 uplink) (isClear0 sessions) (rest (isShort code) clear (rest (isNetwork net) (both (isShort code) clear) there)),
+  rest (isClear0 uplink) (isClear0 sessions) (rest (isShort code) clear (rest (isNetwork net) (both (isShort code) clear) there)),
+  one (eqb (accessOf h w .state) 5) (either (eqb regtype 2) (both (eqb w 0) (eqb (h .dev .due) 1))) (check-passed (mayUpdate h w regtype) answer.State (placeAnswer (otherOf h w) 0 net s listed) refl (check-rest (updateRange w regtype net code uplink sessions) answer.Range second refl q)),
+)
+  where
+    clear : Bool
+    clear = both (isClear0 uplink) (isClear0 sessions)
+
+    place : Bool
+    place = both (isNetwork net) (both (isShort code) clear)
+
+    second : Answer
+    second = check (mayUpdate h w regtype) answer.State (placeAnswer (otherOf h w) 0 net s listed)
+
+    range : both (isFlag w) (both (within 2 3 regtype) place) ≡ true
+    range = check-passed (updateRange w regtype net code uplink sessions) answer.Range second refl q
+
+    there : place ≡ true
+    there = rest (within 2 3 regtype) place (rest (isFlag w) (both (within 2 3 regtype) place) range)
 
 pub message-passed : (h : Hot) (w protected draw : ℕ) (m : Reading) (s : Seen) → isTaken (messageAnswer h w protected draw m s) ≡ true
     → (isFlag w ≡ true) × (eqb (accessOf h w .state) 4 ≡ true) × (isTaken (readAnswer h w protected m s) ≡ true)
@@ -82,7 +110,7 @@ timer-passed h number w q = (
     second = check (flip (eqb (runs h number w) 0)) answer.Idle answer.Taken
 
     range : both (isFlag w) (either (flip (isDeviceTimer number)) (eqb w 0)) ≡ true
-    range = rest (within 1 4 number) (both (isFlag w) (either (flip (isDeviceTimer number)) (eqb w 0))) (check-passed (timerRange number w) answer.Range second refl q)
+    range = rest (within 1 5 number) (both (isFlag w) (either (flip (isDeviceTimer number)) (eqb w 0))) (check-passed (timerRange number w) answer.Range second refl q)
 
 pub key-passed : (h : Hot) (w set : ℕ) → isTaken (keyAnswer h w set) ≡ true → (isFlag w ≡ true) × (leb set 6 ≡ true)
 unfolding keyAnswer isTaken

@@ -24,12 +24,12 @@ use Rattle.turns.specs.declared.Order.the-variants.{Leave, Stop, Run}
 use Rattle.turns.specs.declared.Turn.{Turn}
 use Rattle.turns.specs.Timers.{isDeviceTimer, flagAfter, clocked, toldOf, clocksOf}
 use Rattle.turns.specs.Words.{Text, says, asT3510Out, Across, untouched, cardCounterToLimit, counterAfter, acrossOf, applied}
-use Rattle.turns.specs.Rejects.{rowText}
-use Rattle.turns.specs.Turns.{still, started, keySet, accepted, failed, t3510Out, t3511Out, t3502Out, cycled, renewed, turned, rowTurn, otherTurned, otherTurn}
+use Rattle.turns.specs.Rejects.{isUpdating, rowText}
+use Rattle.turns.specs.Turns.{still, started, updated, keySet, accepted, startFailed, updateFailed, failed, t3510Out, t3511Out, t3502Out, cycled, renewed, turned, rowTurn, otherTurned, otherTurn}
 use Rattle.checks.specs.Answers.{rowNow}
-use Rattle.effects.specs.Effects.{Effect, ticked, cardEffect, startEffect, keyEffect, acceptEffect, clockEffect, t3247Effect, timerEffect, powerEffect, rejectEffect}
+use Rattle.effects.specs.Effects.{Effect, ticked, cardEffect, startEffect, updateEffect, keyEffect, acceptEffect, clockEffect, t3247Effect, t3512Effect, deviceEffect, timerEffect, powerEffect, rejectEffect}
 use Rattle.rules.specs.declared.Event.{Event}
-use Rattle.rules.specs.declared.Event.the-variants.{Card, Start, Message, Timer, Power, Key, Unknown}
+use Rattle.rules.specs.declared.Event.the-variants.{Card, Start, Message, Timer, Power, Key, Update, Unknown}
 use Rattle.rules.specs.Plan.{accessIn, messageEffect, effectOf, hotAfter, takenReply, refusedReply, takenPlan}
 use Rattle.events.specs.Parts.{withCounts, doneOf, carriedOut}
 use Rattle.events.specs.Step.{together, joinedOf, stepOf}
@@ -63,12 +63,14 @@ sound t a o = record {
 }
 
 failed-owns : (n : ℕ) (a : Access) → Owns (failed n a) a
-unfolding failed inState withStatus withAttempts forgotten emptied
-failed-owns n a = go (ltb n 5) refl
+unfolding failed startFailed updateFailed inState withStatus withAttempts forgotten emptied
+failed-owns n a = go (isUpdating a) refl (ltb n 5) refl
   where
-    go : (b : Bool) → ltb n 5 ≡ b → Owns (failed n a) a
-    go true q = rw q (record { t3510 = refl; t3511 = refl; t3502 = refl })
-    go false q = rw q (record { t3510 = refl; t3511 = refl; t3502 = refl })
+    go : (u : Bool) → isUpdating a ≡ u → (b : Bool) → ltb n 5 ≡ b → Owns (failed n a) a
+    go true p true q = rw (p, q) (record { t3510 = refl; t3511 = refl; t3502 = refl })
+    go true p false q = rw (p, q) (record { t3510 = refl; t3511 = refl; t3502 = refl })
+    go false p true q = rw (p, q) (record { t3510 = refl; t3511 = refl; t3502 = refl })
+    go false p false q = rw (p, q) (record { t3510 = refl; t3511 = refl; t3502 = refl })
 
 text-owns : (t : Text) (w limit cause : ℕ) (found : Bool) (a : Access) → Owns (turned t w limit cause found a) a
 unfolding turned applied
@@ -98,11 +100,17 @@ clock-owned h number b = go (eqb number 1) refl (eqb number 2) refl
     go false q false q′ = rw (q, q′) (record { mine = record { t3510 = refl; t3511 = refl; t3502 = refl }; theirs = still-owns (otherOf h b) })
 
 timer-owned : (h : Hot) (number b : ℕ) → Owned h b (timerEffect h number b)
-unfolding timerEffect t3247Effect
+unfolding timerEffect deviceEffect t3247Effect t3512Effect
 timer-owned h number b = go (isDeviceTimer number) refl
   where
+    device : Owned h b (deviceEffect h number b)
+    device = elim (eqb number 4) as (λ x. Owned h b (cond x (t3247Effect h b) (t3512Effect h b))) [
+      | true ↦ record { mine = still-owns (accessOf h b); theirs = still-owns (otherOf h b) }
+      | false ↦ record { mine = still-owns (accessOf h b); theirs = still-owns (otherOf h b) }
+    ]
+
     go : (s : Bool) → isDeviceTimer number ≡ s → Owned h b (timerEffect h number b)
-    go true q = rw q (record { mine = still-owns (accessOf h b); theirs = still-owns (otherOf h b) })
+    go true q = rw q device
     go false q = rw q (clock-owned h number b)
 
 message-owned : (h : Hot) (b protected draw : ℕ) (m : Reading) (s : Seen) → Owned h b (messageEffect h b protected draw m s)
@@ -116,13 +124,14 @@ message-owned h b protected draw (reading.Bad f at) s = record { mine = still-ow
 
 -- a card change and a power cycle stop every timer
 event-owned : (h : Hot) (e : Event) (s : Seen) (octets : List ℕ) → Owned h (accessIn e) (effectOf h e s octets)
-unfolding accessIn effectOf cardEffect renewed startEffect started pending inState keyEffect keySet keyed powerEffect cycled flagAfter
+unfolding accessIn effectOf cardEffect renewed startEffect started updateEffect updated pending inState keyEffect keySet keyed powerEffect cycled flagAfter
 event-owned h (Card home) s octets = record { mine = record { t3510 = refl; t3511 = refl; t3502 = refl }; theirs = record { t3510 = refl; t3511 = refl; t3502 = refl } }
 event-owned h (Start b manual net code) s octets = record { mine = record { t3510 = refl; t3511 = refl; t3502 = refl }; theirs = still-owns (otherOf h b) }
 event-owned h (Message b protected draw) s octets = message-owned h b protected draw (readingOf octets) s
 event-owned h (Timer number b) s octets = timer-owned h number b
 event-owned h Power s octets = record { mine = record { t3510 = refl; t3511 = refl; t3502 = refl }; theirs = record { t3510 = refl; t3511 = refl; t3502 = refl } }
 event-owned h (Key b set) s octets = record { mine = record { t3510 = refl; t3511 = refl; t3502 = refl }; theirs = still-owns (otherOf h b) }
+event-owned h (Update b regtype net code uplink sessions) s octets = record { mine = record { t3510 = refl; t3511 = refl; t3502 = refl }; theirs = still-owns (otherOf h b) }
 event-owned h Unknown s octets = record { mine = still-owns (accessOf h 0); theirs = still-owns (otherOf h 0) }
 
 module _ (r : Record) (octets : List ℕ) where
@@ -134,16 +143,18 @@ module _ (r : Record) (octets : List ℕ) where
     a0 = sound (x .mine) (r .hot .a0) (rw q at (f .mine));
     a1 = sound (x .theirs) (r .hot .a1) (rw q at (f .theirs));
     t3247 = told-so (x .t3247) (r .hot .dev .t3247);
+    t3512 = told-so (x .t3512) (r .hot .dev .t3512);
   })
   plan-told w x f false q = rw q (record {
     a0 = sound (x .theirs) (r .hot .a0) (rw q at (f .theirs));
     a1 = sound (x .mine) (r .hot .a1) (rw q at (f .mine));
     t3247 = told-so (x .t3247) (r .hot .dev .t3247);
+    t3512 = told-so (x .t3512) (r .hot .dev .t3512);
   })
 
   refused-told : (n : Answer) (w : ℕ) → TellsTrue (refusedReply n w) r r
   unfolding refusedReply
-  refused-told n w = record { a0 = record { t3510 = refl; t3511 = refl; t3502 = refl }; a1 = record { t3510 = refl; t3511 = refl; t3502 = refl }; t3247 = refl }
+  refused-told n w = record { a0 = record { t3510 = refl; t3511 = refl; t3502 = refl }; a1 = record { t3510 = refl; t3511 = refl; t3502 = refl }; t3247 = refl; t3512 = refl }
 
   -- of any event, taken or refused, on any record
   pub timers-told : (e : Event) → TellsTrue (stepOf r e octets .reply) r (stepOf r e octets .next)

@@ -9,7 +9,7 @@ use mathlib.Core.Logic.{_≢_}
 use borrow.Author.Tests.{leb-true, le-leb, eqb-true, eqb-false}
 use Rattle.laws.specs.Bounds.{oneMore}
 use Rattle.record.specs.declared.Access.{Access}
-use Rattle.record.specs.Tests.{both, either, within, upTo, isFlag, isShort}
+use Rattle.record.specs.Tests.{both, either, within, upTo, isFlag, isShort, isClear0}
 use Rattle.record.specs.Network.{isNetwork}
 use Rattle.record.specs.New.{newAccess}
 use Rattle.turns.specs.declared.Order.the-variants.{Stop}
@@ -18,9 +18,9 @@ use Rattle.turns.specs.declared.Row.{Row}
 use Rattle.turns.specs.declared.Row.the-variants.{CardBelow, CardLimit, CardProtected, Away, Home, Area, N1, Protocol, Other}
 use Rattle.turns.specs.Timers.{flagAfter, quiet, starting, answered, retrying, resting, t3511Stops, t3502Stops, halted, clocked}
 use Rattle.turns.specs.Words.{Text, says, asT3510Out, Words, Counter, kept, upByOne, toLimit, zeroed, Across, untouched, cardCounterToLimit, Timing, stopT3510, holds, counterAfter, stateAfter, ordersAfter, isMark, markIn, acrossOf, applied}
-use Rattle.turns.specs.Rejects.{rowText, needsEntry}
+use Rattle.turns.specs.Rejects.{isUpdating, rowText, needsEntry}
 use Rattle.record.specs.Setters.{inState, withStatus, withAttempts, forgotten, emptied, counted, pending, keyed, taught}
-use Rattle.turns.specs.Turns.{turnOf, still, started, keySet, accepted, failed, t3510Out, t3511Out, t3502Out, cycled, renewed, turned, rowTurn, otherTurned, otherTurn}
+use Rattle.turns.specs.Turns.{turnOf, still, started, updated, keySet, accepted, startFailed, updateFailed, failed, t3510Out, t3511Out, t3502Out, cycled, renewed, turned, rowTurn, otherTurned, otherTurn}
 use Rattle.validity.proofs.Bools.{either-first, more-fits}
 use Rattle.validity.proofs.Good.{Fit, Timely, Carded}
 use Rattle.validity.proofs.Setters.{grown, grown-fits, fit-state, fit-status, fit-attempts, fit-forgotten, fit-emptied, fit-counted, fit-pending, fit-keyed, fit-taught, fit-clocked}
@@ -139,7 +139,18 @@ module _ (card limit : ℕ) (a : Access) (g : Fit limit a) where
     pub started-turned : (net code : ℕ) → isNetwork net ≡ true → isShort code ≡ true → Turned card limit (a .equivalents) (a .entries) (after (started net code a))
     unfolding started clocked flagAfter pending inState
     started-turned net code p q = record {
-      fit = fit-clocked limit (pending net code (inState 4 a)) (fit-pending limit (inState 4 a) (fit-state limit a g 4 refl) net code p q) starting;
+      fit = fit-clocked limit (pending 1 net code 0 0 (inState 4 a)) (fit-pending limit (inState 4 a) (fit-state limit a g 4 refl) 1 net code 0 0 p q refl refl refl) starting;
+      timely = refl;
+      carded = either-first (eqb card 1) false h;
+      equivalents = omega arith;
+      entries = refl;
+    }
+
+    pub updated-turned : (regtype net code uplink sessions : ℕ) → isNetwork net ≡ true → isShort code ≡ true → within 1 3 regtype ≡ true → isClear0 uplink ≡ true → isClear0 sessions ≡ true
+        → Turned card limit (a .equivalents) (a .entries) (after (updated regtype net code uplink sessions a))
+    unfolding updated clocked flagAfter pending inState
+    updated-turned regtype net code uplink sessions p q x y z = record {
+      fit = fit-clocked limit (pending regtype net code uplink sessions (inState 4 a)) (fit-pending limit (inState 4 a) (fit-state limit a g 4 refl) regtype net code uplink sessions p q x y z) starting;
       timely = refl;
       carded = either-first (eqb card 1) false h;
       equivalents = omega arith;
@@ -159,9 +170,9 @@ module _ (card limit : ℕ) (a : Access) (g : Fit limit a) where
       entries = refl;
     }
 
-    failed-turned : (n : ℕ) → upTo 5 n ≡ true → Turned card limit (a .equivalents) (a .entries) (after (failed n a))
-    unfolding failed clocked flagAfter emptied forgotten withStatus inState withAttempts
-    failed-turned n p = elim (ltb n 5) as (λ b. Turned card limit (a .equivalents) (a .entries) (after (cond b below at))) [
+    start-failed-turned : (n : ℕ) → upTo 5 n ≡ true → Turned card limit (a .equivalents) (a .entries) (after (startFailed n a))
+    unfolding startFailed clocked flagAfter emptied forgotten withStatus inState withAttempts
+    start-failed-turned n p = elim (ltb n 5) as (λ b. Turned card limit (a .equivalents) (a .entries) (after (cond b below at))) [
       | true ↦ record {
         fit = fit-clocked limit begun fits retrying;
         timely = refl;
@@ -191,6 +202,38 @@ module _ (card limit : ℕ) (a : Access) (g : Fit limit a) where
 
         at : Turn
         at = turnOf (withStatus 2 (emptied (forgotten begun))) (resting (a .t3502length))
+
+    update-failed-turned : (n : ℕ) → upTo 5 n ≡ true → Turned card limit (a .equivalents) (a .entries) (after (updateFailed n a))
+    unfolding updateFailed clocked flagAfter emptied withStatus inState withAttempts
+    update-failed-turned n p = elim (ltb n 5) as (λ b. Turned card limit (a .equivalents) (a .entries) (after (cond b (turnOf begun retrying) (turnOf (emptied begun) (resting (a .t3502length)))))) [
+      | true ↦ record {
+        fit = fit-clocked limit begun fits retrying;
+        timely = refl;
+        carded = either-first (eqb card 1) false h;
+        equivalents = omega arith;
+        entries = refl;
+      }
+      | false ↦ record {
+        fit = fit-clocked limit (emptied begun) (fit-emptied limit begun fits) (resting (a .t3502length));
+        timely = refl;
+        carded = either-first (eqb card 1) false h;
+        equivalents = omega arith;
+        entries = refl;
+      }
+    ]
+      where
+        begun : Access
+        begun = inState 5 (withStatus 2 (withAttempts n a))
+
+        fits : Fit limit begun
+        fits = fit-state limit (withStatus 2 (withAttempts n a)) (fit-status limit (withAttempts n a) (fit-attempts limit a g n p) 2 refl) 5 refl
+
+    failed-turned : (n : ℕ) → upTo 5 n ≡ true → Turned card limit (a .equivalents) (a .entries) (after (failed n a))
+    unfolding failed
+    failed-turned n p = elim (isUpdating a) as (λ b. Turned card limit (a .equivalents) (a .entries) (after (cond b (updateFailed n a) (startFailed n a)))) [
+      | true ↦ update-failed-turned n p
+      | false ↦ start-failed-turned n p
+    ]
 
     pub t3510-turned : Turned card limit (a .equivalents) (a .entries) (after (t3510Out a))
     unfolding t3510Out
@@ -240,7 +283,7 @@ new-fits limit state p = record {
   mode = (p, refl, refl);
   flags = (refl, refl, refl);
   t3502length = refl;
-  pending = (refl, refl);
+  pending = (refl, refl, refl, refl, refl);
   known = (refl, refl, refl, refl);
   cardcounter = le-leb 0 limit (omega arith);
   equivalents = refl;

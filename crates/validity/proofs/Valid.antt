@@ -9,9 +9,9 @@ use Rattle.entries.specs.declared.Entries.{Entries}
 use Rattle.record.specs.declared.Device.{Device}
 use Rattle.record.specs.declared.Access.{Access}
 use Rattle.record.specs.declared.Record.{Record}
-use Rattle.record.specs.Tests.{both, either, within, upTo, isFlag, isShort}
+use Rattle.record.specs.Tests.{both, either, within, upTo, isFlag, isShort, isClear0}
 use Rattle.record.specs.Network.{isNetwork}
-use Rattle.ranges.specs.Valid.{deviceRanges, modeRanges, identityRanges, heldRanges, accessRanges, isItem, rangesOf, countersOf, cardOf, suciOf, codesOf, clockOf, itself, halved, onceOf, validOf}
+use Rattle.ranges.specs.Valid.{deviceRanges, periodicRanges, deviceNumbers, modeRanges, pendingRanges, identityRanges, heldRanges, accessRanges, isItem, rangesOf, countersOf, cardOf, suciOf, codesOf, clockOf, itself, halved, onceOf, validOf}
 use Rattle.record.proofs.Bounds.{one, rest}
 use Rattle.validity.proofs.Bools.{both-true}
 use Rattle.validity.proofs.Arrays.{all-of, of-all, once-of, of-once}
@@ -47,6 +47,9 @@ deviceTests d =
     ∷ upTo 40 (d .regional)
     ∷ []
 
+abbrev periodicTests : Device → List Bool
+periodicTests d = upTo 35712000 (d .t3512length) ∷ isFlag (d .due) ∷ []
+
 device-holds : (d : Device) → deviceRanges d ≡ true → Each (isFlag (d .card)) (deviceTests d)
 unfolding deviceRanges
 device-holds d e = holds (isFlag (d .card)) (deviceTests d) e
@@ -57,6 +60,9 @@ device-joined d e = joined (isFlag (d .card)) (deviceTests d) e
 
 abbrev modeTests : Access → List Bool
 modeTests a = within 1 3 (a .status) ∷ upTo 5 (a .attempts) ∷ isFlag (a .t3510) ∷ isFlag (a .t3511) ∷ isFlag (a .t3502) ∷ upTo 11160 (a .t3502length) ∷ []
+
+abbrev pendingTests : Access → List Bool
+pendingTests a = isClear0 (a .uplink) ∷ isClear0 (a .sessions) ∷ []
 
 abbrev identityTests : Access → List Bool
 identityTests a =
@@ -78,19 +84,20 @@ counterTests d a t = allTo (upTo (d .banlimit)) (a .entries) (t .bans) ∷ allTo
 access-good : (d : Device) (a : Access) (equivalents : List ℕ) (t : Entries)
     → accessRanges a equivalents t ≡ true → countersOf d a t ≡ true → Carded (d .card) a → isNetwork (a .net) ≡ true → allTo isNetwork (a .entries) (t .nets) ≡ true
     → clockOf a ≡ true → distinctTo itself (a .entries) (t .nets) ≡ true → Half d a equivalents t
-unfolding accessRanges modeRanges identityRanges heldRanges countersOf clockOf
+unfolding accessRanges modeRanges pendingRanges identityRanges heldRanges countersOf clockOf
 access-good d a equivalents t ranges counters carded net nets clock once =
-    let three = holds (modeRanges a) (identityRanges a ∷ heldRanges a equivalents t ∷ []) ranges in
-    let m = holds (upTo 6 (a .state)) (modeTests a) (three .0) in
-    let i = holds (isShort (a .code)) (identityTests a) (three .1 .0) in
-    let h = holds (allTo isShort (a .equivalents) equivalents) (heldTests a t) (three .1 .1) in
+    let four = holds (modeRanges a) (pendingRanges a ∷ identityRanges a ∷ heldRanges a equivalents t ∷ []) ranges in
+    let m = holds (upTo 6 (a .state)) (modeTests a) (four .0) in
+    let p = holds (within 1 3 (a .regtype)) (pendingTests a) (four .1 .0) in
+    let i = holds (isShort (a .code)) (identityTests a) (four .1 .1 .0) in
+    let h = holds (allTo isShort (a .equivalents) equivalents) (heldTests a t) (four .1 .1 .1) in
     let c = holds (upTo (d .cardlimit) (a .cardcounter)) (counterTests d a t) counters in
     record {
       fit = record {
         mode = (m .0, m .1 .0, m .1 .1 .0);
         flags = (m .1 .1 .1 .0, m .1 .1 .1 .1 .0, m .1 .1 .1 .1 .1 .0);
         t3502length = m .1 .1 .1 .1 .1 .1;
-        pending = (net, i .0);
+        pending = (net, i .0, p .0, p .1 .0, p .1 .1);
         known = (i .1 .0, i .1 .1 .0, i .1 .1 .1 .0, i .1 .1 .1 .1 .0);
         cardcounter = c .0;
         equivalents = i .1 .1 .1 .1 .1 .0;
@@ -110,13 +117,14 @@ access-good d a equivalents t ranges counters carded net nets clock once =
     }
 
 access-ranges : (d : Device) (a : Access) (equivalents : List ℕ) (t : Entries) → Half d a equivalents t → accessRanges a equivalents t ≡ true
-unfolding accessRanges modeRanges identityRanges heldRanges
+unfolding accessRanges modeRanges pendingRanges identityRanges heldRanges
 access-ranges d a equivalents t g =
     let m : Each (upTo 6 (a .state)) (modeTests a) = (g .fit .mode .0, (g .fit .mode .1, (g .fit .mode .2, (g .fit .flags .0, (g .fit .flags .1, (g .fit .flags .2, g .fit .t3502length)))))) in
+    let p : Each (within 1 3 (a .regtype)) (pendingTests a) = (g .fit .pending .2, (g .fit .pending .3, g .fit .pending .4)) in
     let i : Each (isShort (a .code)) (identityTests a) = (g .fit .pending .1, (g .fit .known .0, (g .fit .known .1, (g .fit .known .2, (g .fit .known .3, (g .fit .equivalents, g .fit .entries)))))) in
     let h : Each (allTo isShort (a .equivalents) equivalents) (heldTests a t) = (of-all isShort (a .equivalents) equivalents (g .equals), (of-all isFlag (a .entries) (t .forbidden) (g .held .forbidden), of-all isFlag (a .entries) (t .barred) (g .held .barred))) in
-    joined (modeRanges a) (identityRanges a ∷ heldRanges a equivalents t ∷ [])
-    (joined (upTo 6 (a .state)) (modeTests a) m, (joined (isShort (a .code)) (identityTests a) i, joined (allTo isShort (a .equivalents) equivalents) (heldTests a t) h))
+    joined (modeRanges a) (pendingRanges a ∷ identityRanges a ∷ heldRanges a equivalents t ∷ [])
+    (joined (upTo 6 (a .state)) (modeTests a) m, (joined (within 1 3 (a .regtype)) (pendingTests a) p, (joined (isShort (a .code)) (identityTests a) i, joined (allTo isShort (a .equivalents) equivalents) (heldTests a t) h)))
 
 access-counters : (d : Device) (a : Access) (equivalents : List ℕ) (t : Entries) → Half d a equivalents t → countersOf d a t ≡ true
 unfolding countersOf
@@ -171,11 +179,12 @@ module _ (r : Record) where
       ∷ []
 
   pub valid-good : validOf r ≡ true → Good r
-  unfolding validOf rangesOf cardOf codesOf onceOf
+  unfolding validOf rangesOf deviceNumbers periodicRanges cardOf codesOf onceOf
   valid-good e =
       let v = holds (rangesOf r) validTests e in
-      let g = holds (deviceRanges (r .hot .dev)) rangeTests (v .0) in
-      let d = device-holds (r .hot .dev) (g .0) in
+      let g = holds (deviceNumbers (r .hot .dev)) rangeTests (v .0) in
+      let d = device-holds (r .hot .dev) (one (deviceRanges (r .hot .dev)) (periodicRanges (r .hot .dev)) (g .0)) in
+      let p = holds (isFlag (r .hot .dev .t3512)) (periodicTests (r .hot .dev)) (rest (deviceRanges (r .hot .dev)) (periodicRanges (r .hot .dev)) (g .0)) in
       let c = holds (isNetwork (r .hot .dev .home)) codeTests (v .1 .1 .1 .1 .0) in
       let o = holds (distinctTo itself (r .hot .a0 .entries) (r .e0 .nets)) onceTests (v .1 .1 .1 .1 .1 .1) in
       let n = holds (countersOf (r .hot .dev) (r .hot .a0) (r .e0)) (countersOf (r .hot .dev) (r .hot .a1) (r .e1) ∷ []) (v .1 .0) in
@@ -191,6 +200,9 @@ module _ (r : Record) where
           capability = d .1 .1 .1 .1 .1 .0;
           security = d .1 .1 .1 .1 .1 .1 .0;
           t3247 = d .1 .1 .1 .1 .1 .1 .1 .0;
+          t3512 = p .0;
+          t3512length = p .1 .0;
+          due = p .1 .1;
           home = c .0;
         };
         half0 = access-good (r .hot .dev) (r .hot .a0) (r .equivalents0) (r .e0) (g .1 .0) (n .0) (s .0) (c .1 .0) (c .1 .1 .1 .0) (k .0) (o .0);
@@ -201,10 +213,12 @@ module _ (r : Record) where
       }
 
   good-ranges : Good r → rangesOf r ≡ true
-  unfolding rangesOf
+  unfolding rangesOf deviceNumbers periodicRanges
   good-ranges g =
-      joined (deviceRanges (r .hot .dev)) rangeTests (
-        device-joined (r .hot .dev) (g .fair .card, (g .fair .suci, (g .fair .cardlimit, (g .fair .banlimit, (g .fair .n1limit, (g .fair .capability, (g .fair .security, (g .fair .t3247, (g .roaming .count, g .regional .count))))))))),
+      joined (deviceNumbers (r .hot .dev)) rangeTests (
+        both-true (deviceRanges (r .hot .dev)) (periodicRanges (r .hot .dev))
+            (device-joined (r .hot .dev) (g .fair .card, (g .fair .suci, (g .fair .cardlimit, (g .fair .banlimit, (g .fair .n1limit, (g .fair .capability, (g .fair .security, (g .fair .t3247, (g .roaming .count, g .regional .count))))))))))
+            (joined (isFlag (r .hot .dev .t3512)) (periodicTests (r .hot .dev)) (g .fair .t3512, (g .fair .t3512length, g .fair .due))),
         (
           access-ranges (r .hot .dev) (r .hot .a0) (r .equivalents0) (r .e0) (g .half0),
           (

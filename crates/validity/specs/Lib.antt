@@ -8,3 +8,4 @@ pub mod Rows
 pub mod Causes
 pub mod Reply
 pub mod Power
+pub mod Update

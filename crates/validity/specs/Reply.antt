@@ -37,6 +37,7 @@ rejectReply r w protected draw cause = record {
   c0 = toldOn (rowText (rowNow (r .hot) w protected cause)) w 0 cause (r .hot .a0);
   c1 = toldOn (rowText (rowNow (r .hot) w protected cause)) w 1 cause (r .hot .a1);
   t3247 = toldOf (rejectT3247 (r .hot .dev .t3247) protected cause draw) (r .hot .dev .t3247);
+  t3512 = Left;
   restart = No;
   leave = No;
   update = No;
@@ -50,6 +51,7 @@ pub record Silent (w : ℕ) (p : Reply) : Type 0 where
   pub c0 : p .c0 ≡ allLeft
   pub c1 : p .c1 ≡ allLeft
   pub t3247 : p .t3247 ≡ Left
+  pub t3512 : p .t3512 ≡ Left
   pub restart : p .restart ≡ No
   pub leave : p .leave ≡ onTwo p w
   pub update : p .update ≡ onTwo p (cond (eqb w 0) 1 0)
@@ -66,8 +68,9 @@ pub record TellsAll (c : Clocks) (before after : Access) : Type 0 where
   pub t3511 : Tells (c .t3511) (before .t3511) (after .t3511)
   pub t3502 : Tells (c .t3502) (before .t3502) (after .t3502)
 
--- all seven
+-- all eight
 pub record TellsTrue (p : Reply) (before after : Record) : Type 0 where
   pub a0 : TellsAll (p .c0) (before .hot .a0) (after .hot .a0)
   pub a1 : TellsAll (p .c1) (before .hot .a1) (after .hot .a1)
   pub t3247 : Tells (p .t3247) (before .hot .dev .t3247) (after .hot .dev .t3247)
+  pub t3512 : Tells (p .t3512) (before .hot .dev .t3512) (after .hot .dev .t3512)

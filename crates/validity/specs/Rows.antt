@@ -47,11 +47,19 @@ figures state status attempts guti visited ksi equivalents cardcounter t3511 t35
 abbrev below5 : ℕ → ℕ → ℕ → ℕ
 below5 n x y = cond (ltb n 5) x y
 
--- T3510 out
-abbrev pub outFigures : ℕ → Access → Figures
-outFigures n a =
+-- T3510 out of an initial registration
+abbrev startFigures : ℕ → Access → Figures
+startFigures n a =
     figures 3 (below5 n (a .status) 2) n (below5 n (a .guti) 0) (below5 n (a .visited) 0) (below5 n (a .ksi) 7) (below5 n (a .equivalents) 0) (a .cardcounter)
     (below5 n 1 (a .t3511)) (below5 n (a .t3502) 1)
+
+-- T3510 out in an update: 5U2, back to state 5, the identity stays
+abbrev updateFigures : ℕ → Access → Figures
+updateFigures n a = figures 5 2 n (a .guti) (a .visited) (a .ksi) (below5 n (a .equivalents) 0) (a .cardcounter) (below5 n 1 (a .t3511)) (below5 n (a .t3502) 1)
+
+-- in state 4 with type 2 or 3 an update is pending
+abbrev pub outFigures : ℕ → Access → Figures
+outFigures n a = cond (eqb (a .state) 4) (cond (ltb 1 (a .regtype)) (updateFigures n a) (startFigures n a)) (startFigures n a)
 
 -- over access w, for this cause, with the card counter's limit
 unfoldable pub rowFigures : Row → ℕ → ℕ → ℕ → Access → Figures
@@ -101,6 +109,9 @@ withFigures l needs found a = record {
   t3502length = a .t3502length;
   net = a .net;
   code = a .code;
+  regtype = a .regtype;
+  uplink = a .uplink;
+  sessions = a .sessions;
   guti = l .guti;
   visited = l .visited;
   lastnet = a .lastnet;
@@ -123,6 +134,9 @@ crossed across limit a = record {
   t3502length = a .t3502length;
   net = a .net;
   code = a .code;
+  regtype = a .regtype;
+  uplink = a .uplink;
+  sessions = a .sessions;
   guti = a .guti;
   visited = a .visited;
   lastnet = a .lastnet;
@@ -146,11 +160,14 @@ figuresRecord l x w protected t3247 area r = record {
     dev = record {
       card = r .hot .dev .card;
       home = r .hot .dev .home;
+      t3512length = r .hot .dev .t3512length;
       suci = r .hot .dev .suci;
       cardlimit = r .hot .dev .cardlimit;
       banlimit = r .hot .dev .banlimit;
       n1limit = r .hot .dev .n1limit;
       t3247 = t3247;
+      t3512 = r .hot .dev .t3512;
+      due = r .hot .dev .due;
       capability = r .hot .dev .capability;
       security = r .hot .dev .security;
       roaming = cond (x .roaming) (placedCount area (r .hot .dev .roaming) (r .roaming)) (r .hot .dev .roaming);

@@ -5,7 +5,7 @@
 //
 // A realistic log has whole records only, few of them refused as out of range. A wild log
 // has damaged ones too and may end in a cut record. The state is followed with the record
-// of docs/src, so that starts, messages and timers come when they have an effect.
+// of docs/src, so that starts, updates, messages and timers come when they have an effect.
 
 #[allow(dead_code)]
 #[path = "../../../docs/src/log.rs"]
@@ -64,9 +64,13 @@ enum Phase {
     Attempts,
     Register,
     Manual,
+    /// Registered, and updates that are accepted or rejected.
+    Moving,
+    /// Registered, and updates that are not answered.
+    Lost,
 }
 
-const PHASES: [Phase; 9] = [
+const PHASES: [Phase; 14] = [
     Phase::Mixed,
     Phase::Mixed,
     Phase::Mixed,
@@ -76,6 +80,11 @@ const PHASES: [Phase; 9] = [
     Phase::Attempts,
     Phase::Register,
     Phase::Manual,
+    Phase::Moving,
+    Phase::Moving,
+    Phase::Moving,
+    Phase::Lost,
+    Phase::Lost,
 ];
 
 const CAUSES: [u8; 24] =
@@ -84,6 +93,10 @@ const ONE: [u8; 6] = [0x80, 0x9F, 0xA1, 0xB0, 0xFF, 0xD2];
 const SHORT: [u8; 12] = [0x10, 0x2E, 0x52, 0x5E, 0x5F, 0x15, 0x27, 0x31, 0x6F, 0x34, 0x4A, 0x16];
 /// 0 s, the most of each unit, and deactivated.
 const TIMERS: [u8; 5] = [0x00, 0x1F, 0x3F, 0x5F, 0xE5];
+/// T3512: zero, one and the most of each unit, and deactivated.
+const PERIODS: [u8; 16] = [
+    0x00, 0x01, 0x1F, 0x21, 0x3F, 0x41, 0x5F, 0x61, 0x7F, 0x81, 0x9F, 0xA1, 0xBF, 0xC1, 0xDF, 0xE5,
+];
 const LONG: [u8; 7] = [0x70, 0x71, 0x72, 0x75, 0x79, 0x7F, 0x77];
 
 /// Two- and three-digit MNCs; the first three are homes. Each of the first eight differs from
@@ -205,6 +218,21 @@ impl Generator {
         [0, self.random.below(3) as u8, self.random.below(24) as u8]
     }
 
+    /// An area of one of the lists, the oldest of a full one often.
+    fn listed(&mut self) -> Option<record::Area> {
+        let mut lists = [&self.record.roaming, &self.record.regional];
+        if self.random.odds(50) {
+            lists.reverse();
+        }
+        let listed = if lists[0].is_empty() { lists[1] } else { lists[0] };
+        if listed.is_empty() {
+            return None;
+        }
+        let oldest = listed.full() && self.random.odds(50);
+        let place = if oldest { 0 } else { self.random.below(listed.len()) };
+        Some(listed[place].area)
+    }
+
     /// Sometimes an area that stands on a list, or one started before that may have left it.
     fn again(&mut self) -> Option<record::Area> {
         if !self.random.odds(8) {
@@ -213,32 +241,76 @@ impl Generator {
         if self.dropped.is_some() && self.random.odds(20) {
             return self.dropped.take();
         }
-        let record = &self.record;
-        let listed = if self.random.odds(50) { &record.roaming } else { &record.regional };
-        if !listed.is_empty() && self.random.odds(50) {
-            let oldest = listed.full() && self.random.odds(50);
-            let place = if oldest { 0 } else { self.random.below(listed.len()) };
-            return Some(listed[place].area);
+        if self.random.odds(50) {
+            let listed = self.listed();
+            if listed.is_some() {
+                return listed;
+            }
         }
         let past = self.past.len().min(64);
         (past > 0).then(|| self.past[self.past.len() - 1 - self.random.below(past)])
     }
 
-    fn start(&mut self, a: usize) -> Vec<u8> {
+    /// The network and the area code to register in.
+    fn place(&mut self, a: usize) -> record::Area {
         let chosen = self.choose(a);
-        let access = self.access(a);
-        let manual = self.flag(if self.phase == Phase::Manual { 50 } else { 15 });
-        let mut body = vec![2, 0, access, manual];
-        if let Some(area) = self.again() {
-            body.extend(area);
-        } else {
-            body.extend(self.code(chosen));
-            body.extend(self.area());
-        }
-        self.past.extend(<[u8; 6]>::try_from(&body[4..]));
+        let place = self.again().unwrap_or_else(|| {
+            let ([n1, n2, n3], [c1, c2, c3]) = (self.code(chosen), self.area());
+            [n1, n2, n3, c1, c2, c3]
+        });
+        self.past.push(place);
         if self.past.len() > 200 {
             self.past.drain(..100);
         }
+        place
+    }
+
+    fn start(&mut self, a: usize) -> Vec<u8> {
+        let access = self.access(a);
+        let manual = self.flag(if self.phase == Phase::Manual { 50 } else { 15 });
+        let mut body = vec![2, 0, access, manual];
+        body.extend(self.place(a));
+        body
+    }
+
+    /// The type of an update: periodic ones come when due, and sometimes when they are not.
+    fn kind(&mut self, a: usize) -> u8 {
+        if self.spoil(6) {
+            return self.random.pick(&[0, 1, 4, 255]);
+        }
+        let due = a == 0 && self.record.due;
+        2 + self.random.odds(if due { 60 } else { 8 }) as u8
+    }
+
+    /// The two octets of 40 or 50, no session in `none` of a hundred; session 0 only in wild logs.
+    fn sessions(&mut self, none: usize) -> [u8; 2] {
+        if self.random.odds(none) {
+            return [0, 0];
+        }
+        let octets = [self.random.octet(), self.random.octet()];
+        let zero = self.spoil(6) as u8;
+        [octets[0] & 0xFE | zero, octets[1]]
+    }
+
+    /// An update where the device is, in the other access's network, one with an entry, a listed
+    /// area or elsewhere.
+    fn update(&mut self, a: usize) -> Vec<u8> {
+        let mut body = vec![7, 0, self.access(a), self.kind(a)];
+        let mut place = self.place(a);
+        let [this, other] = [a, 1 - a].map(|a| self.record.access[a]);
+        match self.random.below(20) {
+            0..=4 => place = this.pending,
+            5 => place[..3].copy_from_slice(&other.pending[..3]),
+            6 if !this.entries.is_empty() => {
+                let entry = self.random.below(this.entries.len());
+                place[..3].copy_from_slice(&this.entries[entry].network);
+            }
+            7..=8 => place = self.listed().unwrap_or(place),
+            _ => {}
+        }
+        body.extend(place);
+        body.extend(self.sessions(40));
+        body.extend(self.sessions(20));
         body
     }
 
@@ -253,13 +325,23 @@ impl Generator {
         draw.to_le_bytes()
     }
 
-    fn cause(&mut self) -> u8 {
+    /// Registered, or waiting for the answer to an update: what the two-access rule asks.
+    fn counts(&self, a: usize) -> bool {
+        self.record.access[a].state == 5 || self.updating(a)
+    }
+
+    fn cause(&mut self, a: usize) -> u8 {
         match self.phase {
             Phase::Areas => self.random.pick(&[12, 12, 12, 13, 15]),
             Phase::Networks => self.random.pick(&[11, 73, 27, 72, 11, 27]),
             Phase::Cards => self.random.pick(&[3, 6, 7]),
             Phase::Manual => self.random.pick(&[11, 73, 11, 27, 22]),
             Phase::Attempts => self.random.pick(&[22, 5, 9, 95, 111, 72, 12]),
+            Phase::Moving if self.counts(1 - a) && self.random.odds(60) => {
+                self.random.pick(&[3, 6, 7])
+            }
+            Phase::Moving => self.random.pick(&[11, 73, 12, 13, 15, 27, 72, 22, 97, 7]),
+            Phase::Lost => self.random.pick(&[22, 9, 10, 98, 22, 5, 96, 72]),
             _ if self.wild && self.random.odds(10) => self.random.octet(),
             _ => self.random.pick(&CAUSES),
         }
@@ -306,7 +388,7 @@ impl Generator {
     }
 
     fn known(&mut self) -> Vec<u8> {
-        match self.random.below(3) {
+        match self.random.below(4) {
             0 => {
                 let extra = if self.spoil(20) { self.random.below(6) } else { 0 };
                 let short = if self.spoil(10) { 1 + self.random.below(11) } else { 0 };
@@ -330,15 +412,20 @@ impl Generator {
                 octets.truncate(2 + octets[1] as usize);
                 octets
             }
-            _ => {
-                let length = if self.spoil(20) { self.random.below(4) } else { 1 };
-                let mut octets = self.element(0x16, length);
-                if length > 0 && self.random.odds(50) {
-                    octets[2] = self.random.pick(&TIMERS);
-                }
-                octets
-            }
+            2 => self.timed(0x16, &TIMERS),
+            _ => self.timed(0x5E, &PERIODS),
         }
+    }
+
+    /// A timer's element, its octet often one of the telling ones; an empty one may come first.
+    fn timed(&mut self, identifier: u8, telling: &[u8]) -> Vec<u8> {
+        let length = if self.spoil(20) { self.random.below(4) } else { 1 };
+        let mut octets = self.element(identifier, length);
+        if length > 0 && self.random.odds(50) {
+            octets[2] = self.random.pick(telling);
+        }
+        let empty: &[u8] = if self.spoil(10) { &[identifier, 0] } else { &[] };
+        [empty, &octets].concat()
     }
 
     fn elements(&mut self, accept: bool, octets: &mut Vec<u8>) {
@@ -399,16 +486,31 @@ impl Generator {
         octets
     }
 
-    fn message(&mut self, a: usize) -> Vec<u8> {
-        let accepts = match self.phase {
+    /// A registered access waits for the answer to an update.
+    fn updating(&self, a: usize) -> bool {
+        let access = &self.record.access[a];
+        access.state == 4 && access.regtype != 1
+    }
+
+    /// How many messages of a hundred are accepts.
+    fn accepts(&self, a: usize) -> usize {
+        match self.phase {
             Phase::Register => 80,
             Phase::Mixed => 25,
             Phase::Manual => 40,
             Phase::Areas => 1,
+            Phase::Moving if self.updating(a) => 55,
+            Phase::Lost if self.updating(a) => 8,
+            Phase::Moving => 70,
+            Phase::Lost => 85,
             _ => 4,
-        };
+        }
+    }
+
+    fn message(&mut self, a: usize) -> Vec<u8> {
+        let accepts = self.accepts(a);
         let accept = self.random.odds(accepts);
-        let mut octets = if accept { self.accept() } else { vec![0x7E, 0, 0x44, self.cause()] };
+        let mut octets = if accept { self.accept() } else { vec![0x7E, 0, 0x44, self.cause(a)] };
         if self.random.odds(if accept { 80 } else { 20 }) {
             self.elements(accept, &mut octets);
         }
@@ -432,7 +534,7 @@ impl Generator {
     }
 
     fn timer(&mut self, number: u8, a: usize) -> Vec<u8> {
-        let number = if self.spoil(3) { self.random.pick(&[0, 5, 6, 255]) } else { number };
+        let number = if self.spoil(3) { self.random.pick(&[0, 6, 7, 255]) } else { number };
         let a = if self.spoil(3) { 1 - a } else { a };
         vec![4, 0, number, self.access(a)]
     }
@@ -451,6 +553,7 @@ impl Generator {
         let outs = match self.phase {
             Phase::Attempts => 60,
             Phase::Areas => 3,
+            Phase::Lost if self.updating(a) => 70,
             _ => 12,
         };
         if self.random.odds(outs) {
@@ -462,28 +565,43 @@ impl Generator {
         }
     }
 
-    fn idle(&mut self, a: usize) -> Vec<u8> {
+    /// T3511 or T3502 out in most cases if one runs.
+    fn waited(&mut self, a: usize) -> Option<Vec<u8>> {
         let access = self.record.access[a];
         if access.t3511 && self.random.odds(60) {
-            self.timer(2, a)
+            Some(self.timer(2, a))
         } else if access.t3502 && self.random.odds(60) {
-            self.timer(3, a)
+            Some(self.timer(3, a))
         } else {
-            self.start(a)
+            None
         }
+    }
+
+    fn idle(&mut self, a: usize) -> Vec<u8> {
+        self.waited(a).unwrap_or_else(|| self.start(a))
+    }
+
+    /// What an access in state 5 meets.
+    fn registered(&mut self, a: usize) -> Vec<u8> {
+        if a == 0 && self.record.t3512 && self.random.odds(20) {
+            return self.timer(5, 0);
+        }
+        self.waited(a).unwrap_or_else(|| self.update(a))
     }
 
     /// An event picked without regard to the state.
     fn stray(&mut self) -> Vec<u8> {
         let a = self.random.below(2);
-        match self.random.below(6) {
+        match self.random.below(7) {
             0 => self.start(a),
             1 | 2 => self.message(a),
             3 => {
-                let number = 1 + self.random.below(4) as u8;
-                self.timer(number, if number == 4 { 0 } else { a })
+                let number = 1 + self.random.below(5) as u8;
+                let device = number >= 4 && self.random.odds(80);
+                self.timer(number, if device { 0 } else { a })
             }
             4 => self.key(a),
+            5 => self.update(a),
             _ => self.idle(a),
         }
     }
@@ -520,6 +638,13 @@ impl Generator {
         let mut a = self.random.odds(if self.phase == Phase::Areas { 10 } else { 42 }) as usize;
         let stuck = |state: u8| state == 5 || state == 0;
         let states = [self.record.access[0].state, self.record.access[1].state];
+        let moves = match self.phase {
+            Phase::Moving | Phase::Lost => 95,
+            _ => 40,
+        };
+        if states[a] == 5 && self.random.odds(moves) {
+            return self.registered(a);
+        }
         if stuck(states[0]) && stuck(states[1]) {
             return if self.random.odds(50) { vec![5, 0] } else { self.stray() };
         }

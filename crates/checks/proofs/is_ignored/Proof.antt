@@ -7,6 +7,9 @@ use Rattle.checks.proofs.is_ignored.Tie as tie
 is-card-requires : tie.Need-is-card-requires
 is-card-requires c κs = search needs
 
+is-registered-requires : tie.Need-is-registered-requires
+is-registered-requires c κs = search needs
+
 and-requires : tie.Need-and-requires
 and-requires c κs = search needs
 
@@ -15,7 +18,9 @@ and-requires-2 c κs = search needs
 
 returns : tie.Need-returns
 unfolding isIgnored
-returns c = rw (c .and2 .ensures, c .before .and .ensures, c .before .before .before .is-card .ensures)
+returns c = rw (c .and2 .ensures, c .before .and .ensures, c .before .before .is-registered .ensures, c .before .before .before .is-card .ensures)
 
 pub is-ignored-spec : {M : Type 1} → statement M
-is-ignored-spec = tie.close (tie.spec is-card-requires and-requires and-requires-2 returns)
+is-ignored-spec =
+    tie.close
+    (tie.spec is-card-requires is-registered-requires and-requires and-requires-2 returns)

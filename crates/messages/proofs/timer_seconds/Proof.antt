@@ -12,9 +12,6 @@ enum-told c = search needs
 enum-known-n : tie.Need-enum-known-n
 enum-known-n c = search needs
 
-cast-result : tie.Need-cast-result
-cast-result c = search needs
-
 returns : tie.Need-returns
 returns c = rw (← c .before .before .timer .ensures, c .enum-told .given .1)
 
@@ -22,5 +19,4 @@ returns-2 : tie.Need-returns-2
 returns-2 c = rw (← c .before .before .before .timer .ensures, c .before .n .given .1)
 
 pub timer-seconds-spec : {M : Type 1} → statement M
-timer-seconds-spec =
-    tie.close (tie.spec timer-requires enum-told enum-known-n cast-result returns returns-2)
+timer-seconds-spec = tie.close (tie.spec timer-requires enum-told enum-known-n returns returns-2)

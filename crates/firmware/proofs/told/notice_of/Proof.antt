@@ -13,6 +13,9 @@ timers-of-requires-2 c κs = search needs
 timer-of-requires : tie.Need-timer-of-requires
 timer-of-requires c κs = search needs
 
+timer-of-requires-2 : tie.Need-timer-of-requires-2
+timer-of-requires-2 c κs = search needs
+
 request-of-requires : tie.Need-request-of-requires
 request-of-requires c κs = search needs
 
@@ -24,7 +27,7 @@ request-of-requires-3 c κs = search needs
 
 returns : tie.Need-returns
 unfolding noticeOf
-returns c = rw (c .request-of3 .ensures, c .before .request-of2 .ensures, c .before .before .request-of .ensures, c .before .before .before .timer-of .ensures, c .before .before .before .before .timers-of2 .ensures, c .before .before .before .before .before .timers-of .ensures)
+returns c = rw (c .request-of3 .ensures, c .before .request-of2 .ensures, c .before .before .request-of .ensures, c .before .before .before .timer-of2 .ensures, c .before .before .before .before .timer-of .ensures, c .before .before .before .before .before .timers-of2 .ensures, c .before .before .before .before .before .before .timers-of .ensures)
 
 pub notice-of-spec : {M : Type 1} → statement M
 notice-of-spec =
@@ -33,6 +36,7 @@ notice-of-spec =
     timers-of-requires
     timers-of-requires-2
     timer-of-requires
+    timer-of-requires-2
     request-of-requires
     request-of-requires-2
     request-of-requires-3

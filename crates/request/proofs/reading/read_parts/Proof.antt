@@ -16,6 +16,10 @@ gathered : (g : Gathered) (l : Elements) → g ≡ gatherOf (Id 0x10) (Id 0x2E) 
 unfolding gatherOf wantedOf
 gathered g l e = rw e (refl, (refl, (refl, refl)))
 
+statuses : (g : Gathered) (l : Elements) → g ≡ gatherOf (Id 0x40) (Id 0x50) Nothing Nothing l → (g .first ≡ firstOf 0x40 l) × (g .second ≡ firstOf 0x50 l)
+unfolding gatherOf wantedOf
+statuses g l e = rw e (refl, refl)
+
 add-if1 : tie.Need-add-if1
 add-if1 c = search needs
 
@@ -29,6 +33,12 @@ add-gather c = search needs
 gather-requires : tie.Need-gather-requires
 gather-requires c κs = search needs
 
+add-gather-2 : tie.Need-add-gather-2
+add-gather-2 c = search needs
+
+gather-requires-2 : tie.Need-gather-requires-2
+gather-requires-2 c κs = search needs
+
 enum-known-end : tie.Need-enum-known-end
 enum-known-end c = search needs
 
@@ -40,13 +50,14 @@ judged-requires c κs = search needs
 
 returns-2 : tie.Need-returns-2
 unfolding partsReading askedOf endedBy
-returns-2 c = rw (le-ltb _ _ (c .before .before .before .before .if1 .left), ← gathered _ _ (c .before .before .before .gather .ensures) .0, c .before .end .given .1)
+returns-2 c = rw (le-ltb _ _ (c .before .before .before .before .before .if1 .left), ← gathered _ _ (c .before .before .before .before .gather .ensures) .0, c .before .end .given .1)
 
 returns-3 : tie.Need-returns-3
 unfolding partsReading askedOf endedBy
 returns-3 c =
-    let e = gathered _ _ (c .before .before .before .gather .ensures) in
-    rw (le-ltb _ _ (c .before .before .before .before .if1 .left), ← e .0, c .before .enum-told .given .1, c .judged .ensures _ (e .1 .0) (e .1 .1 .0) (e .1 .1 .1))
+    let e = gathered _ _ (c .before .before .before .before .gather .ensures) in
+    let f = statuses _ _ (c .before .before .before .gather2 .ensures) in
+    rw (le-ltb _ _ (c .before .before .before .before .before .if1 .left), ← e .0, c .before .enum-told .given .1, c .judged .ensures _ (e .1 .0) (e .1 .1 .0) (e .1 .1 .1) (f .0) (f .1))
 
 pub read-parts-spec : {M : Type 1} → statement M
 read-parts-spec =
@@ -56,6 +67,8 @@ read-parts-spec =
     returns
     add-gather
     gather-requires
+    add-gather-2
+    gather-requires-2
     enum-known-end
     enum-told
     judged-requires

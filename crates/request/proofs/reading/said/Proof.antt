@@ -10,9 +10,15 @@ octet-requires c κs = search needs
 held-requires : tie.Need-held-requires
 held-requires c κs = search needs
 
+pair-requires : tie.Need-pair-requires
+pair-requires c κs = search needs
+
+pair-requires-2 : tie.Need-pair-requires-2
+pair-requires-2 c κs = search needs
+
 returns : tie.Need-returns
 unfolding requestIn
-returns c = λ l e f g. cc
+returns c = λ l e f g h k. cc
 
 pub said-spec : {M : Type 1} → statement M
-said-spec = tie.close (tie.spec octet-requires held-requires returns)
+said-spec = tie.close (tie.spec octet-requires held-requires pair-requires pair-requires-2 returns)

@@ -1,29 +1,51 @@
 -- The opening and the elements, one behind the other. Assumes nothing.
+use Prim.Native.Nat.{_≤_}
 use native.Mathlib.Omega.{arith}
+use lib.ListN.{length}
 use Rattle.request.proofs.Pieces.{join, in-order, opens, spread}
 use borrow.Author.Needs.{needs}
 use Rattle.request.proofs.writing.fill.Statement.{statement}
 use Rattle.request.proofs.writing.fill.Tie as tie
 
 begin-requires : tie.Need-begin-requires
-begin-requires c κs = (c .before .before .before .before .before .before .pre .0, (c .before .before .before .before .before .before .pre .1 .0, omega (arith, opens (c .before .before .before .before .before .before .args .ksi) (c .before .before .before .before .before .before .args .part .now), spread (c .before .before .before .before .before .before .args .ksi) (c .before .before .before .before .before .before .args .part .now) (c .before .before .before .before .before .before .args .capability .now) (c .before .before .before .before .before .before .args .security .now) (c .before .before .before .before .before .before .args .last .now))))
+begin-requires c κs =
+    let a = c .before .before .before .before .before .before .before .before .args in
+    let p = c .before .before .before .before .before .before .before .before .pre in
+    (p .0, (p .1 .0, (p .1 .1 .0, omega (arith, opens (a .regtype) (a .ksi) (a .part .now), spread (a .regtype) (a .ksi) (a .part .now) (a .capability .now) (a .security .now) (a .last .now) (a .uplink .now) (a .sessions .now)))))
 
 short-requires : tie.Need-short-requires
-short-requires c κs = (search needs, omega (arith, spread (c .before .before .before .before .before .before .before .before .before .before .args .ksi) (c .before .before .before .before .before .before .before .before .before .before .args .part .now) (c .before .before .before .before .before .before .before .before .before .before .args .capability .now) (c .before .before .before .before .before .before .before .before .before .before .args .security .now) (c .before .before .before .before .before .before .before .before .before .before .args .last .now)))
+short-requires c κs =
+    let a = c .before .before .before .before .before .before .before .before .before .before .before .before .args in
+    (search needs, omega (arith, spread (a .regtype) (a .ksi) (a .part .now) (a .capability .now) (a .security .now) (a .last .now) (a .uplink .now) (a .sessions .now)))
 
 short-requires-2 : tie.Need-short-requires-2
-short-requires-2 c κs = (search needs, omega (arith, spread (c .before .before .before .before .before .before .before .before .before .before .before .before .before .before .args .ksi) (c .before .before .before .before .before .before .before .before .before .before .before .before .before .before .args .part .now) (c .before .before .before .before .before .before .before .before .before .before .before .before .before .before .args .capability .now) (c .before .before .before .before .before .before .before .before .before .before .before .before .before .before .args .security .now) (c .before .before .before .before .before .before .before .before .before .before .before .before .before .before .args .last .now)))
+short-requires-2 c κs =
+    let a = c .before .before .before .before .before .before .before .before .before .before .before .before .before .before .before .before .args in
+    (search needs, omega (arith, spread (a .regtype) (a .ksi) (a .part .now) (a .capability .now) (a .security .now) (a .last .now) (a .uplink .now) (a .sessions .now)))
 
-plain-requires : tie.Need-plain-requires
-plain-requires c κs = omega (arith, spread (c .before .before .before .before .before .before .before .before .before .before .before .before .before .before .before .before .before .before .args .ksi) (c .before .before .before .before .before .before .before .before .before .before .before .before .before .before .before .before .before .before .args .part .now) (c .before .before .before .before .before .before .before .before .before .before .before .before .before .before .before .before .before .before .args .capability .now) (c .before .before .before .before .before .before .before .before .before .before .before .before .before .before .before .before .before .before .args .security .now) (c .before .before .before .before .before .before .before .before .before .before .before .before .before .before .before .before .before .before .args .last .now))
+tail-requires : tie.Need-tail-requires
+tail-requires c κs =
+    let a = c .before .before .before .before .before .before .before .before .before .before .before .before .before .before .before .before .before .before .before .before .args in
+    let p = c .before .before .before .before .before .before .before .before .before .before .before .before .before .before .before .before .before .before .before .before .pre in
+    (p .1 .1 .1 .1 .1 .0, (p .1 .1 .1 .1 .1 .1 .0, omega (arith, spread (a .regtype) (a .ksi) (a .part .now) (a .capability .now) (a .security .now) (a .last .now) (a .uplink .now) (a .sessions .now), p .1 .1 .1 .1 .1 .1 .1)))
 
 same-length : tie.Need-same-length
 same-length c = search needs
 
 returns : tie.Need-returns
-returns c = rw in-order (join (omega arith) (join (omega arith) (join (omega arith) (c .before .before .before .before .before .before .before .before .before .before .before .before .before .before .begin .ensures) (c .before .before .before .before .before .before .before .before .before .before .short .ensures)) (c .before .before .before .before .before .before .short2 .ensures)) (c .before .before .plain .ensures))
+returns c =
+    let a = c .before .before .before .before .before .before .before .before .before .before .before .before .before .before .before .before .before .before .before .before .before .before .before .args in
+    let h : a .at ≤ length (a .buffer .now) = omega (arith, c .before .before .before .before .before .before .before .before .before .before .before .before .before .before .before .before .before .before .before .before .before .before .before .pre .1 .1 .1 .1 .1 .1 .1) in
+    rw in-order
+    (join h (join h (join h (c .before .before .before .before .before .before .before .before .before .before .before .before .before .before .begin .ensures) (c .before .before .before .before .before .before .before .before .before .before .short .ensures)) (c .before .before .before .before .before .before .short2 .ensures)) (c .before .before .tail .ensures))
 
 pub fill-spec : {M : Type 1} → statement M
 fill-spec =
     tie.close
-    (tie.spec begin-requires short-requires short-requires-2 plain-requires same-length returns)
+    (tie.spec
+    begin-requires
+    short-requires
+    short-requires-2
+    tail-requires
+    same-length
+    returns)

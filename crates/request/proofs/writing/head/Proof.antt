@@ -5,21 +5,21 @@ use borrow.Author.Needs.{needs}
 use Rattle.request.proofs.writing.head.Statement.{statement}
 use Rattle.request.proofs.writing.head.Tie as tie
 
-mul-t3 : tie.Need-mul-t3
-mul-t3 c = search needs
+mul-t4 : tie.Need-mul-t4
+mul-t4 c = search needs
 
-add-t4 : tie.Need-add-t4
-add-t4 c = search needs
+add-t5 : tie.Need-add-t5
+add-t5 c = search needs
 
-cast-t6 : tie.Need-cast-t6
-cast-t6 c = search needs
+cast-t7 : tie.Need-cast-t7
+cast-t7 c = search needs
 
-cast-t8 : tie.Need-cast-t8
-cast-t8 c = search needs
+cast-t9 : tie.Need-cast-t9
+cast-t9 c = search needs
 
 returns : tie.Need-returns
 unfolding openingHead lengthIn
 returns c = refl
 
 pub head-spec : {M : Type 1} → statement M
-head-spec = tie.close (tie.spec mul-t3 add-t4 cast-t6 cast-t8 returns)
+head-spec = tie.close (tie.spec mul-t4 add-t5 cast-t7 cast-t9 returns)

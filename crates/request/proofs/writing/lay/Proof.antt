@@ -10,16 +10,19 @@ size-requires : tie.Need-size-requires
 size-requires c κs = search needs
 
 returns : tie.Need-returns
-returns c = sent-short _ _ _ (long _ _ _ _ _ ∙ sym (c .before .size .ensures)) (c .if1 .taken)
+returns c = sent-short _ _ _ (long _ _ _ _ _ _ _ _ ∙ sym (c .before .size .ensures)) (c .if1 .taken)
 
 fill-requires : tie.Need-fill-requires
-fill-requires c κs = (c .before .before .before .before .before .before .before .before .pre .0, (c .before .before .before .before .before .before .before .before .pre .1 .0, (c .before .before .before .before .before .before .before .before .pre .1 .1 .0, (c .before .before .before .before .before .before .before .before .pre .1 .1 .1 .0, omega (arith, long (c .before .before .before .before .before .before .before .before .args .ksi) (c .before .before .before .before .before .before .before .before .args .part .now) (c .before .before .before .before .before .before .before .before .args .capability .now) (c .before .before .before .before .before .before .before .before .args .security .now) (c .before .before .before .before .before .before .before .before .args .last .now))))))
+fill-requires c κs =
+    let a = c .before .before .before .before .before .before .before .before .before .before .args in
+    let p = c .before .before .before .before .before .before .before .before .before .before .pre in
+    (p .0, (p .1 .0, (p .1 .1 .0, (p .1 .1 .1 .0, (p .1 .1 .1 .1 .0, (p .1 .1 .1 .1 .1 .1 .0, (p .1 .1 .1 .1 .1 .1 .1, omega (arith, long (a .regtype) (a .ksi) (a .part .now) (a .capability .now) (a .security .now) (a .last .now) (a .uplink .now) (a .sessions .now)))))))))
 
 same-length : tie.Need-same-length
 same-length c = search needs
 
 returns-2 : tie.Need-returns-2
-returns-2 c = sent-taken _ _ _ _ _ (long _ _ _ _ _ ∙ sym (c .before .before .before .before .before .size .ensures)) (c .before .before .before .before .if1 .left) (c .before .before .fill .ensures)
+returns-2 c = sent-taken _ _ _ _ _ (long _ _ _ _ _ _ _ _ ∙ sym (c .before .before .before .before .before .size .ensures)) (c .before .before .before .before .if1 .left) (c .before .before .fill .ensures)
 
 pub lay-spec : {M : Type 1} → statement M
 lay-spec = tie.close (tie.spec size-requires returns fill-requires same-length returns-2)

@@ -22,6 +22,9 @@ enum-told-2 c = search needs
 enum-known-e-4 : tie.Need-enum-known-e-4
 enum-known-e-4 c = search needs
 
+enum-known-e-5 : tie.Need-enum-known-e-5
+enum-known-e-5 c = search needs
+
 enum-told-3 : tie.Need-enum-told-3
 enum-told-3 c = search needs
 
@@ -51,7 +54,11 @@ returns-6 c = rw (c .before .e4 .given .1)
 
 returns-7 : tie.Need-returns-7
 unfolding accessIn
-returns-7 c = rw (c .enum-told3 .given .1)
+returns-7 c = rw (c .before .e5 .given .1)
+
+returns-8 : tie.Need-returns-8
+unfolding accessIn
+returns-8 c = rw (c .enum-told3 .given .1)
 
 pub access-in-spec : {M : Type 1} → statement M
 access-in-spec =
@@ -63,6 +70,7 @@ access-in-spec =
     enum-known-e-3
     enum-told-2
     enum-known-e-4
+    enum-known-e-5
     enum-told-3
     returns
     returns-2
@@ -70,4 +78,5 @@ access-in-spec =
     returns-4
     returns-5
     returns-6
-    returns-7)
+    returns-7
+    returns-8)

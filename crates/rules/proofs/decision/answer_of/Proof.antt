@@ -37,6 +37,12 @@ enum-known-e-5 c = search needs
 key-answer-requires : tie.Need-key-answer-requires
 key-answer-requires c κs = search needs
 
+enum-known-e-6 : tie.Need-enum-known-e-6
+enum-known-e-6 c = search needs
+
+update-answer-requires : tie.Need-update-answer-requires
+update-answer-requires c κs = search needs
+
 enum-told-2 : tie.Need-enum-told-2
 enum-told-2 c = search needs
 
@@ -66,7 +72,11 @@ returns-6 c = rw (c .before .before .e5 .given .1) (c .key-answer .ensures)
 
 returns-7 : tie.Need-returns-7
 unfolding answerOf
-returns-7 c = rw (c .enum-told2 .given .1)
+returns-7 c = rw (c .before .before .e6 .given .1) (c .update-answer .ensures)
+
+returns-8 : tie.Need-returns-8
+unfolding answerOf
+returns-8 c = rw (c .enum-told2 .given .1)
 
 pub answer-of-spec : {M : Type 1} → statement M
 answer-of-spec =
@@ -83,6 +93,8 @@ answer-of-spec =
     enum-told
     enum-known-e-5
     key-answer-requires
+    enum-known-e-6
+    update-answer-requires
     enum-told-2
     returns
     returns-2
@@ -90,4 +102,5 @@ answer-of-spec =
     returns-4
     returns-5
     returns-6
-    returns-7)
+    returns-7
+    returns-8)

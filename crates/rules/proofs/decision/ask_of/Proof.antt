@@ -25,6 +25,9 @@ enum-told-3 c = search needs
 enum-told-4 : tie.Need-enum-told-4
 enum-told-4 c = search needs
 
+enum-known-e-3 : tie.Need-enum-known-e-3
+enum-known-e-3 c = search needs
+
 enum-told-5 : tie.Need-enum-told-5
 enum-told-5 c = search needs
 
@@ -54,7 +57,11 @@ returns-6 c = rw (c .enum-told4 .given .1)
 
 returns-7 : tie.Need-returns-7
 unfolding askOf
-returns-7 c = rw (c .enum-told5 .given .1)
+returns-7 c = rw (c .before .e3 .given .1)
+
+returns-8 : tie.Need-returns-8
+unfolding askOf
+returns-8 c = rw (c .enum-told5 .given .1)
 
 pub ask-of-spec : {M : Type 1} → statement M
 ask-of-spec =
@@ -67,6 +74,7 @@ ask-of-spec =
     enum-told-2
     enum-told-3
     enum-told-4
+    enum-known-e-3
     enum-told-5
     returns
     returns-2
@@ -74,4 +82,5 @@ ask-of-spec =
     returns-4
     returns-5
     returns-6
-    returns-7)
+    returns-7
+    returns-8)

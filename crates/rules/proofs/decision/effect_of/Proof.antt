@@ -44,6 +44,12 @@ enum-known-e-5 c = search needs
 key-effect-requires : tie.Need-key-effect-requires
 key-effect-requires c κs = search needs
 
+enum-known-e-6 : tie.Need-enum-known-e-6
+enum-known-e-6 c = search needs
+
+update-effect-requires : tie.Need-update-effect-requires
+update-effect-requires c κs = search needs
+
 enum-told-2 : tie.Need-enum-told-2
 enum-told-2 c = search needs
 
@@ -76,7 +82,11 @@ returns-6 c = rw (c .before .before .e5 .given .1) (c .key-effect .ensures)
 
 returns-7 : tie.Need-returns-7
 unfolding effectOf accessIn
-returns-7 c = rw (c .before .enum-told2 .given .1) (c .none .ensures)
+returns-7 c = rw (c .before .before .e6 .given .1) (c .update-effect .ensures)
+
+returns-8 : tie.Need-returns-8
+unfolding effectOf accessIn
+returns-8 c = rw (c .before .enum-told2 .given .1) (c .none .ensures)
 
 pub effect-of-spec : {M : Type 1} → statement M
 effect-of-spec =
@@ -95,6 +105,8 @@ effect-of-spec =
     power-effect-requires
     enum-known-e-5
     key-effect-requires
+    enum-known-e-6
+    update-effect-requires
     enum-told-2
     none-requires
     returns
@@ -103,4 +115,5 @@ effect-of-spec =
     returns-4
     returns-5
     returns-6
-    returns-7)
+    returns-7
+    returns-8)

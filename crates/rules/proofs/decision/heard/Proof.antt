@@ -27,6 +27,9 @@ enum-told-6 c = search needs
 enum-told-7 : tie.Need-enum-told-7
 enum-told-7 c = search needs
 
+enum-told-8 : tie.Need-enum-told-8
+enum-told-8 c = search needs
+
 returns : tie.Need-returns
 returns c = rw (c .enum-told .given .1) tt
 
@@ -48,6 +51,9 @@ returns-6 c = rw (c .enum-told6 .given .1) tt
 returns-7 : tie.Need-returns-7
 returns-7 c = rw (c .enum-told7 .given .1) tt
 
+returns-8 : tie.Need-returns-8
+returns-8 c = rw (c .enum-told8 .given .1) tt
+
 pub heard-spec : {M : Type 1} → statement M
 heard-spec =
     tie.close
@@ -60,10 +66,12 @@ heard-spec =
     enum-told-5
     enum-told-6
     enum-told-7
+    enum-told-8
     returns
     returns-2
     returns-3
     returns-4
     returns-5
     returns-6
-    returns-7)
+    returns-7
+    returns-8)

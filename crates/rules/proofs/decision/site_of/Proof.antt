@@ -25,6 +25,12 @@ enum-told-4 c = search needs
 enum-told-5 : tie.Need-enum-told-5
 enum-told-5 c = search needs
 
+enum-known-e-2 : tie.Need-enum-known-e-2
+enum-known-e-2 c = search needs
+
+site-at-requires-2 : tie.Need-site-at-requires-2
+site-at-requires-2 c κs = search needs
+
 enum-told-6 : tie.Need-enum-told-6
 enum-told-6 c = search needs
 
@@ -54,7 +60,11 @@ returns-6 c = rw (c .enum-told5 .given .1)
 
 returns-7 : tie.Need-returns-7
 unfolding siteOf
-returns-7 c = rw (c .enum-told6 .given .1)
+returns-7 c = rw (c .before .before .e2 .given .1) (c .site-at2 .ensures)
+
+returns-8 : tie.Need-returns-8
+unfolding siteOf
+returns-8 c = rw (c .enum-told6 .given .1)
 
 pub site-of-spec : {M : Type 1} → statement M
 site-of-spec =
@@ -67,6 +77,8 @@ site-of-spec =
     enum-told-3
     enum-told-4
     enum-told-5
+    enum-known-e-2
+    site-at-requires-2
     enum-told-6
     returns
     returns-2
@@ -74,4 +86,5 @@ site-of-spec =
     returns-4
     returns-5
     returns-6
-    returns-7)
+    returns-7
+    returns-8)

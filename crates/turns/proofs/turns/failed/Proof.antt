@@ -1,24 +1,27 @@
 -- The test is the one of the definition. Assumes nothing.
-use borrow.Author.Tests.{lt-ltb, le-ltb}
-use Rattle.record.specs.Setters.{inState, withStatus, withAttempts, forgotten, emptied}
 use Rattle.turns.specs.Turns.{failed}
 use borrow.Author.Needs.{needs}
 use Rattle.turns.proofs.turns.failed.Statement.{statement}
 use Rattle.turns.proofs.turns.failed.Tie as tie
 
-again-requires : tie.Need-again-requires
-again-requires c κs = search needs
+is-updating-requires : tie.Need-is-updating-requires
+is-updating-requires c κs = search needs
 
-spent-requires : tie.Need-spent-requires
-spent-requires c κs = search needs
+update-failed-requires : tie.Need-update-failed-requires
+update-failed-requires c κs = search needs
+
+start-failed-requires : tie.Need-start-failed-requires
+start-failed-requires c κs = search needs
 
 returns : tie.Need-returns
-unfolding failed inState withStatus withAttempts forgotten emptied
-returns c = rw (c .again .ensures, lt-ltb _ _ (c .before .if1 .taken))
+unfolding failed
+returns c = rw (← c .before .before .is-updating .ensures, c .before .if1 .taken) (c .update-failed .ensures)
 
 returns-2 : tie.Need-returns-2
-unfolding failed inState withStatus withAttempts forgotten emptied
-returns-2 c = rw (c .spent .ensures, le-ltb _ _ (c .before .if1 .left))
+unfolding failed
+returns-2 c = rw (← c .before .before .is-updating .ensures, c .before .if1 .left) (c .start-failed .ensures)
 
 pub failed-spec : {M : Type 1} → statement M
-failed-spec = tie.close (tie.spec again-requires spent-requires returns returns-2)
+failed-spec =
+    tie.close
+    (tie.spec is-updating-requires update-failed-requires start-failed-requires returns returns-2)

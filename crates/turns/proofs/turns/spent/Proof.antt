@@ -6,9 +6,6 @@ use Rattle.turns.proofs.turns.spent.Tie as tie
 moved-requires : tie.Need-moved-requires
 moved-requires c κs = search needs
 
-forgotten-requires : tie.Need-forgotten-requires
-forgotten-requires c κs = search needs
-
 emptied-requires : tie.Need-emptied-requires
 emptied-requires c κs = search needs
 
@@ -29,7 +26,6 @@ spent-spec =
     tie.close
     (tie.spec
     moved-requires
-    forgotten-requires
     emptied-requires
     seconds-requires
     resting-requires

@@ -1,0 +1,34 @@
+-- How long the times of an accept can be: T3502 at most 31 times 360 s, T3512 at most 31 times 320 h. Assumes nothing.
+use Prim.Native.Nat.{ℕ, _≤_}
+use mathlib.Core.Bool.{true, false, cond}
+use mathlib.Core.List.{List}
+use native.Mathlib.Omega.{arith}
+use lib.Dec.{eqb}
+use lib.ListN.{getD}
+use Rattle.octets.specs.declared.Part.{Part}
+use Rattle.timers.specs.declared.Span.{Span}
+use Rattle.timers.specs.declared.Span.the-variants.{Off, Seconds}
+use Rattle.timers.specs.Timer.{spanOf, span3Of}
+use Rattle.timers.proofs.Rows.{Within, span-fits, span3-fits}
+use Rattle.messages.specs.Message.{t3502Of, pacedOf, t3512Of, secondsOf}
+
+seconds-fit : (most : ℕ) (s : Span) → Within most s → secondsOf s ≤ most
+seconds-fit most Off h = omega arith
+seconds-fit most (Seconds n) h = h
+
+pub t3502-fits : (s : List ℕ) (p : Part) → secondsOf (t3502Of s p) ≤ 11160
+unfolding t3502Of
+t3502-fits s p = elim (p .held) as (λ b. secondsOf (cond b (cond (eqb (p .len) 0) Off (spanOf (getD s (p .start) 0))) Off) ≤ 11160) [
+  | true ↦ elim (eqb (p .len) 0) as (λ b. secondsOf (cond b Off (spanOf (getD s (p .start) 0))) ≤ 11160) [
+    | true ↦ omega arith
+    | false ↦ seconds-fit 11160 (spanOf (getD s (p .start) 0)) (span-fits (getD s (p .start) 0))
+  ]
+  | false ↦ omega arith
+]
+
+pub t3512-fits : (s : List ℕ) (p : Part) → secondsOf (t3512Of s p) ≤ 35712000
+unfolding t3512Of
+t3512-fits s p = elim (pacedOf p) as (λ b. secondsOf (cond b (span3Of (getD s (p .start) 0)) Off) ≤ 35712000) [
+  | true ↦ seconds-fit 35712000 (span3Of (getD s (p .start) 0)) (span3-fits (getD s (p .start) 0))
+  | false ↦ omega arith
+]
