@@ -553,7 +553,10 @@ fn accept_event() {
     let mut same = record;
     same.access[1] = other;
     assert_eq!(text(&record), text(&same));
+}
 
+#[test]
+fn accept_that_gives_nothing() {
     let mut record = pending(1, AWAY);
     assert_eq!(accept(&mut record, 1), 0);
     let this = &record.access[1];
@@ -968,13 +971,16 @@ fn identities() {
     }
 }
 
+/// A request with this octet 4, this identity behind its length, and these elements, read.
+fn with(fourth: &str, identity: &str, rest: &str) -> Result<request::Request, u8> {
+    request::read(&octets(&format!("7E 00 41 {fourth} {identity} {rest}")))
+}
+
+const SENT_SUCI: &str = "00 09 01 00 F1 10 F0 FF 00 00 07";
+
 #[test]
 fn requests_read_back() {
-    let with = |fourth: &str, identity: &str, rest: &str| {
-        request::read(&octets(&format!("7E 00 41 {fourth} {identity} {rest}")))
-    };
-    let suci = "00 09 01 00 F1 10 F0 FF 00 00 07";
-    let security = "2E 02 F0 F0";
+    let (suci, security) = (SENT_SUCI, "2E 02 F0 F0");
     assert!(with("71", suci, security).is_ok());
     for fourth in ["74", "81", "82", "F1", "F3", "70", "79", "7A"] {
         assert_eq!(with(fourth, suci, security), Err(3), "{fourth}");
@@ -995,6 +1001,15 @@ fn requests_read_back() {
     let long = |count: usize| format!("00 {:02X} 01{}", count, " 00".repeat(count - 1));
     assert!(with("71", &long(64), security).is_ok());
     assert_eq!(with("71", &long(65), security), Err(3));
+    assert_eq!(request::read(&[]), Err(3));
+    assert_eq!(
+        request::read(&octets("7E 00 42 71 00 09 01 00 F1 10 F0 FF 00 00 07 2E 02 F0 F0")),
+        Err(3)
+    );
+}
+
+#[test]
+fn elements_read_back() {
     for (rest, fits) in [
         ("", false),
         ("2E 01 F0", false),
@@ -1013,17 +1028,13 @@ fn requests_read_back() {
         ("2E 02 F0 F0 05 00", false),
         ("2E 02 F0 F0 77 00 05 1", false),
     ] {
-        assert_eq!(with("71", suci, rest).is_ok(), fits, "{rest}");
+        assert_eq!(with("71", SENT_SUCI, rest).is_ok(), fits, "{rest}");
     }
-    let turned = with("31", suci, "52 0 1 2 3 4 5 2E 02 F0 F0 10 00 10 01 00").unwrap();
+    let turned = with("31", SENT_SUCI, "52 0 1 2 3 4 5 2E 02 F0 F0 10 00 10 01 00").unwrap();
     assert_eq!((turned.area, turned.security, turned.capability), (Some(16..22), 24..26, None));
-    let twice = with("31", suci, "2E 02 F0 F0 53 0 52 0 1 2 3 4 5 52 0 1 2 3 4 5").unwrap();
+    let doubled = "2E 02 F0 F0 53 0 52 0 1 2 3 4 5 52 0 1 2 3 4 5";
+    let twice = with("31", SENT_SUCI, doubled).unwrap();
     assert_eq!((twice.area, twice.security, twice.capability), (Some(22..28), 17..19, None));
-    assert_eq!(request::read(&[]), Err(3));
-    assert_eq!(
-        request::read(&octets("7E 00 42 71 00 09 01 00 F1 10 F0 FF 00 00 07 2E 02 F0 F0")),
-        Err(3)
-    );
 }
 
 /// Gives its octets in pieces of a fixed size.

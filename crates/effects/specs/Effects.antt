@@ -139,6 +139,7 @@ acceptT3512 w time = cond (eqb w 0) (cond (eqb time 0) Leave (Run time)) Leave
 unfoldable pub acceptDevice : ℕ → ℕ → Device → Device
 acceptDevice w time d = cond (eqb w 0) (scheduled time 0 d) d
 
+-- on the arrays: the network's forbidden mark clears, and the GUTI and equivalents given are kept
 abbrev pub acceptWork : Seat → Accept → Work
 acceptWork s g = record { mine = deed.Accept s; theirs = deed.Nothing; roaming = task.Nothing; regional = task.Nothing; keep = keep.Gift g }
 

@@ -88,6 +88,15 @@ answer-told r e octets = go (isTaken (answeredBy r e octets)) refl
     go true q = ap (λ (o : Outcome). o .reply .answer) (taken-plan r e octets q) ∙ taken-is (answeredBy r e octets) q
     go false q = ap (λ (o : Outcome). o .reply .answer) (refused r e octets q)
 
+-- a step that takes an event has found the record valid: it is an advance, and that takes the event
+pub step-taken : (r : Record) (e : Event) (octets : List ℕ) → isTaken (stepOf r e octets .reply .answer) ≡ true → (stepOf r e octets ≡ advanceOf r e octets) × (isTaken (answeredBy r e octets) ≡ true)
+unfolding stepOf refusedReply isTaken
+step-taken r e octets t = go (validOf r) refl
+  where
+    go : (b : Bool) → validOf r ≡ b → (stepOf r e octets ≡ advanceOf r e octets) × (isTaken (answeredBy r e octets) ≡ true)
+    go true v = (rw v, rw (answer-told r e octets) at (rw v at t))
+    go false v = absurd (false≢true (rw v at t))
+
 -- "All but 0 change nothing": the record and its arrays are as they were
 pub refusal-changes-nothing : (r : Record) (e : Event) (octets : List ℕ) → isTaken (advanceOf r e octets .reply .answer) ≡ false → advanceOf r e octets .next ≡ r
 refusal-changes-nothing r e octets q =

@@ -1,7 +1,7 @@
 -- A taken reject does what its row's text says: the plan's deeds and tasks are the text's mark and lists. Assumes nothing.
 use Prim.Native.Nat.{ℕ, zero, suc}
 use mathlib.Core.Path.{_≡_, refl}
-use mathlib.Core.Bool.{Bool, true, false, cond, false≢true}
+use mathlib.Core.Bool.{Bool, true, false, cond}
 use mathlib.Core.List.{List}
 use Rattle.entries.specs.declared.Entries.{Entries}
 use Rattle.entries.specs.declared.Seat.{Seat}
@@ -14,7 +14,6 @@ use Rattle.record.specs.declared.Record.{Record}
 use Rattle.record.specs.Answers.{isTaken}
 use Rattle.record.specs.Sides.{accessOf, otherOf, hotOf}
 use Rattle.record.specs.Tests.{isFlag}
-use Rattle.ranges.specs.Valid.{validOf}
 use Rattle.turns.specs.Words.{Mark, noMark, forbiddenAndCounted, n1NotAllowedAndCounted, markIn}
 use Rattle.turns.specs.Rejects.{rowText, toRoaming, toRegional}
 use Rattle.turns.specs.Timers.{flagAfter}
@@ -25,12 +24,12 @@ use Rattle.areas.specs.declared.Task.{Task}
 use Rattle.areas.specs.declared.Task.the-variants as task
 use Rattle.rules.specs.declared.Event.the-variants.{Message}
 use Rattle.rules.specs.declared.Plan.{Plan}
-use Rattle.rules.specs.Plan.{askOf, accessIn, answerOf, messageEffect, effectOf, hotAfter, refusedReply, takenPlan, deedOn, deedOf}
+use Rattle.rules.specs.Plan.{askOf, accessIn, answerOf, messageEffect, effectOf, hotAfter, takenPlan, deedOn, deedOf}
 use Rattle.events.specs.Parts.{sightOf, seenBy, seenOf, tableAfter, withCounts, doneOf, carriedOut, gutiAfter, equivalentsAfter, suciAfter, keptAfter}
 use Rattle.events.specs.Step.{together, joinedOf, advanceOf, stepOf}
 use Rattle.validity.specs.Answered.{answeredBy}
 use Rattle.validity.specs.Reject.{seat, markedIn, recordAfter, rejectRecord}
-use Rattle.validity.proofs.Refusal.{carry, taken-plan, answer-told}
+use Rattle.validity.proofs.Refusal.{carry, taken-plan, step-taken}
 use Rattle.validity.proofs.Taken.{message-passed}
 use Rattle.validity.proofs.Own.{no-third, pendingSeen}
 
@@ -94,9 +93,6 @@ module _ (r : Record) (protected draw cause : ℕ) (octets : List ℕ) where
   -- the same of a step, which tests the record first
   pub step-reject : (w : ℕ) → readingOf octets ≡ reading.Reject cause → isTaken (stepOf r (Message w protected draw) octets .reply .answer) ≡ true
       → stepOf r (Message w protected draw) octets .next ≡ rejectRecord r w protected draw cause
-  unfolding stepOf refusedReply isTaken
-  step-reject w read taken = go (validOf r) refl
-    where
-      go : (b : Bool) → validOf r ≡ b → stepOf r (Message w protected draw) octets .next ≡ rejectRecord r w protected draw cause
-      go true v = rw v (reject-is w read (rw (answer-told r (Message w protected draw) octets) at (rw v at taken)))
-      go false v = absurd (false≢true (rw v at taken))
+  step-reject w read taken =
+      let v = step-taken r (Message w protected draw) octets taken in
+      rw (v .0) (reject-is w read (v .1))

@@ -1,7 +1,7 @@
 -- What is told of a taken reject is what its row's text orders: the text alone decides the orders, and the other access gets none. Assumes nothing.
 use Prim.Native.Nat.{ℕ, zero, suc}
 use mathlib.Core.Path.{_≡_, refl}
-use mathlib.Core.Bool.{Bool, true, false, false≢true}
+use mathlib.Core.Bool.{Bool, true, false}
 use mathlib.Core.List.{List}
 use lib.Dec.{ltb}
 use Rattle.messages.specs.declared.Reading.the-variants as reading
@@ -11,7 +11,6 @@ use Rattle.record.specs.declared.Record.{Record}
 use Rattle.record.specs.Answers.{isTaken}
 use Rattle.record.specs.Sides.{accessOf, otherOf}
 use Rattle.record.specs.Tests.{isFlag}
-use Rattle.ranges.specs.Valid.{validOf}
 use Rattle.turns.specs.Timers.{toldOf, clocksOf}
 use Rattle.turns.specs.Words.{Text, says, asT3510Out, Across, untouched, cardCounterToLimit, counterAfter, acrossOf}
 use Rattle.turns.specs.Rejects.{isUpdating, rowText}
@@ -20,12 +19,12 @@ use Rattle.checks.specs.Answers.{rowNow}
 use Rattle.effects.specs.Effects.{rejectEffect}
 use Rattle.rules.specs.declared.Event.the-variants.{Message}
 use Rattle.rules.specs.declared.Plan.{Plan}
-use Rattle.rules.specs.Plan.{accessIn, answerOf, messageEffect, effectOf, askOf, takenReply, allLeft, refusedReply, takenPlan}
+use Rattle.rules.specs.Plan.{accessIn, answerOf, messageEffect, effectOf, askOf, takenReply, allLeft, takenPlan}
 use Rattle.events.specs.Parts.{doneOf, carriedOut}
 use Rattle.events.specs.Step.{together, joinedOf, advanceOf, stepOf}
 use Rattle.validity.specs.Answered.{answeredBy}
 use Rattle.validity.specs.Reply.{ordersBy, rejectReply}
-use Rattle.validity.proofs.Refusal.{carry, taken-plan, answer-told}
+use Rattle.validity.proofs.Refusal.{carry, taken-plan, step-taken}
 use Rattle.validity.proofs.Taken.{message-passed}
 use Rattle.validity.proofs.Own.{no-third, pendingSeen}
 
@@ -69,9 +68,6 @@ module _ (r : Record) (protected draw cause : ℕ) (octets : List ℕ) where
   -- the same of a step, which tests the record first
   pub step-reject-reply : (w : ℕ) → readingOf octets ≡ reading.Reject cause → isTaken (stepOf r (Message w protected draw) octets .reply .answer) ≡ true
       → stepOf r (Message w protected draw) octets .reply ≡ rejectReply r w protected draw cause
-  unfolding stepOf refusedReply isTaken
-  step-reject-reply w read taken = go (validOf r) refl
-    where
-      go : (b : Bool) → validOf r ≡ b → stepOf r (Message w protected draw) octets .reply ≡ rejectReply r w protected draw cause
-      go true v = rw v (reject-reply w read (rw (answer-told r (Message w protected draw) octets) at (rw v at taken)))
-      go false v = absurd (false≢true (rw v at taken))
+  step-reject-reply w read taken =
+      let v = step-taken r (Message w protected draw) octets taken in
+      rw (v .0) (reject-reply w read (v .1))

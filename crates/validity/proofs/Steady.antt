@@ -11,22 +11,20 @@ use Rattle.messages.specs.declared.Reading.{Reading}
 use Rattle.messages.specs.declared.Reading.the-variants as reading
 use Rattle.messages.specs.Message.{readingOf}
 use Rattle.record.specs.declared.Access.{Access}
-use Rattle.record.specs.declared.Answer.{Answer}
-use Rattle.record.specs.declared.Answer.the-variants as answer
 use Rattle.record.specs.declared.Hot.{Hot}
 use Rattle.record.specs.declared.Record.{Record}
 use Rattle.record.specs.Answers.{isTaken}
 use Rattle.record.specs.New.{newDevice, newAccess, emptyRecord, newRecord}
 use Rattle.record.specs.Setters.{inState, withStatus, withAttempts, counted, pending, keyed, taught}
 use Rattle.record.specs.Sides.{accessOf, otherOf, hotOf}
-use Rattle.record.specs.Tests.{either, flip}
+use Rattle.record.specs.Tests.{either}
 use Rattle.ranges.specs.Valid.{validOf}
 use Rattle.turns.specs.declared.Turn.{Turn}
 use Rattle.turns.specs.Timers.{isDeviceTimer, runsOn, flagAfter, clocked}
 use Rattle.turns.specs.Words.{Across, untouched, cardCounterToLimit, acrossOf}
 use Rattle.turns.specs.Rejects.{rowText}
 use Rattle.turns.specs.Turns.{started, updated, keySet, accepted, t3511Out, t3502Out, otherTurned, otherTurn}
-use Rattle.checks.specs.Answers.{check, mayStart, startRange, placeAnswer, startAnswer, rowNow, runs}
+use Rattle.checks.specs.Answers.{mayStart, rowNow, runs}
 use Rattle.effects.specs.Effects.{Effect, ticked, cardEffect, startEffect, updateEffect, keyEffect, t3512Time, acceptT3512, acceptEffect, clockEffect, t3247Effect, t3512Effect, deviceEffect, timerEffect, powerEffect, rejectEffect}
 use Rattle.rules.specs.declared.Event.{Event}
 use Rattle.rules.specs.declared.Event.the-variants.{Card, Start, Message, Timer, Power, Key, Update, Unknown}
@@ -36,10 +34,10 @@ use Rattle.events.specs.Step.{together, joinedOf, stepOf}
 use Rattle.validity.specs.Answered.{seenAt, listedAt, answeredBy}
 use Rattle.validity.specs.Run.{Heard, runOf}
 use Rattle.validity.specs.Update.{Steady}
-use Rattle.validity.proofs.Bools.{either-second, either-left, either-first, check-passed, check-rest}
+use Rattle.validity.proofs.Bools.{either-second, either-left, either-first}
 use Rattle.validity.proofs.Good.{Good}
 use Rattle.validity.proofs.Valid.{valid-good}
-use Rattle.validity.proofs.Taken.{message-passed, timer-passed}
+use Rattle.validity.proofs.Taken.{start-passed, message-passed, timer-passed}
 use Rattle.validity.proofs.Refusal.{carry, effectIn, taken-plan, refused}
 
 -- access 0's turn, and what is so after an effect
@@ -56,16 +54,6 @@ plan-steady r octets w x k = go (eqb w 0) refl
     go : (b : Bool) → eqb w 0 ≡ b → Steady (carry r octets (takenPlan (r .hot) w x) .next)
     go true q = rw q (rw q at k)
     go false q = rw q (rw q at k)
-
-start-from : (h : Hot) (w manual net code : ℕ) (s : Seen) (listed : Bool) → isTaken (startAnswer h w manual net code s listed) ≡ true → mayStart (accessOf h w .state) ≡ true
-unfolding startAnswer isTaken
-start-from h w manual net code s listed q =
-    check-passed (mayStart (accessOf h w .state)) answer.State place refl
-    (check-rest (flip (eqb (accessOf h w .state) 0)) answer.StateZero (check (mayStart (accessOf h w .state)) answer.State place) refl
-    (check-rest (startRange w manual net code) answer.Range (check (flip (eqb (accessOf h w .state) 0)) answer.StateZero (check (mayStart (accessOf h w .state)) answer.State place)) refl q))
-  where
-    place : Answer
-    place = placeAnswer (otherOf h w) manual net s listed
 
 not-registered : (state : ℕ) → mayStart state ≡ true → eqb state 5 ≡ false
 unfolding mayStart
@@ -95,9 +83,9 @@ module _ (r : Record) (g : Good r) (s : Steady r) where
   in-four : eqb (h .a0 .state) 4 ≡ true → eqb (h .dev .t3512) 0 ≡ true
   in-four q = stopped (rw (eqb-true (h .a0 .state) 4 q))
 
-  start-steady : (w manual net code : ℕ) → mayStart (accessOf h w .state) ≡ true → Leaves h w (startEffect h w net code)
+  start-steady : (w net code : ℕ) → mayStart (accessOf h w .state) ≡ true → Leaves h w (startEffect h w net code)
   unfolding startEffect started pending inState flagAfter accessOf otherOf
-  start-steady w manual net code m = go (eqb w 0) refl
+  start-steady w net code m = go (eqb w 0) refl
     where
       go : (b : Bool) → eqb w 0 ≡ b → Leaves h w (startEffect h w net code)
       go true q = rw q (either-first (eqb (h .dev .t3512) 0) false (stopped (not-registered (h .a0 .state) (rw q at m))))
@@ -167,7 +155,7 @@ module _ (r : Record) (g : Good r) (s : Steady r) where
   unfolding answeredBy answerOf askOf accessIn effectOf cardEffect powerEffect flagAfter isTaken
   event-steady (Card home) octets t = refl
   event-steady (Start w manual net code) octets t =
-      start-steady w manual net code (start-from h w manual net code (seenAt r (Start w manual net code)) (listedAt r (Start w manual net code)) t)
+      start-steady w net code (start-passed h w manual net code (seenAt r (Start w manual net code)) (listedAt r (Start w manual net code)) t .4)
   event-steady (Message w protected draw) octets t = message-steady w protected draw (readingOf octets) _ (message-passed h w protected draw (readingOf octets) _ t .1)
   event-steady (Timer number w) octets t = timer-steady number w (timer-passed h number w t .2)
   event-steady Power octets t = refl

@@ -21,13 +21,14 @@ use Rattle.record.proofs.Bounds.{one, rest}
 use Rattle.validity.proofs.Bools.{flip-true, check-passed, check-rest}
 
 pub start-passed : (h : Hot) (w manual net code : ℕ) (s : Seen) (listed : Bool) → isTaken (startAnswer h w manual net code s listed) ≡ true
-    → (isFlag w ≡ true) × (isNetwork net ≡ true) × (isShort code ≡ true) × (eqb (accessOf h w .state) 0 ≡ false)
+    → (isFlag w ≡ true) × (isNetwork net ≡ true) × (isShort code ≡ true) × (eqb (accessOf h w .state) 0 ≡ false) × (mayStart (accessOf h w .state) ≡ true)
 unfolding startAnswer startRange isTaken
 start-passed h w manual net code s listed q = (
   one (isFlag w) (both (isFlag manual) (both (isNetwork net) (isShort code))) range,
   one (isNetwork net) (isShort code) place,
   rest (isNetwork net) (isShort code) place,
-  flip-true (eqb (accessOf h w .state) 0) (check-passed (flip (eqb (accessOf h w .state) 0)) answer.StateZero third refl (check-rest (startRange w manual net code) answer.Range second refl q)),
+  flip-true (eqb (accessOf h w .state) 0) (check-passed (flip (eqb (accessOf h w .state) 0)) answer.StateZero third refl carded),
+  check-passed (mayStart (accessOf h w .state)) answer.State (placeAnswer (otherOf h w) manual net s listed) refl (check-rest (flip (eqb (accessOf h w .state) 0)) answer.StateZero third refl carded),
 )
   where
     third : Answer
@@ -35,6 +36,9 @@ start-passed h w manual net code s listed q = (
 
     second : Answer
     second = check (flip (eqb (accessOf h w .state) 0)) answer.StateZero third
+
+    carded : isTaken second ≡ true
+    carded = check-rest (startRange w manual net code) answer.Range second refl q
 
     range : both (isFlag w) (both (isFlag manual) (both (isNetwork net) (isShort code))) ≡ true
     range = check-passed (startRange w manual net code) answer.Range second refl q

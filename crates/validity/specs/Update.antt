@@ -50,9 +50,9 @@ numbered h r = record {
   security = r .security;
 }
 
--- T3512, and whether a periodic update is due; the time kept stays, as all else of the device
-abbrev deviceWith : ℕ → ℕ → Record → Hot → Hot
-deviceWith t3512 due r h = record {
+-- both accesses, T3512, and whether a periodic update is due; the time kept stays, as all else of the device
+abbrev numbersWith : Access → Access → ℕ → ℕ → Record → Hot
+numbersWith a0 a1 t3512 due r = record {
   dev = record {
     card = r .hot .dev .card;
     home = r .hot .dev .home;
@@ -69,22 +69,25 @@ deviceWith t3512 due r h = record {
     roaming = r .hot .dev .roaming;
     regional = r .hot .dev .regional;
   };
-  a0 = h .a0;
-  a1 = h .a1;
+  a0 = a0;
+  a1 = a1;
 }
 
 -- An update over access w: "on access 0 also T3512" stops
 unfoldable pub updateRecord : Record → ℕ → ℕ → ℕ → ℕ → ℕ → ℕ → Record
 updateRecord r w regtype net code uplink sessions =
-    numbered (deviceWith (cond (eqb w 0) 0 (r .hot .dev .t3512)) (r .hot .dev .due) r (record {
-      dev = r .hot .dev;
-      a0 = cond (eqb w 0) (accessUpdating regtype net code uplink sessions (r .hot .a0)) (r .hot .a0);
-      a1 = cond (eqb w 0) (r .hot .a1) (accessUpdating regtype net code uplink sessions (r .hot .a1));
-    })) r
+    numbered
+    (numbersWith
+    (cond (eqb w 0) (accessUpdating regtype net code uplink sessions (r .hot .a0)) (r .hot .a0))
+    (cond (eqb w 0) (r .hot .a1) (accessUpdating regtype net code uplink sessions (r .hot .a1)))
+    (cond (eqb w 0) 0 (r .hot .dev .t3512))
+    (r .hot .dev .due)
+    r)
+    r
 
 -- "T3512 out stops it and makes a periodic update due"
 unfoldable pub t3512Record : Record → Record
-t3512Record r = numbered (deviceWith 0 1 r (r .hot)) r
+t3512Record r = numbered (numbersWith (r .hot .a0) (r .hot .a1) 0 1 r) r
 
 -- T3512 runs only while access 0 is registered
 abbrev pub Steady : Record → Type 0
