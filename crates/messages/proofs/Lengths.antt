@@ -8,8 +8,8 @@ use lib.ListN.{getD}
 use Rattle.octets.specs.declared.Part.{Part}
 use Rattle.timers.specs.declared.Span.{Span}
 use Rattle.timers.specs.declared.Span.the-variants.{Off, Seconds}
-use Rattle.timers.specs.Timer.{spanOf, span3Of}
-use Rattle.timers.proofs.Rows.{Within, span-fits, span3-fits}
+use Rattle.timers.specs.Timer.{span2Of, span3Of}
+use Rattle.timers.proofs.Rows.{Within, span2-fits, span3-fits}
 use Rattle.messages.specs.Message.{t3502Of, pacedOf, t3512Of, secondsOf}
 
 seconds-fit : (most : ℕ) (s : Span) → Within most s → secondsOf s ≤ most
@@ -18,10 +18,10 @@ seconds-fit most (Seconds n) h = h
 
 pub t3502-fits : (s : List ℕ) (p : Part) → secondsOf (t3502Of s p) ≤ 11160
 unfolding t3502Of
-t3502-fits s p = elim (p .held) as (λ b. secondsOf (cond b (cond (eqb (p .len) 0) Off (spanOf (getD s (p .start) 0))) Off) ≤ 11160) [
-  | true ↦ elim (eqb (p .len) 0) as (λ b. secondsOf (cond b Off (spanOf (getD s (p .start) 0))) ≤ 11160) [
+t3502-fits s p = elim (p .held) as (λ b. secondsOf (cond b (cond (eqb (p .len) 0) Off (span2Of (getD s (p .start) 0))) Off) ≤ 11160) [
+  | true ↦ elim (eqb (p .len) 0) as (λ b. secondsOf (cond b Off (span2Of (getD s (p .start) 0))) ≤ 11160) [
     | true ↦ omega arith
-    | false ↦ seconds-fit 11160 (spanOf (getD s (p .start) 0)) (span-fits (getD s (p .start) 0))
+    | false ↦ seconds-fit 11160 (span2Of (getD s (p .start) 0)) (span2-fits (getD s (p .start) 0))
   ]
   | false ↦ omega arith
 ]

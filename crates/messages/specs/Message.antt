@@ -12,7 +12,7 @@ use Rattle.octets.specs.declared.Ending.the-variants.{Broken, Whole}
 use Rattle.octets.specs.Element.{Elements, elementsFrom, absent, firstOf, endOf}
 use Rattle.timers.specs.declared.Span.{Span}
 use Rattle.timers.specs.declared.Span.the-variants.{Off, Seconds}
-use Rattle.timers.specs.Timer.{spanOf, span3Of}
+use Rattle.timers.specs.Timer.{span2Of, span3Of}
 use Rattle.messages.specs.declared.Accept.{Accept}
 use Rattle.messages.specs.declared.Reading.{Reading}
 use Rattle.messages.specs.declared.Reading.the-variants as reading
@@ -33,7 +33,7 @@ tripletsOf p = cond (eqb (countOf p) 0) 0 (p .start)
 
 -- 16 T3502: its first octet is a timer octet; one too short is absent, as a deactivated one is
 unfoldable pub t3502Of : List ℕ → Part → Span
-t3502Of s p = cond (p .held) (cond (eqb (p .len) 0) Off (spanOf (getD s (p .start) 0))) Off
+t3502Of s p = cond (p .held) (cond (eqb (p .len) 0) Off (span2Of (getD s (p .start) 0))) Off
 
 -- 5E T3512: its first octet is a timer octet; one too short is absent
 abbrev pub pacedOf : Part → Bool

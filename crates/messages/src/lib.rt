@@ -4,7 +4,7 @@ ghost use mathlib.Core.Bool.{cond, false};
 ghost use Prim.Native.Nat.{_≤_};
 ghost use lib.ListN.{getD};
 ghost use Rattle.octets.specs.Element.{Elements, elementsFrom, firstOf};
-ghost use Rattle.timers.specs.Timer.{spanOf};
+ghost use Rattle.timers.specs.Timer.{span2Of};
 ghost use Rattle.messages.specs.Message.{gutiOf, countOf, t3502Of, pacedOf, t3512Of, timedOf, secondsOf, acceptOf, acceptedOf, acceptReading, rejectReading, typeReading, readingOf, faultNumber, causeOf, timerSeconds};
 use octets::Ending;
 use octets::Fault;
@@ -103,7 +103,7 @@ fn t3502(msg: &[u8], p: Part) -> Span
         if p.len == 0 {
             return Span::Off;
         }
-        return timers::timer(octet(msg, p.start));
+        return timers::timer2(octet(msg, p.start));
     }
     Span::Off
 }
@@ -282,9 +282,9 @@ pub extern "C" fn reject_cause(msg: &[u8]) -> u32
 
 #[no_mangle]
 pub extern "C" fn timer_seconds(octet: u8) -> u32
-    ensures { λ r. ⌜ r ≡ timerSeconds (spanOf octet) ⌝ }
+    ensures { λ r. ⌜ r ≡ timerSeconds (span2Of octet) ⌝ }
 {
-    match timers::timer(octet) {
+    match timers::timer2(octet) {
         Span::Off => 65535,
         Span::Seconds(n) => n,
     }

@@ -12,16 +12,16 @@ returns c = rw (c .before .before .if1 .taken, eq-eqb _ _ (c .if2 .taken))
 octet-requires : tie.Need-octet-requires
 octet-requires c κs = search needs
 
-timer-requires : tie.Need-timer-requires
-timer-requires c κs = search needs
+timer2-requires : tie.Need-timer2-requires
+timer2-requires c κs = search needs
 
 returns-2 : tie.Need-returns-2
 unfolding t3502Of
-returns-2 c = rw (c .before .before .before .before .if1 .taken, ne-eqb _ _ (c .before .before .if2 .left), ← c .before .octet .ensures, c .timer .ensures)
+returns-2 c = rw (c .before .before .before .before .if1 .taken, ne-eqb _ _ (c .before .before .if2 .left), ← c .before .octet .ensures, c .timer2 .ensures)
 
 returns-3 : tie.Need-returns-3
 unfolding t3502Of
 returns-3 c = rw (c .if1 .left)
 
 pub t3502-spec : {M : Type 1} → statement M
-t3502-spec = tie.close (tie.spec returns octet-requires timer-requires returns-2 returns-3)
+t3502-spec = tie.close (tie.spec returns octet-requires timer2-requires returns-2 returns-3)

@@ -1,10 +1,10 @@
--- `messages::timer_seconds` meets its contract: what `timers::timer` ensures, by the two cases of a span. Assumes nothing.
+-- `messages::timer_seconds` meets its contract: what `timers::timer2` ensures, by the two cases of a span. Assumes nothing.
 use borrow.Author.Needs.{needs}
 use Rattle.messages.proofs.timer_seconds.Statement.{statement}
 use Rattle.messages.proofs.timer_seconds.Tie as tie
 
-timer-requires : tie.Need-timer-requires
-timer-requires c κs = search needs
+timer2-requires : tie.Need-timer2-requires
+timer2-requires c κs = search needs
 
 enum-told : tie.Need-enum-told
 enum-told c = search needs
@@ -13,10 +13,10 @@ enum-known-n : tie.Need-enum-known-n
 enum-known-n c = search needs
 
 returns : tie.Need-returns
-returns c = rw (← c .before .before .timer .ensures, c .enum-told .given .1)
+returns c = rw (← c .before .before .timer2 .ensures, c .enum-told .given .1)
 
 returns-2 : tie.Need-returns-2
-returns-2 c = rw (← c .before .before .before .timer .ensures, c .before .n .given .1)
+returns-2 c = rw (← c .before .before .before .timer2 .ensures, c .before .n .given .1)
 
 pub timer-seconds-spec : {M : Type 1} → statement M
-timer-seconds-spec = tie.close (tie.spec timer-requires enum-told enum-known-n returns returns-2)
+timer-seconds-spec = tie.close (tie.spec timer2-requires enum-told enum-known-n returns returns-2)

@@ -1,6 +1,8 @@
 -- `timers::unit3` meets its contract: the table's numbers do what the rows do, shown once for all eight. Assumes nothing.
 use borrow.Author.Needs.{needs}
-use Rattle.timers.proofs.Rows.{right3, most3}
+use native.Mathlib.Omega.{arith}
+use Rattle.timers.specs.Timer.{timer3Rows}
+use Rattle.timers.proofs.Rows.{right-at, most-at, numbers3, right3, most3}
 use Rattle.timers.proofs.unit3.Statement.{statement}
 use Rattle.timers.proofs.unit3.Tie as tie
 
@@ -14,7 +16,7 @@ array-read-result : tie.Need-array-read-result
 array-read-result c = search needs
 
 returns : tie.Need-returns
-returns c = ((λ n. rw (← c .index .ensures) (right3 n (c .index .result))), most3 (c .index .result))
+returns c = rw (← c .index .ensures) (right-at timer3Rows numbers3 (c .index .result) right3, omega (arith, most-at _ numbers3 (c .index .result) most3))
 
 pub unit3-spec : {M : Type 1} → statement M
 unit3-spec = tie.close (tie.spec index-requires mul-result array-read-result returns)
