@@ -14,7 +14,13 @@
 
 /*
  * The cause of a registration reject, msg[0] to msg[len - 1]: 0 to 255.
- * For any other message it is 256 plus the refusal's number: 259 for one that is malformed or is no reject, an accept too.
+ * For any other message it is 256 plus the refusal's number; of several faults the one at the lowest offset, at a tie the lower number:
+ *   269  fewer than the fixed octets
+ *   270  octet 1 not 7E
+ *   271  octet 2 not 00
+ *   272  type not one this call reads, which is 44 alone: an accept too, whatever lies behind its type
+ *   273  an element past the end
+ *   274  an unknown element that must be understood (00 to 0F)
  */
 uint32_t reject_cause(const uint8_t *msg, size_t len);
 
@@ -120,8 +126,13 @@ struct tjernfaug_timers {
     struct tjernfaug_timer t3502;
 };
 
-/* What firmware is to do after an event: the timers of access 0 and of access 1, T3247, T3512, and the requests, each 0 for none, else 1 plus the access that it is meant for. */
+/*
+ * What firmware is to do after an event: the timers of access 0 and of access 1, T3247, T3512, and the requests, each 0 for none, else 1 plus the access that it is meant for.
+ * offset: which octet of a message was bad, counted from 0 in the message and not in the event's body; 0 where the answer is none of 13 to 18.
+ * The octets behind update have no meaning and may change at any event.
+ */
 struct tjernfaug_notice {
+    size_t offset;
     struct tjernfaug_timers c0;
     struct tjernfaug_timers c1;
     struct tjernfaug_timer t3247;
@@ -134,8 +145,8 @@ struct tjernfaug_notice {
 /* The library's layout on x86-64; tests/c/run holds the library to it. */
 _Static_assert(sizeof(struct tjernfaug_record) == 1224, "the record's size");
 _Static_assert(_Alignof(struct tjernfaug_record) == 8, "the record's alignment");
-_Static_assert(sizeof(struct tjernfaug_notice) == 76, "the notice's size");
-_Static_assert(_Alignof(struct tjernfaug_notice) == 4, "the notice's alignment");
+_Static_assert(sizeof(struct tjernfaug_notice) == 88, "the notice's size");
+_Static_assert(_Alignof(struct tjernfaug_notice) == 8, "the notice's alignment");
 
 /*
  * A new record with these limits (1 to 10), 5GMM capability (1 to 13 octets) and UE security capability (2 to 8 octets), over any octets that r held.
@@ -154,6 +165,13 @@ uint32_t tjernfaug_new(struct tjernfaug_record *r, uint8_t cardlimit, uint8_t ba
  *   6 key      access, set
  *   7 update   access, type (2 mobility, 3 periodic), network (3), area code (3), uplink data status (2), PDU session status (2), as sent, session 0 clear
  * The answer's number, 0 for taken. Every answer but 0 leaves r as it was; notice is always written.
+ * A message at fault is answered by its fault, and the notice's offset tells the octet; of several faults the one at the lowest offset, at a tie the lower number:
+ *   13  fewer than the fixed octets: the message's length, or 3, the length octet of an accept whose result has length 0
+ *   14  octet 1 not 7E: 0
+ *   15  octet 2 not 00: 1
+ *   16  type not one this call reads, which are 42 and 44: 2
+ *   17  an element past the end: its identifier
+ *   18  an unknown element that must be understood (00 to 0F): its identifier
  */
 uint32_t tjernfaug_event(struct tjernfaug_record *r, uint32_t kind, const uint8_t *body, size_t len,
                          struct tjernfaug_notice *notice);

@@ -1,13 +1,15 @@
 // The whole reply and the whole record as a line of text, for `--full`.
 //
 // One line after each event's line, three parts split by ` | `, words split by spaces:
-//   = ANSWER T3510 C C T3511 C C T3502 C C T3247 C T3512 C restart A leave A update A
+//   = ANSWER at OFFSET T3510 C C T3511 C C T3502 C C T3247 C T3512 C restart A leave A
+//     update A
 //   | card C home HEX suci HEX limits CARD BAN N1 cap HEX sec HEX T3247 B T3512 B
 //     length SECONDS due B roaming AREAS regional AREAS
 //   | 0 state N status N attempts N T3510 B T3511 B T3502 B length SECONDS
 //     pending HEX type N uplink HEX sessions HEX guti HEX last HEX ksi N
 //     equivalents NETWORKS cards N entries ENTRIES
 //   | 1 ... (the same for access 1)
+// OFFSET: of the octet at fault for answers 13 to 18, else 0.
 // C of a timer, access 0 then 1: `left`, `stopped` or `started:SECONDS`. A: the access a
 // request is meant for, or `-`. B, C of the card: 0 or 1. HEX: lower case, `-` if none;
 // uplink and sessions are the two octets as sent, 0000 for no session. The length before
@@ -67,7 +69,7 @@ fn asked(text: &mut String, name: &str, access: Option<u8>) {
 }
 
 pub fn reply(text: &mut String, reply: &Reply) {
-    put!(text, "= {}", reply.answer);
+    put!(text, "= {} at {}", reply.answer, reply.offset);
     for (kind, name) in ["T3510", "T3511", "T3502"].iter().enumerate() {
         put!(text, " {name}");
         change(text, reply.timers[2 * kind]);

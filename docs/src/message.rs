@@ -1,4 +1,26 @@
-// Reading accepts and rejects: the optional elements and the timer octets.
+// Reading accepts and rejects: which octet is at fault, the optional elements and the timer octets.
+
+/// Why a message is not read, by request R-1's number, and the offset of the octet at fault.
+#[derive(Clone, Copy, PartialEq, Debug)]
+pub struct Fault {
+    pub number: u8,
+    pub at: usize,
+}
+
+// The numbers of faults.
+
+/// Fewer than the fixed octets, or an accept whose result has length 0.
+pub const CUT: u8 = 13;
+/// Octet 1 not 7E.
+pub const FIRST: u8 = 14;
+/// Octet 2 not 00.
+pub const SECOND: u8 = 15;
+/// Type not one this call reads.
+pub const KIND: u8 = 16;
+/// An element past the end.
+pub const PAST: u8 = 17;
+/// An unknown element that must be understood.
+pub const STRANGE: u8 = 18;
 
 /// What an accept says; `equivalents` are whole triplets or less than one.
 pub struct Accept<'a> {
@@ -31,12 +53,10 @@ fn take<'a>(rest: &mut &'a [u8], count: usize) -> Option<&'a [u8]> {
     Some(first)
 }
 
-/// Takes the next element off `rest`, which is not empty: identifier and contents.
-/// None if it runs past the end or is one of 00 to 0F.
-pub fn element<'a>(rest: &mut &'a [u8], within: Within) -> Option<(u8, &'a [u8])> {
+/// Takes the next element off `rest`, which is not empty: its contents, None if past the end.
+fn contents<'a>(rest: &mut &'a [u8], within: Within) -> Option<&'a [u8]> {
     let identifier = take(rest, 1)?[0];
     let length = match identifier {
-        0x00..=0x0F => return None,
         0x52 if within == Within::Request => 6,
         0x70..=0x7F => {
             let length = take(rest, 2)?;
@@ -45,7 +65,23 @@ pub fn element<'a>(rest: &mut &'a [u8], within: Within) -> Option<(u8, &'a [u8])
         0x80..=0xFF => 0,
         _ => take(rest, 1)?[0] as usize,
     };
-    Some((identifier, take(rest, length)?))
+    take(rest, length)
+}
+
+/// Takes the next element off `rest`, what is left of `octets` and not empty: its identifier
+/// and contents. Of two faults at one identifier past the end is told, the lower number.
+pub fn element<'a>(
+    octets: &[u8],
+    rest: &mut &'a [u8],
+    within: Within,
+) -> Result<(u8, &'a [u8]), Fault> {
+    let at = octets.len() - rest.len();
+    let identifier = rest[0];
+    let contents = contents(rest, within).ok_or(Fault { number: PAST, at })?;
+    match identifier {
+        0x00..=0x0F => Err(Fault { number: STRANGE, at }),
+        _ => Ok((identifier, contents)),
+    }
 }
 
 /// GPRS timer 2 in seconds; None is deactivated.
@@ -76,38 +112,62 @@ pub fn long_seconds(octet: u8) -> Option<u32> {
     UNITS[(octet >> 5) as usize].map(|unit| unit * (octet & 31) as u32)
 }
 
-/// An accept or a reject; None if malformed or of another type.
-pub fn read(octets: &[u8]) -> Option<Message<'_>> {
+/// The fault of a cut message, at its length.
+pub fn cut(octets: &[u8]) -> Fault {
+    Fault { number: CUT, at: octets.len() }
+}
+
+/// The fault of a message that is cut or has a wrong octet among its first three: the first one
+/// that is missing or wrong. `reads` tells the types that the call reads.
+#[cold]
+pub fn head_fault(octets: &[u8], reads: fn(u8) -> bool) -> Fault {
     match octets {
-        [0x7E, 0, 0x42, rest @ ..] => accept(rest).map(Message::Accept),
-        [0x7E, 0, 0x44, cause, rest @ ..] => reject(rest).then_some(Message::Reject(*cause)),
-        _ => None,
+        [first, ..] if *first != 0x7E => Fault { number: FIRST, at: 0 },
+        [_, second, ..] if *second != 0x00 => Fault { number: SECOND, at: 1 },
+        [_, _, third, ..] if !reads(*third) => Fault { number: KIND, at: 2 },
+        _ => cut(octets),
+    }
+}
+
+/// An accept or a reject, or its fault of the lowest offset.
+pub fn read(octets: &[u8]) -> Result<Message<'_>, Fault> {
+    match octets {
+        [0x7E, 0, 0x42, rest @ ..] => accept(octets, rest).map(Message::Accept),
+        [0x7E, 0, 0x44, cause, rest @ ..] => {
+            reject(octets, rest)?;
+            Ok(Message::Reject(*cause))
+        }
+        _ => Err(head_fault(octets, |kind| matches!(kind, 0x42 | 0x44))),
     }
 }
 
 /// No element of a reject is known, but all must be in order.
-fn reject(mut rest: &[u8]) -> bool {
+fn reject(octets: &[u8], mut rest: &[u8]) -> Result<(), Fault> {
     while !rest.is_empty() {
-        if element(&mut rest, Within::Other).is_none() {
-            return false;
-        }
+        element(octets, &mut rest, Within::Other)?;
     }
-    true
+    Ok(())
+}
+
+/// The elements of an accept, behind its result: a length of at least 1 and so many octets.
+fn behind_result<'a>(octets: &[u8], mut rest: &'a [u8]) -> Result<&'a [u8], Fault> {
+    let length = take(&mut rest, 1).ok_or(cut(octets))?[0];
+    if length == 0 {
+        return Err(Fault { number: CUT, at: 3 });
+    }
+    take(&mut rest, length as usize).ok_or(cut(octets))?;
+    Ok(rest)
 }
 
 /// The first of a repeat counts, even where it reads as absent.
-fn accept(mut rest: &[u8]) -> Option<Accept<'_>> {
-    let length = take(&mut rest, 1)?[0] as usize;
-    if length == 0 {
-        return None;
-    }
-    take(&mut rest, length)?;
+fn accept<'a>(octets: &[u8], rest: &'a [u8]) -> Result<Accept<'a>, Fault> {
+    let mut rest = behind_result(octets, rest)?;
     let mut guti = None;
     let mut equivalents = None;
     let mut t3502 = None;
     let mut t3512 = None;
     while !rest.is_empty() {
-        match element(&mut rest, Within::Other)? {
+        match element(octets, &mut rest, Within::Other)? {
             (0x77, contents) => guti = guti.or(Some(contents)),
             (0x4A, contents) => equivalents = equivalents.or(Some(contents)),
             (0x16, contents) => t3502 = t3502.or(Some(contents)),
@@ -115,7 +175,7 @@ fn accept(mut rest: &[u8]) -> Option<Accept<'_>> {
             _ => {}
         }
     }
-    Some(Accept {
+    Ok(Accept {
         guti: match guti {
             Some([0xF2, rest @ ..]) => rest.first_chunk().copied(),
             _ => None,

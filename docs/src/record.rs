@@ -1,5 +1,5 @@
-// The registration record of document 01 with the updates of request R-5, and its seven
-// events, updated in place.
+// The registration record of document 01 with the updates of request R-5 and the faults of
+// R-1, and its seven events, updated in place.
 
 use crate::message::{self, Accept, Message};
 
@@ -12,7 +12,8 @@ pub type Guti = [u8; 10];
 pub const TAKEN: u8 = 0;
 pub const RANGE: u8 = 1;
 pub const IGNORED: u8 = 2;
-pub const MALFORMED: u8 = 3;
+/// A well-formed request that breaks the layout; no event is answered so.
+pub const UNFIT: u8 = 3;
 pub const FULL: u8 = 4;
 pub const NO_CARD: u8 = 5;
 pub const STATE: u8 = 6;
@@ -198,6 +199,8 @@ pub enum Change {
 #[derive(Clone, Copy, PartialEq, Debug)]
 pub struct Reply {
     pub answer: u8,
+    /// Of the octet at fault, for answers 13 to 18; else 0.
+    pub offset: usize,
     pub timers: [Change; TIMERS],
     pub restart: Option<u8>,
     pub leave: Option<u8>,
@@ -206,7 +209,14 @@ pub struct Reply {
 
 impl Reply {
     pub const fn of(answer: u8) -> Reply {
-        Reply { answer, timers: [Change::Left; TIMERS], restart: None, leave: None, update: None }
+        Reply {
+            answer,
+            offset: 0,
+            timers: [Change::Left; TIMERS],
+            restart: None,
+            leave: None,
+            update: None,
+        }
     }
 
     fn stop(&mut self, timer: usize, running: &mut bool) {
@@ -521,10 +531,10 @@ impl Record {
             return Reply::of(STATE);
         }
         match message::read(octets) {
-            None => Reply::of(MALFORMED),
-            Some(Message::Accept(_)) if protected == 0 => Reply::of(UNPROTECTED),
-            Some(Message::Accept(accept)) => self.accept(a, &accept),
-            Some(Message::Reject(cause)) => self.reject(a, cause, protected == 1, draw),
+            Err(fault) => Reply { offset: fault.at, ..Reply::of(fault.number) },
+            Ok(Message::Accept(_)) if protected == 0 => Reply::of(UNPROTECTED),
+            Ok(Message::Accept(accept)) => self.accept(a, &accept),
+            Ok(Message::Reject(cause)) => self.reject(a, cause, protected == 1, draw),
         }
     }
 

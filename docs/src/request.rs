@@ -1,8 +1,8 @@
 // The registration request: choosing the identity, writing and reading back.
 
-use crate::message::{element, Within};
+use crate::message::{cut, element, head_fault, Fault, Within};
 use crate::record::{
-    network_of, Network, Record, INITIAL, INITIATED, MALFORMED, PERIODIC, RANGE, SHORT, STATE,
+    network_of, Network, Record, INITIAL, INITIATED, PERIODIC, RANGE, SHORT, STATE, UNFIT,
 };
 use std::ops::Range;
 
@@ -112,26 +112,23 @@ fn statuses(contents: Range<usize>) -> Option<Range<usize>> {
     (contents.len() >= 2).then_some(contents.start..contents.start + 2)
 }
 
-/// Reads a request back, elements in any order; all that breaks the layout is answer 3.
-pub fn read(octets: &[u8]) -> Result<Request, u8> {
-    parse(octets).ok_or(MALFORMED)
-}
-
-/// Whether an identity of `length` octets, of one of the two kinds, stands whole at the front.
-fn identified(rest: &[u8], length: usize) -> bool {
-    let fits = match rest.first() {
-        Some(0xF2) => length == 11,
-        Some(0x01) => (9..=64).contains(&length),
-        _ => false,
+/// Reads a request back, elements in any order. A fault is told before answer 3, which is for a
+/// well-formed request that breaks the layout and names no octet.
+pub fn read(octets: &[u8]) -> Result<Request, Fault> {
+    let [0x7E, 0, 0x41, fourth, high, low, rest @ ..] = octets else {
+        return Err(head_fault(octets, |kind| kind == 0x41));
     };
-    fits && length <= rest.len()
+    let length = u16::from_be_bytes([*high, *low]) as usize;
+    let (identity, rest) = rest.split_at_checked(length).ok_or(cut(octets))?;
+    let first = elements(octets, rest)?;
+    request(*fourth, identity, first).ok_or(Fault { number: UNFIT, at: 0 })
 }
 
-/// Where the contents of the first 10, 2E, 52, 40 and 50 lie; None if an element is malformed.
-fn elements(octets: &[u8], mut rest: &[u8]) -> Option<[Option<Range<usize>>; 5]> {
+/// Where the contents of the first 10, 2E, 52, 40 and 50 lie.
+fn elements(octets: &[u8], mut rest: &[u8]) -> Result<[Option<Range<usize>>; 5], Fault> {
     let mut first = [const { None }; 5];
     while !rest.is_empty() {
-        let (identifier, contents) = element(&mut rest, Within::Request)?;
+        let (identifier, contents) = element(octets, &mut rest, Within::Request)?;
         let end = octets.len() - rest.len();
         let kind = match identifier {
             0x10 => 0,
@@ -143,20 +140,25 @@ fn elements(octets: &[u8], mut rest: &[u8]) -> Option<[Option<Range<usize>>; 5]>
         };
         first[kind].get_or_insert(end - contents.len()..end);
     }
-    Some(first)
+    Ok(first)
 }
 
-fn parse(octets: &[u8]) -> Option<Request> {
-    let [0x7E, 0, 0x41, fourth, high, low, rest @ ..] = octets else { return None };
+/// Whether an identity is of one of the two kinds, with its length.
+fn identified(identity: &[u8]) -> bool {
+    match identity {
+        [0xF2, guti @ ..] => guti.len() == 10,
+        [0x01, ..] => (9..=64).contains(&identity.len()),
+        _ => false,
+    }
+}
+
+/// A well-formed request's parts; None if they break the layout.
+fn request(fourth: u8, identity: &[u8], first: [Option<Range<usize>>; 5]) -> Option<Request> {
     let (ksi, regtype) = (fourth >> 4, fourth & 15);
-    if !(INITIAL..=PERIODIC).contains(&regtype) || ksi > 7 {
+    if !(INITIAL..=PERIODIC).contains(&regtype) || ksi > 7 || !identified(identity) {
         return None;
     }
-    let length = u16::from_be_bytes([*high, *low]) as usize;
-    if !identified(rest, length) {
-        return None;
-    }
-    let [capability, security, area, uplink, sessions] = elements(octets, &rest[length..])?;
+    let [capability, security, area, uplink, sessions] = first;
     let capability = capability.filter(|part| !part.is_empty());
     let security = security.filter(|part| part.len() >= 2)?;
     if capability.as_ref().is_some_and(|part| part.len() > 13) || security.len() > 8 {
@@ -165,7 +167,7 @@ fn parse(octets: &[u8]) -> Option<Request> {
     Some(Request {
         regtype,
         ksi,
-        identity: 6..6 + length,
+        identity: 6..6 + identity.len(),
         capability,
         security,
         area,

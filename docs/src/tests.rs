@@ -1,9 +1,10 @@
-// Scenarios worked out by hand from document 01 and request R-5: rustc --test docs/src/main.rs
+// Scenarios worked out by hand from document 01 and requests R-1 and R-5: rustc --test docs/src/main.rs
 
 use crate::log::{apply, Input, Next};
-use crate::message::{self, Message};
+use crate::message::{self, Fault, Message};
 use crate::record::*;
 use crate::request;
+use std::collections::BTreeMap;
 use std::io::{self, Read};
 
 const HOME: Network = [0x00, 0xF1, 0x10];
@@ -410,9 +411,14 @@ fn a_full_table_takes_what_needs_no_entry() {
     assert_eq!(record.access[0].entries[0].ban, 2);
 }
 
+/// The reply to a message with a fault.
+fn faulty(number: u8, at: usize) -> Reply {
+    Reply { offset: at, ..Reply::of(number) }
+}
+
 fn cause(octets: &[u8]) -> Option<u8> {
     match message::read(octets) {
-        Some(Message::Reject(cause)) => Some(cause),
+        Ok(Message::Reject(cause)) => Some(cause),
         _ => None,
     }
 }
@@ -468,7 +474,7 @@ type Said = (Option<Guti>, Vec<u8>, Option<u16>);
 
 fn said(octets: &[u8]) -> Option<Said> {
     match message::read(octets) {
-        Some(Message::Accept(accept)) => {
+        Ok(Message::Accept(accept)) => {
             Some((accept.guti, accept.equivalents.to_vec(), accept.t3502))
         }
         _ => None,
@@ -570,20 +576,20 @@ fn messages_are_checked_in_order() {
     let reject = [0x7E, 0x00, 0x44, 0x0B];
     let accept = [0x7E, 0x00, 0x42, 0x01, 0x01];
     let before = text(&record);
-    for (access, protected, draw, octets, answer) in [
-        (2, 0, 1800, &reject[..], 1),
-        (0, 2, 1800, &reject, 1),
-        (0, 0, 1799, &reject, 1),
-        (0, 1, 3601, &accept, 1),
-        (1, 0, 1799, &[], 1),
-        (1, 0, 1800, &reject, 6),
-        (1, 0, 1800, &[], 6),
-        (0, 0, 1800, &[], 3),
-        (0, 0, 1800, &accept[..4], 3),
-        (0, 1, 1800, &[0x7E, 0x00, 0x41, 0x71], 3),
-        (0, 0, 1800, &accept, 10),
+    for (access, protected, draw, octets, refused) in [
+        (2, 0, 1800, &reject[..], Reply::of(1)),
+        (0, 2, 1800, &reject, Reply::of(1)),
+        (0, 0, 1799, &reject, Reply::of(1)),
+        (0, 1, 3601, &accept, Reply::of(1)),
+        (1, 0, 1799, &[], Reply::of(1)),
+        (1, 0, 1800, &reject, Reply::of(6)),
+        (1, 0, 1800, &[], Reply::of(6)),
+        (0, 0, 1800, &[], faulty(13, 0)),
+        (0, 0, 1800, &accept[..4], faulty(13, 4)),
+        (0, 1, 1800, &[0x7E, 0x00, 0x41, 0x71], faulty(16, 2)),
+        (0, 0, 1800, &accept, Reply::of(10)),
     ] {
-        assert_eq!(record.message(access, protected, draw, octets), Reply::of(answer));
+        assert_eq!(record.message(access, protected, draw, octets), refused);
         assert_eq!(text(&record), before);
     }
     assert_eq!(record.message(0, 0, 3600, &reject).timers[T3247], Change::Started(3600));
@@ -972,10 +978,12 @@ fn identities() {
 }
 
 /// A request with this octet 4, this identity behind its length, and these elements, read.
-fn with(fourth: &str, identity: &str, rest: &str) -> Result<request::Request, u8> {
+fn with(fourth: &str, identity: &str, rest: &str) -> Result<request::Request, Fault> {
     request::read(&octets(&format!("7E 00 41 {fourth} {identity} {rest}")))
 }
 
+/// A well-formed request that breaks the layout.
+const BREAKS: Result<request::Request, Fault> = Err(Fault { number: 3, at: 0 });
 const SENT_SUCI: &str = "00 09 01 00 F1 10 F0 FF 00 00 07";
 
 #[test]
@@ -983,7 +991,7 @@ fn requests_read_back() {
     let (suci, security) = (SENT_SUCI, "2E 02 F0 F0");
     assert!(with("71", suci, security).is_ok());
     for fourth in ["74", "81", "82", "F1", "F3", "70", "79", "7A"] {
-        assert_eq!(with(fourth, suci, security), Err(3), "{fourth}");
+        assert_eq!(with(fourth, suci, security), BREAKS, "{fourth}");
     }
     assert!(with("01", suci, security).is_ok());
     for identity in [
@@ -993,19 +1001,14 @@ fn requests_read_back() {
         "00 0A F2 00 F1 10 80 01 C5 D1 C2 B3",
         "00 0C F2 00 F1 10 80 01 C5 D1 C2 B3 A4 00",
         "00 0B F6 00 F1 10 80 01 C5 D1 C2 B3 A4",
-        "01 09 01 00 F1 10 F0 FF 00 00 07",
+        "00 03 2E 02 F0",
     ] {
-        assert_eq!(with("71", identity, security), Err(3), "{identity}");
+        assert_eq!(with("71", identity, security), BREAKS, "{identity}");
     }
     assert!(with("71", "00 0B F2 00 F1 10 80 01 C5 D1 C2 B3 A4", security).is_ok());
     let long = |count: usize| format!("00 {:02X} 01{}", count, " 00".repeat(count - 1));
     assert!(with("71", &long(64), security).is_ok());
-    assert_eq!(with("71", &long(65), security), Err(3));
-    assert_eq!(request::read(&[]), Err(3));
-    assert_eq!(
-        request::read(&octets("7E 00 42 71 00 09 01 00 F1 10 F0 FF 00 00 07 2E 02 F0 F0")),
-        Err(3)
-    );
+    assert_eq!(with("71", &long(65), security), BREAKS);
 }
 
 #[test]
@@ -1099,7 +1102,7 @@ fn kinds_and_lengths() {
         (&start[..], 1),
         (&start[..10], 0),
         (&[3, 0, 0, 0, 8], 1),
-        (&[3, 0, 0, 0, 8, 7], 3),
+        (&[3, 0, 0, 0, 8, 7], 13),
         (&[3, 0, 0, 0, 7, 7], 1),
         (&[4, 0, 1], 1),
         (&[4, 0, 1, 0, 0], 1),
@@ -1176,6 +1179,9 @@ impl Draws {
             let reject = [0x7E, 0, 0x44, causes[self.below(12) as usize]];
             return record.message(a, self.below(2), 2000, &reject);
         }
+        if self.below(8) == 0 {
+            return record.message(a, self.below(2), 2000, &self.octets());
+        }
         let timer = [0x16, 0x5E][self.below(2) as usize];
         record.message(a, 1, 2000, &[0x7E, 0, 0x42, 1, 1, timer, 1, self.below(256)])
     }
@@ -1215,6 +1221,8 @@ fn events_at_random() {
             assert_eq!(reply.leave.is_some(), reply.answer == 2);
             assert_eq!(text(&record), text(&before));
         }
+        assert_ne!(reply.answer, 3);
+        assert!(reply.offset == 0 || (13..=18).contains(&reply.answer));
         for a in 0..2 {
             if before.access[a].state == 5 && record.access[a].state == 4 {
                 updates[record.access[a].regtype as usize - 2] += 1;
@@ -1720,7 +1728,7 @@ fn long_timer_octets() {
 /// What an accept with these elements gives for T3512.
 fn given(elements: &[u8]) -> Option<u32> {
     match message::read(&[&[0x7E, 0x00, 0x42, 0x01, 0x01], elements].concat()) {
-        Some(Message::Accept(accept)) => accept.t3512,
+        Ok(Message::Accept(accept)) => accept.t3512,
         _ => panic!("an accept"),
     }
 }
@@ -1744,7 +1752,7 @@ fn t3512_in_accepts() {
     }
     let mut record = pending(0, AWAY);
     let cut = [0x7E, 0x00, 0x42, 0x01, 0x01, 0x5E, 0x02, 0x21];
-    assert_eq!(record.message(0, 1, 1800, &cut), Reply::of(3));
+    assert_eq!(record.message(0, 1, 1800, &cut), faulty(17, 5));
 }
 
 /// Requests of all types: 40 and 50 stand beside 10 and after 52, in updates alone.
@@ -1830,7 +1838,7 @@ fn statuses_read_back() {
         }
     }
     let cut = format!("7E 00 41 72 {head} 40 02 20");
-    assert_eq!(request::read(&octets(&cut)), Err(3));
+    assert_eq!(request::read(&octets(&cut)), Err(Fault { number: 17, at: 19 }));
 }
 
 /// Kind 7 of the log: 12 octets of body, in this order.
@@ -1866,7 +1874,7 @@ fn full_line() {
     crate::full::reply(&mut line, &reply);
     crate::full::record(&mut line, &record);
     let parts = [
-        "= 0 T3510 started:15 left T3511 left left T3502 left left T3247 left T3512 stopped \
+        "= 0 at 0 T3510 started:15 left T3511 left left T3502 left left T3247 left T3512 stopped \
          restart - leave - update -",
         "card 1 home 00f110 suci 0100f110f0ff000007 limits 3 3 3 cap 00 sec f0f0 T3247 0 T3512 0 \
          length 3240 due 0 roaming - regional -",
@@ -1877,4 +1885,377 @@ fn full_line() {
          type 1 uplink 0000 sessions 0000 guti - last - ksi 7 equivalents - cards 0 entries -",
     ];
     assert_eq!(line, parts.join(" | "));
+}
+
+/// Another line of `--full`, and the lines of `--read`, for faults.
+#[test]
+fn fault_lines() {
+    let mut line = String::new();
+    crate::full::reply(&mut line, &faulty(17, 305));
+    let told = "= 17 at 305 T3510 left left T3511 left left T3502 left left T3247 left T3512 left \
+                restart - leave - update -";
+    assert_eq!(line, told);
+    for (octets, told) in [
+        (&[][..], "13 at 0"),
+        (&[0x7D], "14 at 0"),
+        (&[0x7E, 0x00, 0x41, 0x71, 0x00, 0x00, 0x2E, 0x00], "3"),
+    ] {
+        let mut text = String::new();
+        crate::refused(&mut text, request::read(octets).unwrap_err());
+        assert_eq!(text, told);
+    }
+}
+
+/// Messages for the event call: the number and offset of the fault, None if it has none.
+const MESSAGES: &[(&str, Option<(u8, usize)>)] = &[
+    ("", Some((13, 0))),
+    ("7E", Some((13, 1))),
+    ("7E 00", Some((13, 2))),
+    // Octet 1, with all else right, and before all else that is wrong.
+    ("7D", Some((14, 0))),
+    ("00", Some((14, 0))),
+    ("7F", Some((14, 0))),
+    ("7D 01", Some((14, 0))),
+    ("7D 01 99", Some((14, 0))),
+    ("7D 00 44 0B", Some((14, 0))),
+    ("7D 00 44 0B 05", Some((14, 0))),
+    ("00 7E 00 44 0B", Some((14, 0))),
+    // Octet 2.
+    ("7E 01", Some((15, 1))),
+    ("7E FF", Some((15, 1))),
+    ("7E 7E", Some((15, 1))),
+    ("7E 01 99", Some((15, 1))),
+    ("7E 01 44 0B", Some((15, 1))),
+    ("7E 01 42 00", Some((15, 1))),
+    ("7E 02 42 01 01 05", Some((15, 1))),
+    // The type.
+    ("7E 00 99", Some((16, 2))),
+    ("7E 00 41", Some((16, 2))),
+    ("7E 00 43", Some((16, 2))),
+    ("7E 00 45", Some((16, 2))),
+    ("7E 00 00", Some((16, 2))),
+    ("7E 00 FF 05 00", Some((16, 2))),
+    ("7E 00 41 71 00 09 01 00 F1 10 F0 FF 00 00 07 2E 02 F0 F0", Some((16, 2))),
+    // A reject's fixed octets.
+    ("7E 00 44", Some((13, 3))),
+    ("7E 00 44 0B", None),
+    ("7E 00 44 00", None),
+    // An accept's: the result has a length of at least 1.
+    ("7E 00 42", Some((13, 3))),
+    ("7E 00 42 00", Some((13, 3))),
+    ("7E 00 42 00 01 02", Some((13, 3))),
+    ("7E 00 42 00 05", Some((13, 3))),
+    ("7E 00 42 00 9F", Some((13, 3))),
+    ("7E 00 42 01", Some((13, 4))),
+    ("7E 00 42 02", Some((13, 4))),
+    ("7E 00 42 FF", Some((13, 4))),
+    ("7E 00 42 02 01", Some((13, 5))),
+    ("7E 00 42 03 05 00", Some((13, 6))),
+    ("7E 00 42 01 01", None),
+    ("7E 00 42 01 05", None),
+    ("7E 00 42 02 05 00", None),
+    // An element past the end, by each format and by one octet.
+    ("7E 00 44 0B 10", Some((17, 4))),
+    ("7E 00 44 0B 5F", Some((17, 4))),
+    ("7E 00 44 0B 5F 05", Some((17, 4))),
+    ("7E 00 44 0B 5F 02 00", Some((17, 4))),
+    ("7E 00 44 0B 5F 02 00 00", None),
+    ("7E 00 44 0B 70", Some((17, 4))),
+    ("7E 00 44 0B 70 00", Some((17, 4))),
+    ("7E 00 44 0B 70 00 00", None),
+    ("7E 00 44 0B 7F 00 01", Some((17, 4))),
+    ("7E 00 44 0B 7F 00 01 05", None),
+    ("7E 00 44 0B 7F 01 00 05", Some((17, 4))),
+    ("7E 00 44 0B 80", None),
+    ("7E 00 44 0B 52 01 02 03 04 05 06", Some((17, 7))),
+    ("7E 00 44 0B 52 03 02 03 04", None),
+    ("7E 00 44 0B 52 06 02 03 04 05 06", Some((17, 4))),
+    ("7E 00 42 01 01 5F", Some((17, 5))),
+    ("7E 00 42 02 01 01 5F 01", Some((17, 6))),
+    ("7E 00 44 0B 9F 77 00", Some((17, 5))),
+    ("7E 00 44 0B 5F 00 77 00 02 01", Some((17, 6))),
+    // One that must be understood, and of two faults at one octet the lower number.
+    ("7E 00 44 0B 05 00", Some((18, 4))),
+    ("7E 00 44 0B 00 00", Some((18, 4))),
+    ("7E 00 44 0B 0F 00", Some((18, 4))),
+    ("7E 00 44 0B 0F 02 01 02", Some((18, 4))),
+    ("7E 00 44 0B 05", Some((17, 4))),
+    ("7E 00 44 0B 00", Some((17, 4))),
+    ("7E 00 44 0B 0F", Some((17, 4))),
+    ("7E 00 44 0B 05 02 00", Some((17, 4))),
+    ("7E 00 42 01 01 05 00", Some((18, 5))),
+    ("7E 00 42 01 01 05", Some((17, 5))),
+    ("7E 00 44 0B 9F 05 00", Some((18, 5))),
+    ("7E 00 44 0B 9F 05", Some((17, 5))),
+    // Of two elements the first.
+    ("7E 00 44 0B 05 00 5F", Some((18, 4))),
+    ("7E 00 44 0B 05 00 05 00", Some((18, 4))),
+    ("7E 00 44 0B 5F 03 05 00", Some((17, 4))),
+    ("7E 00 44 0B 5F 02 05 00", None),
+    ("7E 00 44 0B 5F 01 05 00 00", Some((18, 7))),
+];
+
+/// Each in state 4, with and without protection: the fault's reply, and nothing changes.
+#[test]
+fn faults_of_messages() {
+    for (text_of, fault) in MESSAGES {
+        let octets = octets(text_of);
+        let told = message::read(&octets).err().map(|fault| (fault.number, fault.at));
+        assert_eq!(told, *fault, "{text_of}");
+        for (a, protected) in [(0, 0), (0, 1), (1, 0), (1, 1)] {
+            let mut record = pending(a, AWAY);
+            let before = text(&record);
+            let reply = record.message(a as u8, protected, 1800, &octets);
+            if let Some((number, at)) = *fault {
+                assert_eq!(reply, faulty(number, at), "{text_of}");
+                assert_eq!(text(&record), before);
+            } else {
+                let unprotected = octets[2] == 0x42 && protected == 0;
+                assert_eq!(reply.answer, if unprotected { 10 } else { 0 }, "{text_of}");
+                assert_eq!(reply.offset, 0);
+            }
+        }
+    }
+}
+
+/// The longest record of a log has a message of 65,529 octets; its last one is at fault.
+#[test]
+fn faults_far_out() {
+    let head = [3, 0, 0, 0, 8, 7, 0x7E, 0, 0x44, 0x0B, 0x70, 0xFF, 0xF1];
+    let octets = [&head[..], &[0; 0xFFF1], &[0x5F]].concat();
+    assert_eq!(octets.len(), 65535);
+    assert_eq!(apply(&mut pending(0, AWAY), &octets), faulty(17, 65528));
+    assert_eq!(apply(&mut pending(0, AWAY), &octets[..65534]).answer, 0);
+    assert_eq!(apply(&mut pending(0, AWAY), &octets[..65533]), faulty(17, 4));
+}
+
+/// 13 to 18 stand where 3 stood: behind 1 and 6, before 10, 2 and 4.
+#[test]
+fn faults_in_the_order_of_checks() {
+    let ends: &[(&[u8], u8)] = &[(&[0x5F], 17), (&[0x05, 0x00], 18)];
+    for &(end, number) in ends {
+        let accept = [&[0x7E, 0x00, 0x42, 0x01, 0x01][..], end].concat();
+        let mut record = pending(0, AWAY);
+        assert_eq!(record.message(2, 0, 1800, &accept), Reply::of(1));
+        assert_eq!(record.message(0, 0, 1799, &accept), Reply::of(1));
+        assert_eq!(record.message(1, 0, 1800, &accept), Reply::of(6));
+        assert_eq!(record.message(0, 0, 1800, &accept), faulty(number, 5));
+        // Cause 3 while the other access is registered: 2. A full table: 4.
+        let rejected = |cause| [&[0x7E, 0x00, 0x44, cause][..], end].concat();
+        record.access[1].state = REGISTERED;
+        assert_eq!(record.message(0, 0, 1800, &rejected(3)), faulty(number, 4));
+        assert_eq!(record.message(0, 0, 1800, &rejected(3)[..4]).answer, 2);
+        for index in 1..=16 {
+            record.access[0].entries.push(Entry { network: [index, 0, 0], ..Entry::default() });
+        }
+        assert_eq!(record.message(0, 0, 1800, &rejected(11)), faulty(number, 4));
+        assert_eq!(record.message(0, 0, 1800, &rejected(11)[..4]).answer, 4);
+    }
+}
+
+/// Requests as read back: the number and offset of the fault, None if it has none.
+const REQUESTS: &[(&str, Option<(u8, usize)>)] = &[
+    ("", Some((13, 0))),
+    ("7E", Some((13, 1))),
+    ("7E 00", Some((13, 2))),
+    ("7E 00 41", Some((13, 3))),
+    ("7E 00 41 71", Some((13, 4))),
+    ("7E 00 41 81", Some((13, 4))),
+    ("7E 00 41 71 00", Some((13, 5))),
+    ("7E 00 41 71 00 09", Some((13, 6))),
+    ("7E 00 41 71 00 09 01 00 F1 10 F0 FF 00 00", Some((13, 14))),
+    ("7E 00 41 71 01 09 01 00 F1 10 F0 FF 00 00 07 2E 02 F0 F0", Some((13, 19))),
+    ("7E 00 41 00 FF FF 05", Some((13, 7))),
+    ("7D 00 41 71", Some((14, 0))),
+    ("7D 01 42", Some((14, 0))),
+    ("7E 01 41 71", Some((15, 1))),
+    ("7E 00 42", Some((16, 2))),
+    ("7E 00 42 00", Some((16, 2))),
+    ("7E 00 44 0B", Some((16, 2))),
+    ("7E 00 42 71 00 09 01 00 F1 10 F0 FF 00 00 07 2E 02 F0 F0", Some((16, 2))),
+    // Whole, but not by the layout.
+    ("7E 00 41 71 00 00", Some((3, 0))),
+    ("7E 00 41 71 00 00 2E 02 F0 F0", Some((3, 0))),
+    ("7E 00 41 71 00 09 01 00 F1 10 F0 FF 00 00 07", Some((3, 0))),
+    ("7E 00 41 81 00 09 01 00 F1 10 F0 FF 00 00 07 2E 02 F0 F0", Some((3, 0))),
+    ("7E 00 41 71 00 09 01 00 F1 10 F0 FF 00 00 07 2E 02 F0 F0", None),
+    // A fault behind a broken layout is told all the same.
+    ("7E 00 41 81 00 00 05", Some((17, 6))),
+    ("7E 00 41 81 00 00 05 00", Some((18, 6))),
+    ("7E 00 41 81 00 09 01 00 F1 10 F0 FF 00 00 07 2E 02 F0", Some((17, 15))),
+    // 52 has seven octets in all.
+    ("7E 00 41 71 00 00 52 00 F2 20 00 00", Some((17, 6))),
+    ("7E 00 41 71 00 00 52 00 F2 20 00 00 2A", Some((3, 0))),
+    ("7E 00 41 71 00 00 52 00 F2 20 00 00 2A 05 00", Some((18, 13))),
+    ("7E 00 41 71 00 09 01 00 F1 10 F0 FF 00 00 07 2E 02 F0 F0 52 0 1 2 3 4", Some((17, 19))),
+    ("7E 00 41 71 00 09 01 00 F1 10 F0 FF 00 00 07 2E 02 F0 F0 52 0 1 2 3 4 5", None),
+    ("7E 00 41 71 00 09 01 00 F1 10 F0 FF 00 00 07 9F 05 00 2E 02 F0 F0", Some((18, 16))),
+];
+
+#[test]
+fn faults_of_requests() {
+    for (text, fault) in REQUESTS {
+        let told = request::read(&octets(text)).err().map(|fault| (fault.number, fault.at));
+        assert_eq!(told, *fault, "{text}");
+    }
+}
+
+/// How many octets the fixed part of a message has, by its type; what is not there counts as 0.
+fn fixed(octets: &[u8]) -> usize {
+    let at = |place: usize| octets.get(place).map_or(0, |&octet| octet as usize);
+    match octets.get(2) {
+        Some(0x41) => 6 + 256 * at(4) + at(5),
+        Some(0x42) => 4 + at(3),
+        Some(0x44) => 4,
+        _ => 3,
+    }
+}
+
+/// How many octets the element at a place has in all; what is not there counts as 0.
+fn size(octets: &[u8], place: usize) -> usize {
+    let behind = |count: usize| octets.get(place + count).map_or(0, |&octet| octet as usize);
+    match octets[place] {
+        0x80..=0xFF => 1,
+        0x70..=0x7F => 3 + 256 * behind(1) + behind(2),
+        0x52 if octets[2] == 0x41 => 7,
+        _ => 2 + behind(1),
+    }
+}
+
+/// All faults of a message by R-1's sentences, each as its offset and number, for a call that
+/// reads these types.
+fn faults(octets: &[u8], types: &[u8]) -> Vec<(usize, u8)> {
+    let length = octets.len();
+    let mut all = vec![];
+    if length < fixed(octets) {
+        all.push((length, 13));
+    }
+    if length > 3 && octets[2] == 0x42 && octets[3] == 0 {
+        all.push((3, 13));
+    }
+    if length > 0 && octets[0] != 0x7E {
+        all.push((0, 14));
+    }
+    if length > 1 && octets[1] != 0x00 {
+        all.push((1, 15));
+    }
+    if length > 2 && !types.contains(&octets[2]) {
+        all.push((2, 16));
+    }
+    let mut place = fixed(octets);
+    while place < length {
+        let end = place + size(octets, place);
+        if end > length {
+            all.push((place, 17));
+        }
+        if octets[place] < 0x10 {
+            all.push((place, 18));
+        }
+        place = end;
+    }
+    all
+}
+
+/// How often each fault was told, by number and offset; 0 is none.
+#[derive(Default)]
+struct Counts(BTreeMap<(u8, usize), usize>);
+
+impl Counts {
+    /// Both readers tell the lowest of all faults, at a tie the lower number.
+    fn hold(&mut self, octets: &[u8]) {
+        let lowest = faults(octets, &[0x42, 0x44]).into_iter().min();
+        let told = message::read(octets).err().map(|fault| (fault.at, fault.number));
+        assert_eq!(told, lowest, "{octets:02X?}");
+        *self.0.entry(told.map_or((0, 0), |(at, number)| (number, at))).or_default() += 1;
+        let told = request::read(octets).err().map(|fault| (fault.at, fault.number));
+        match faults(octets, &[0x41]).into_iter().min() {
+            None => assert!(matches!(told, None | Some((0, 3))), "{octets:02X?}"),
+            lowest => assert_eq!(told, lowest, "{octets:02X?}"),
+        }
+    }
+
+    /// Each number came often, and those without a fixed offset at so many offsets.
+    fn seen(&self, least: usize, offsets: usize) {
+        for number in [0, 13, 14, 15, 16, 17, 18] {
+            let places = self.0.range((number, 0)..(number + 1, 0));
+            let times: usize = places.clone().map(|(_, times)| times).sum();
+            assert!(times >= least, "{number}: {times} times");
+            let varied = matches!(number, 13 | 17 | 18);
+            assert!(!varied || places.clone().count() >= offsets, "{number}: {places:?}");
+        }
+    }
+}
+
+/// Every message of at most four octets, and every one of at most five behind a type, of octets
+/// that matter.
+#[test]
+fn faults_of_short_messages() {
+    const OCTETS: [u8; 12] =
+        [0x00, 0x01, 0x02, 0x05, 0x10, 0x41, 0x42, 0x44, 0x52, 0x70, 0x7E, 0x9F];
+    fn all(octets: &mut Vec<u8>, more: usize, counts: &mut Counts) {
+        counts.hold(octets);
+        for octet in OCTETS.into_iter().take(if more > 0 { 12 } else { 0 }) {
+            octets.push(octet);
+            all(octets, more - 1, counts);
+            octets.pop();
+        }
+    }
+    let mut counts = Counts::default();
+    all(&mut vec![], 4, &mut counts);
+    for kind in [0x41, 0x42, 0x44] {
+        all(&mut vec![0x7E, 0x00, kind], 5, &mut counts);
+    }
+    counts.seen(1000, 3);
+}
+
+impl Draws {
+    /// An element of any format, some of them long.
+    fn element(&mut self) -> Vec<u8> {
+        let length = self.below(6);
+        let (head, length) = match self.below(12) {
+            0 => (vec![self.below(16), length], length as usize),
+            1 => (vec![0x52], 6),
+            2 | 3 => (vec![0x80 | self.below(128)], 0),
+            4 | 5 => (vec![0x70 | self.below(16), 0, length], length as usize),
+            6 => (vec![0x70 | self.below(16), 1, length], 256 + length as usize),
+            _ => (vec![0x10 + self.below(0x60), length], length as usize),
+        };
+        let contents = (0..length).map(|_| self.below(256));
+        head.into_iter().chain(contents).collect()
+    }
+
+    /// A message of a type that one of the readers reads, whole or damaged: cut, or an octet
+    /// changed, at the front or anywhere.
+    fn octets(&mut self) -> Vec<u8> {
+        let length = 1 + self.below(12);
+        let (mut octets, length) = match self.below(3) {
+            0 => (vec![0x7E, 0x00, 0x41, 0x71, 0x00, length], length),
+            1 => (vec![0x7E, 0x00, 0x42, length], length),
+            _ => (vec![0x7E, 0x00, 0x44], 1),
+        };
+        octets.extend((0..length).map(|_| self.below(256)));
+        for _ in 0..self.below(7) {
+            octets.extend(self.element());
+        }
+        let count = octets.len();
+        let anywhere = (256 * self.below(256) as usize + self.below(256) as usize) % count;
+        match self.below(6) {
+            0 => octets.truncate(anywhere),
+            1 => octets.truncate(anywhere % 8),
+            2 => octets[anywhere] = self.below(256),
+            3 => octets[anywhere % 4] = self.below(256),
+            _ => {}
+        }
+        octets
+    }
+}
+
+#[test]
+fn faults_of_messages_at_random() {
+    let mut draws = Draws(2);
+    let mut counts = Counts::default();
+    for _ in 0..400_000 {
+        counts.hold(&draws.octets());
+    }
+    counts.seen(4000, 40);
 }

@@ -1,7 +1,7 @@
 /*
  * A device and a false cell. The cell rejects three registrations with cause 11 and no protection; the device waits for T3247 each time and tries again,
- * until the ban counter is at its limit and it stays quiet. Then its home network takes it, and it moves: a mobility update in the next area, and a periodic one
- * once T3512 has run out. It writes what it was told to a log, from which the lab's program replays the same states.
+ * until the ban counter is at its limit and it stays quiet. Then its home network takes it, after an accept that lost its last octet, and it moves: a mobility
+ * update in the next area, and a periodic one once T3512 has run out. It writes what it was told to a log, from which the lab's program replays the same states.
  * Usage: device LOG; the states go to standard output as the lab's program prints them.
  */
 #include <stdio.h>
@@ -11,7 +11,7 @@
 enum { CARD = 1, START, MESSAGE, TIMER, KEY = 6, UPDATE };
 enum { T3247 = 4, T3512 };
 enum { MOBILITY = 2, PERIODIC };
-enum { TAKEN = 0, RANGE = 1, STATE = 6, LISTED = 8, SHORT = 12, REFUSED = 256 };
+enum { TAKEN = 0, RANGE = 1, STATE = 6, LISTED = 8, SHORT = 12, CUT, PAST = 17, STRANGE, REFUSED = 256 };
 
 /* Areas: a network's three octets and an area code's. */
 static const uint8_t away[] = {0x00, 0xF2, 0x20, 0x00, 0x00, 0x2A};
@@ -26,7 +26,7 @@ struct device {
     unsigned long now;
 };
 
-/* Logs the event, hands it over, and prints its number, its answer, both states and T3247. */
+/* Logs the event, hands it over, and prints its number, its answer, both states and T3247; of a message at fault it says which octet was bad. */
 static uint32_t hand(struct device *d, uint32_t kind, const uint8_t *body, size_t len)
 {
     const uint8_t head[] = {(uint8_t)(len + 2), (uint8_t)((len + 2) >> 8), (uint8_t)kind, (uint8_t)(kind >> 8)};
@@ -35,6 +35,8 @@ static uint32_t hand(struct device *d, uint32_t kind, const uint8_t *body, size_
     uint32_t answer = tjernfaug_event(&d->record, kind, body, len, &d->notice);
     const struct tjernfaug_hot *hot = &d->record.hot;
     printf("%u %u %u %u %u\n", ++d->events, answer, hot->a0.state, hot->a1.state, hot->dev.t3247);
+    if (answer >= CUT && answer <= STRANGE)
+        fprintf(stderr, "device: octet %zu: %u\n", d->notice.offset, answer);
     return answer;
 }
 
@@ -97,11 +99,12 @@ static uint32_t key(struct device *d)
     return hand(d, KEY, body, sizeof body);
 }
 
-/* Protected, and T3512 is an hour (5E 01 21); the accept of an update leaves it out, and the hour is kept. */
-static uint32_t accept(struct device *d, int whole)
+/* Protected, and T3512 is an hour (5E 01 21); the accept of an update leaves it out, and the hour is kept. A broken one has lost its last octet. */
+enum { WHOLE, BROKEN, BARE = 3 };
+static uint32_t accept(struct device *d, size_t less)
 {
     static const uint8_t body[] = {0x00, 0x01, 0x08, 0x07, 0x7E, 0x00, 0x42, 0x01, 0x01, 0x5E, 0x01, 0x21};
-    return hand(d, MESSAGE, body, whole ? sizeof body : sizeof body - 3);
+    return hand(d, MESSAGE, body, sizeof body - less);
 }
 
 /* The false cell, until the device is quiet. */
@@ -130,13 +133,14 @@ static int moved(struct device *d, uint8_t type, const uint8_t *from, const uint
     int right = update(d, type, to) == TAKEN && d->notice.c0.t3510.told == 2;
     uint32_t len = tjernfaug_request(&d->record, 0, sent, sizeof sent);
     right &= len == 37 && sent[3] == type && memcmp(sent + len - sizeof tail, tail, sizeof tail) == 0;
-    return right && accept(d, 0) == TAKEN && d->notice.t3512.told == 2 && d->notice.t3512.seconds == 3600;
+    return right && accept(d, BARE) == TAKEN && d->notice.t3512.told == 2 && d->notice.t3512.seconds == 3600;
 }
 
 /* At home: registered, moved to the next area, and an update when T3512 has run out, not before. */
 static int moves(struct device *d)
 {
-    int wrong = start(d, home) != TAKEN || key(d) != TAKEN || accept(d, 1) != TAKEN || d->notice.t3512.seconds != 3600;
+    int wrong = start(d, home) != TAKEN || key(d) != TAKEN || accept(d, BROKEN) != PAST || d->notice.offset != 5;
+    wrong |= accept(d, WHOLE) != TAKEN || d->notice.t3512.seconds != 3600 || d->notice.offset != 0;
     wrong |= update(d, PERIODIC, home) != STATE || !moved(d, MOBILITY, home, next);
     wrong |= wait(d, T3512, d->notice.t3512.seconds) != TAKEN || d->record.hot.dev.due != 1;
     wrong |= !moved(d, PERIODIC, next, next) || d->record.hot.dev.due != 0 || d->now != 9000;

@@ -1,6 +1,6 @@
 // The calls that the fuzz run makes, drawn: on a record that lives on events which are often right, and on records changed from it.
 use crate::second::{CAccess, CEntries, CNotice, CRecord, Plain};
-use crate::{EVENT, NEW, REQUEST};
+use crate::{CAUSE, EVENT, NEW, REQUEST};
 
 const BODY: u32 = 96;
 const BUFFER: u32 = 120;
@@ -82,6 +82,10 @@ impl Draw {
         let buffer = self.octets(len);
         Ask { small: [access, 0, 0], arrays: [buffer, vec![]], ..self.ask(REQUEST, record) }
     }
+
+    fn cause(&mut self, octets: Vec<u8>) -> Ask {
+        Ask { arrays: [octets, vec![]], ..self.ask(CAUSE, CRecord::zero()) }
+    }
 }
 
 fn number([a, b, c]: [u8; 3]) -> u32 {
@@ -143,6 +147,38 @@ fn update(d: &mut Draw, access: u8, [n1, n2, n3]: [u8; 3]) -> Vec<u8> {
     vec![access, regtype, n1, n2, n3, 0x00, 0x00, d.octet(16), u1, u2, s1, s2]
 }
 
+/// An element of each format, one in eight of which must be understood, and some hundred octets long where it may be.
+fn element(d: &mut Draw) -> Vec<u8> {
+    let (short, long) = (d.below(8), d.below(400));
+    match d.below(8) {
+        0 => vec![0x80 | d.octet(128)],
+        1 => [&[d.octet(16), short as u8][..], &d.octets(short)].concat(),
+        2 => [&[0x70 | d.octet(16)][..], &(long as u16).to_be_bytes(), &d.octets(long)].concat(),
+        _ => [&[0x10 + d.octet(0x60), short as u8][..], &d.octets(short)].concat(),
+    }
+}
+
+/// An accept or a reject of up to three elements or with any octets in their place; then up to two octets of it bent, mostly at its front, and half of all cut.
+fn message(d: &mut Draw) -> Vec<u8> {
+    let (any, result) = (d.octet(256), 1 + d.octet(3));
+    let head = [vec![0x7E, 0x00, 0x44, any], [&[0x7E, 0x00, 0x42, result][..], &d.octets(result as u32)].concat()];
+    let tail = if d.below(4) == 0 { d.octets(any as u32 % 24) } else { (0..d.below(4)).flat_map(|_| element(d)).collect() };
+    let mut octets = [&head[d.below(2) as usize][..], &tail].concat();
+    for _ in 0..d.below(3) {
+        let end = if d.below(4) == 0 { octets.len() } else { 4 };
+        let at = d.below(end as u32) as usize;
+        octets[at] = [bent(d, octets[at]), 0][(d.below(8) == 0) as usize];
+    }
+    if d.below(2) == 0 {
+        octets.truncate(d.below(octets.len() as u32) as usize);
+    }
+    octets
+}
+
+fn heard(access: u8, protected: u8, octets: &[u8]) -> (u32, Vec<u8>) {
+    (3, [&[access, protected, 0x08, 0x07][..], octets].concat())
+}
+
 /// An event that is often right: its kind, and the octets that matter from small sets.
 fn event(d: &mut Draw) -> (u32, Vec<u8>) {
     let net = NETS[d.below(6) as usize];
@@ -153,7 +189,7 @@ fn event(d: &mut Draw) -> (u32, Vec<u8>) {
         1 => (6, vec![access, any & 7]),
         2..=4 => (4, vec![[1, 2, 3, 4, 5, d.octet(7)][d.below(6) as usize], access]),
         5..=7 => (3, accept(d, access, net)),
-        8 => (3, [&[access, sure, 0x08, 0x07, 0x7E, 0x00, 0x42 + 2 * sure][..], &d.octets(any as u32 % 24)].concat()),
+        8 => heard(access, sure, &message(d)),
         9..=11 => (3, vec![access, sure, 0x08, 0x07, 0x7E, 0x00, 0x44, cause]),
         12..=14 => (7, update(d, access, net)),
         _ => (2, [&[access, sure][..], &net, &[0x00, 0x00, any & 15]].concat()),
@@ -279,7 +315,7 @@ pub fn round(d: &mut Draw, live: &CRecord) -> Vec<Ask> {
     let often = if live.dev.card == 0 && d.below(4) > 0 { (1, card(access)) } else { right };
     let (scattered, end) = (random(d), [HOT, ALL][d.below(2) as usize]);
     let (broken, odd, net) = (changed(d, &full, end), strained(d, &full), NETS[d.below(6) as usize]);
-    let moving = (7, update(d, access, net));
+    let (moving, octets) = ((7, update(d, access, net)), message(d));
     let over = [*live, full, scattered][d.below(3) as usize];
     vec![
         d.hand(*live, often),
@@ -292,6 +328,8 @@ pub fn round(d: &mut Draw, live: &CRecord) -> Vec<Ask> {
         d.hand(full, again.clone()),
         d.hand(broken, again),
         d.hand(full, moving),
+        d.hand(full, heard(access, 1, &octets)),
+        d.cause(octets),
         d.hand(odd, (5, vec![])),
         d.request(odd, access),
         opening(d, over),

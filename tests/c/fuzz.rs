@@ -1,14 +1,16 @@
 // Random octets through the C interface: as a record, as a kind and a body, and as changes to a record that lives on random events.
 // Held: the header's layout, answer 1 exactly where the record is invalid by a second reading of document 01, a refusal's record unchanged, nothing written outside what is lent,
-// and for a valid record the answer, the notice, the record and the request of the second program, which reads that request back as the record's.
+// for a valid record the answer, the notice, the record and the request of the second program, which reads that request back as the record's,
+// and the fault of a message by a reading of R-1 alone, for the event and for the reject reader.
 //
 // Usage: fuzz SECONDS SEED PROGRAM [ARGUMENTS]
-// The program is tests/c/lend.c. First it tells how many octets a record has without its gaps. A call goes to it as one octet each for the call (0 to have the answers so far), what fills
-// the record's gaps and six small numbers (three limits, or the access), then the kind and the lengths of two arrays, then the record, the notice and the arrays; back come the answer,
+// The program is tests/c/lend.c. First it tells how many octets a record and a notice have without their gaps. A call goes to it as one octet each for the call (0 to have the answers so far),
+// what fills the gaps and six small numbers (three limits, or the access), then the kind and the lengths of two arrays, then the record, the notice and the arrays; back come the answer,
 // how many octets were written before what is lent, and the record, the notice and the arrays as they then are. Numbers have four octets, the low one first.
 // Cases are numbered from SEED on, and each draws by its number alone. With 0 seconds the case SEED runs alone.
 #![allow(dead_code)]
 mod draws;
+mod faults;
 #[path = "../../docs/src/log.rs"]
 mod log;
 #[path = "../../docs/src/message.rs"]
@@ -32,6 +34,9 @@ use valid::valid;
 pub const NEW: u8 = 1;
 pub const EVENT: u8 = 2;
 pub const REQUEST: u8 = 3;
+pub const CAUSE: u8 = 4;
+/// Answers that no event has: they are for requests.
+const NEVER: [u32; 2] = [3, 12];
 const LIVES: u64 = 32;
 const ROUNDS: usize = 48;
 
@@ -61,7 +66,8 @@ struct Life {
 #[derive(Default)]
 struct Tally {
     cases: u64,
-    answers: [u64; 12],
+    answers: [u64; 19],
+    causes: [u64; 7],
     invalid: u64,
     news: u64,
     made: u64,
@@ -107,6 +113,7 @@ impl Ask {
         let hex = |octets: &[u8]| octets.iter().map(|octet| format!("{octet:02X}")).collect::<String>();
         match self.call {
             NEW => format!("new, limits {:?}, capabilities {} and {}", self.small, hex(&self.arrays[0]), hex(&self.arrays[1])),
+            CAUSE => format!("the reject reader on {}", hex(&self.arrays[0])),
             EVENT => format!("event of kind {}, body {}", self.kind, hex(&self.arrays[0])),
             _ => format!("request over access {}, buffer of {}", self.small[0], self.arrays[0].len()),
         }
@@ -119,8 +126,8 @@ impl Side {
         let mut child = started.unwrap_or_else(|error| fail(&format!("{}: {error}", words[0])));
         let (input, output) = (child.stdin.take().unwrap(), child.stdout.take().unwrap());
         let mut side = Side { child, input, output: BufReader::with_capacity(65536, output) };
-        if number(&mut side.output).ok() != Some(size_of::<CRecord>() as u32) {
-            fail("the C side does not start, or its record has other fields");
+        if number(&mut side.output).ok() != Some((size_of::<CRecord>() + size_of::<CNotice>()) as u32) {
+            fail("the C side does not start, or its record or notice has other fields");
         }
         side
     }
@@ -183,14 +190,33 @@ fn judge_event(ask: &Ask, got: &Got) -> Result<(), String> {
     } else {
         equal("the answer to an invalid record", got.answer, 1)?;
     }
-    hold(got.answer <= 11, "there is no such answer")?;
+    hold(got.answer <= 18 && !NEVER.contains(&got.answer), "there is no such answer")?;
     if got.answer != 0 {
         alike("the refused record", now.octets(), was.octets())?;
     }
     if got.answer != 0 && got.answer != 2 {
-        alike("the refusal's notice", got.notice.octets(), CNotice::zero().octets())?;
+        let silent = CNotice { offset: got.notice.offset, ..CNotice::zero() };
+        alike("the refusal's notice", got.notice.octets(), silent.octets())?;
     }
-    Ok(())
+    judge_fault(ask, got)
+}
+
+/// A message that came through checks 1 and 6 is answered by its fault, if it has one, and the offset is the fault's; else it is 0.
+fn judge_fault(ask: &Ask, got: &Got) -> Result<(), String> {
+    let read = ask.kind == 3 && ![1, 6].contains(&got.answer);
+    let fault = if read { faults::told(&ask.arrays[0][4..], &[0x42, 0x44]) } else { None };
+    let (offset, answer) = (got.notice.offset as usize, got.answer as u8);
+    let told = (13..=18).contains(&answer).then_some((offset, answer));
+    hold(told == fault, &format!("the fault's offset and number are {told:?}, not {fault:?}"))?;
+    hold(told.is_some() || offset == 0, "an answer that is no fault's has an offset")
+}
+
+/// Only rejects are read here, so that an accept is of another type.
+fn judge_cause(ask: &Ask, got: &Got) -> Result<(), String> {
+    let octets = &ask.arrays[0];
+    let answer = faults::told(octets, &[0x44]).map_or_else(|| octets[3] as u32, |(_, number)| 256 + number as u32);
+    equal("the reject reader's answer", got.answer, answer)?;
+    alike("the record, which is not lent,", got.record.octets(), ask.record.octets())
 }
 
 fn judge_request(ask: &Ask, got: &Got) -> Result<(), String> {
@@ -227,6 +253,7 @@ fn judge(ask: &Ask, got: &Got, tally: &mut Tally) -> Result<(), String> {
     match ask.call {
         NEW => judge_new(ask, got)?,
         EVENT => judge_event(ask, got)?,
+        CAUSE => judge_cause(ask, got)?,
         _ => judge_request(ask, got)?,
     }
     tally.news += (ask.call == NEW) as u64;
@@ -235,6 +262,9 @@ fn judge(ask: &Ask, got: &Got, tally: &mut Tally) -> Result<(), String> {
     tally.written += (ask.call == REQUEST && got.answer < 256) as u64;
     for (count, came) in tally.deeds.iter_mut().zip(deeds(ask, got)) {
         *count += came as u64;
+    }
+    if ask.call == CAUSE {
+        tally.causes[got.answer.saturating_sub(268).min(6) as usize] += 1;
     }
     if ask.call == EVENT {
         tally.answers[got.answer as usize] += 1;
@@ -295,13 +325,14 @@ fn main() {
         group(&mut side, words, first..first + LIVES, &mut tally);
     }
     side.end();
-    let Tally { cases, answers, invalid, news, made, requests, written, deeds } = tally;
+    let Tally { cases, answers, causes, invalid, news, made, requests, written, deeds } = tally;
     let [mobility, periodic, fell, started, out] = deeds;
     println!("fuzz: {cases} cases, {} events, {invalid} of them on an invalid record", answers.iter().sum::<u64>());
     println!("fuzz: {made} of {news} new records made, {written} of {requests} requests written");
     println!("fuzz: {mobility} mobility and {periodic} periodic updates taken, {fell} failed; T3512 started {started} times, out {out} times");
-    println!("fuzz: answers 0 to 11 came {answers:?} times");
-    if seconds > 0 && (answers.contains(&0) || deeds.contains(&0) || [invalid, made, news - made, written].contains(&0)) {
+    println!("fuzz: answers 0 to 18 came {answers:?} times, a reject's cause and 269 to 274 {causes:?} times");
+    let missing = (0..19).any(|answer| answers[answer] == 0 && !NEVER.contains(&(answer as u32)));
+    if seconds > 0 && (missing || causes.contains(&0) || deeds.contains(&0) || [invalid, made, news - made, written].contains(&0)) {
         fail("some answer or deed never came");
     }
 }

@@ -1,6 +1,6 @@
 /*
  * The C side of the fuzz run: makes each call that standard input asks for and writes what came of it, as tests/c/fuzz.rs says.
- * What is lent ends where nothing may be read or written, and octets that must stay lie before it. A record goes in and out field by field, by the header's names.
+ * What is lent ends where nothing may be read or written, and octets that must stay lie before it. A record and a notice go in and out field by field, by the header's names.
  */
 #define _DEFAULT_SOURCE
 #include <stdio.h>
@@ -9,7 +9,7 @@
 #include <sys/mman.h>
 #include "tjernfaug.h"
 
-enum { FLUSH, NEW, EVENT, REQUEST };
+enum { FLUSH, NEW, EVENT, REQUEST, CAUSE };
 enum { RECORD, NOTICE, FIRST, SECOND, ROOMS };
 enum { ROOM = 65536, GUARD = 64, MARK = 0x5A };
 
@@ -22,16 +22,21 @@ struct head {
     uint32_t lens[2];
 };
 
-#define AT(field) {offsetof(struct tjernfaug_record, field), sizeof ((struct tjernfaug_record *)0)->field}
+#define PLACE(room, name, field) {room, offsetof(struct name, field), sizeof ((struct name *)0)->field}
+#define AT(field) PLACE(RECORD, tjernfaug_record, field)
 #define ACCESS(a) AT(a.net), AT(a.code), AT(a.lastnet), AT(a.lastcode), AT(a.t3502length), AT(a.uplink), AT(a.sessions), AT(a.state), AT(a.status), AT(a.attempts), \
     AT(a.cardcounter), AT(a.t3510), AT(a.t3511), AT(a.t3502), AT(a.guti), AT(a.visited), AT(a.ksi), AT(a.equivalents), AT(a.entries), AT(a.regtype)
 #define ENTRIES(e) AT(e.nets), AT(e.bans), AT(e.n1s), AT(e.forbidden), AT(e.barred)
+#define TOLD(field) PLACE(NOTICE, tjernfaug_notice, field)
+#define TIMER(t) TOLD(t.told), TOLD(t.seconds)
+#define TIMERS(c) TIMER(c.t3510), TIMER(c.t3511), TIMER(c.t3502)
 
-static const struct { size_t at, len; } fields[] = {
+static const struct { size_t room, at, len; } fields[] = {
     AT(hot.dev.home), AT(hot.dev.t3512length), AT(hot.dev.card), AT(hot.dev.suci), AT(hot.dev.cardlimit), AT(hot.dev.banlimit), AT(hot.dev.n1limit),
     AT(hot.dev.t3247), AT(hot.dev.t3512), AT(hot.dev.due), AT(hot.dev.capability), AT(hot.dev.security), AT(hot.dev.roaming), AT(hot.dev.regional),
     ACCESS(hot.a0), ACCESS(hot.a1), ENTRIES(e0), ENTRIES(e1), AT(roaming), AT(regional),
     AT(guti0), AT(guti1), AT(equivalents0), AT(equivalents1), AT(suci), AT(capability), AT(security),
+    TOLD(offset), TIMERS(c0), TIMERS(c1), TIMER(t3247), TIMER(t3512), TOLD(restart), TOLD(leave), TOLD(update),
 };
 
 enum { FIELDS = sizeof fields / sizeof *fields };
@@ -39,8 +44,8 @@ enum { FIELDS = sizeof fields / sizeof *fields };
 static uint8_t *ends[ROOMS], *lent[ROOMS];
 static size_t lens[ROOMS];
 
-/* A record without its gaps. */
-static uint8_t plain[sizeof(struct tjernfaug_record)];
+/* A record and a notice without their gaps. */
+static uint8_t plain[sizeof(struct tjernfaug_record) + sizeof(struct tjernfaug_notice)];
 static uint32_t octets;
 
 static void get(void *at, size_t len)
@@ -76,11 +81,12 @@ static void lay(const struct head *h)
         memset(lent[i] - GUARD, MARK, GUARD);
     }
     memset(lent[RECORD], h->gaps, lens[RECORD]);
+    memset(lent[NOTICE], h->gaps, lens[NOTICE]);
     get(plain, octets);
     const uint8_t *from = plain;
     for (size_t i = 0; i < FIELDS; from += fields[i++].len)
-        memcpy(lent[RECORD] + fields[i].at, from, fields[i].len);
-    for (size_t i = NOTICE; i < ROOMS; i++)
+        memcpy(lent[fields[i].room] + fields[i].at, from, fields[i].len);
+    for (size_t i = FIRST; i < ROOMS; i++)
         get(lent[i], lens[i]);
 }
 
@@ -92,6 +98,7 @@ static uint32_t call(const struct head *h)
     case NEW: return tjernfaug_new(r, h->small[0], h->small[1], h->small[2], lent[FIRST], lens[FIRST], lent[SECOND], lens[SECOND]);
     case EVENT: return tjernfaug_event(r, h->kind, lent[FIRST], lens[FIRST], notice);
     case REQUEST: return tjernfaug_request(r, h->small[0], lent[FIRST], lens[FIRST]);
+    case CAUSE: return reject_cause(lent[FIRST], lens[FIRST]);
     default: exit(2);
     }
 }
@@ -107,9 +114,9 @@ static void tell(uint32_t answer)
     put(&harm, sizeof harm);
     uint8_t *to = plain;
     for (size_t i = 0; i < FIELDS; to += fields[i++].len)
-        memcpy(to, lent[RECORD] + fields[i].at, fields[i].len);
+        memcpy(to, lent[fields[i].room] + fields[i].at, fields[i].len);
     put(plain, octets);
-    for (size_t i = NOTICE; i < ROOMS; i++)
+    for (size_t i = FIRST; i < ROOMS; i++)
         put(lent[i], lens[i]);
 }
 

@@ -1,21 +1,40 @@
-/* The two calls for C firmware, held to document 01: its marked facts, its sentences on rejects, and all 256 timer octets. */
+/*
+ * The readings for C firmware, held to document 01 (its marked facts, its sentences on rejects, all 256 timer octets) and to R-1: each message by the reject reader,
+ * and as a protected one by the event, with the octet that its notice tells.
+ */
 #include <stdio.h>
+#include <string.h>
 #include "tjernfaug.h"
 
 static int wrong;
 
-static void expect(const char *what, uint32_t got, uint32_t want)
+/* Access 0 waits for an answer, in state 4. */
+static struct tjernfaug_record waiting;
+
+static void expect(const char *what, size_t got, size_t want)
 {
     if (got != want) {
-        fprintf(stderr, "%s: %u, not %u\n", what, (unsigned)got, (unsigned)want);
+        fprintf(stderr, "%s: %zu, not %zu\n", what, got, want);
         wrong++;
     }
 }
 
-#define CAUSE(what, want, ...)                             \
-    do {                                                   \
-        static const uint8_t msg[] = {__VA_ARGS__};        \
-        expect(what, reject_cause(msg, sizeof msg), want); \
+static void message(const char *what, uint32_t cause, uint32_t answer, size_t offset, const uint8_t *msg, size_t len)
+{
+    struct tjernfaug_record r = waiting;
+    struct tjernfaug_notice notice;
+    uint8_t body[16] = {0x00, 0x01, 0x08, 0x07};
+    memset(&notice, 0xA5, sizeof notice);
+    memcpy(body + 4, msg, len);
+    expect(what, reject_cause(msg, len), cause);
+    expect(what, tjernfaug_event(&r, 3, body, 4 + len, &notice), answer);
+    expect(what, notice.offset, offset);
+}
+
+#define MESSAGE(what, cause, answer, offset, ...)              \
+    do {                                                       \
+        static const uint8_t msg[] = {__VA_ARGS__};            \
+        message(what, cause, answer, offset, msg, sizeof msg); \
     } while (0)
 
 /* low five bits times 2 s, 60 s or 360 s for top bits 0, 1, 2; others 60 s; 65535 for 7 */
@@ -35,34 +54,73 @@ static void timers(void)
         expect("timer", timer_seconds((uint8_t)octet), seconds(octet));
 }
 
-static void rejects(void)
+static void wait(void)
 {
-    CAUSE("reject 11", 11, 0x7E, 0x00, 0x44, 0x0B);
-    CAUSE("reject 22, two timers", 22, 0x7E, 0x00, 0x44, 0x16, 0x5F, 0x01, 0x2F, 0x16, 0x01, 0x3F);
-    CAUSE("an unknown 9F takes one octet", 3, 0x7E, 0x00, 0x44, 0x03, 0x9F, 0x16, 0x01, 0x3F);
-    CAUSE("cause 255", 255, 0x7E, 0x00, 0x44, 0xFF);
-    CAUSE("cause 0", 0, 0x7E, 0x00, 0x44, 0x00);
-    CAUSE("elements of no octets and of one", 7, 0x7E, 0x00, 0x44, 0x07, 0x70, 0x00, 0x00, 0x80);
+    static const uint8_t one[] = {0x00}, two[] = {0xF0, 0xF0};
+    static const uint8_t card[] = {0x00, 0xF1, 0x10, 0x01, 0x00, 0xF1, 0x10, 0xF0, 0xFF, 0x00, 0x00, 0x07};
+    static const uint8_t start[] = {0x00, 0x00, 0x00, 0xF2, 0x20, 0x00, 0x00, 0x2A};
+    struct tjernfaug_notice notice;
+    expect("new", tjernfaug_new(&waiting, 3, 3, 3, one, sizeof one, two, sizeof two), 0);
+    expect("card", tjernfaug_event(&waiting, 1, card, sizeof card, &notice), 0);
+    expect("start", tjernfaug_event(&waiting, 2, start, sizeof start, &notice), 0);
 }
 
-static void refusals(void)
+static void wellformed(void)
 {
-    expect("empty", reject_cause((const uint8_t *)"", 0), 259);
-    CAUSE("first octet", 259, 0x7D, 0x00, 0x44, 0x0B);
-    CAUSE("second octet", 259, 0x7E, 0x01, 0x44, 0x0B);
-    CAUSE("no type", 259, 0x7E, 0x00);
-    CAUSE("no cause", 259, 0x7E, 0x00, 0x44);
-    CAUSE("an accept", 259, 0x7E, 0x00, 0x42, 0x01, 0x01);
-    CAUSE("a request", 259, 0x7E, 0x00, 0x41, 0x71, 0x00);
-    CAUSE("a cut tail", 259, 0x7E, 0x00, 0x44, 0x0B, 0x5F, 0x05);
-    CAUSE("an unknown 0F", 259, 0x7E, 0x00, 0x44, 0x0B, 0x0F, 0x00);
+    MESSAGE("reject 11", 11, 0, 0, 0x7E, 0x00, 0x44, 0x0B);
+    MESSAGE("reject 22, two timers", 22, 0, 0, 0x7E, 0x00, 0x44, 0x16, 0x5F, 0x01, 0x2F, 0x16, 0x01, 0x3F);
+    MESSAGE("an unknown 9F takes one octet", 3, 0, 0, 0x7E, 0x00, 0x44, 0x03, 0x9F, 0x16, 0x01, 0x3F);
+    MESSAGE("cause 255", 255, 0, 0, 0x7E, 0x00, 0x44, 0xFF);
+    MESSAGE("cause 0", 0, 0, 0, 0x7E, 0x00, 0x44, 0x00);
+    MESSAGE("elements of no octets and of one", 7, 0, 0, 0x7E, 0x00, 0x44, 0x07, 0x70, 0x00, 0x00, 0x80);
+    MESSAGE("an accept", 272, 0, 0, 0x7E, 0x00, 0x42, 0x01, 0x01);
+}
+
+/* Fewer than the fixed octets, and the first three octets. */
+static void heads(void)
+{
+    message("empty", 269, 13, 0, (const uint8_t *)"", 0);
+    MESSAGE("first octet, alone", 270, 14, 0, 0x7D);
+    MESSAGE("first octet, and the second", 270, 14, 0, 0x7D, 0x01);
+    MESSAGE("first octet", 270, 14, 0, 0x7D, 0x00, 0x44, 0x0B);
+    MESSAGE("no second octet", 269, 13, 1, 0x7E);
+    MESSAGE("second octet, the last", 271, 15, 1, 0x7E, 0x01);
+    MESSAGE("second octet", 271, 15, 1, 0x7E, 0x01, 0x44, 0x0B);
+    MESSAGE("no type", 269, 13, 2, 0x7E, 0x00);
+    MESSAGE("an unknown type", 272, 16, 2, 0x7E, 0x00, 0x99);
+    MESSAGE("a request", 272, 16, 2, 0x7E, 0x00, 0x41, 0x71, 0x00);
+    MESSAGE("no cause", 269, 13, 3, 0x7E, 0x00, 0x44);
+}
+
+/* The reject reader does not look behind their type; the event does. */
+static void accepts(void)
+{
+    MESSAGE("no result", 272, 13, 3, 0x7E, 0x00, 0x42);
+    MESSAGE("a result of length 0", 272, 13, 3, 0x7E, 0x00, 0x42, 0x00);
+    MESSAGE("a result of length 0, and octets", 272, 13, 3, 0x7E, 0x00, 0x42, 0x00, 0x01, 0x02);
+    MESSAGE("a result's length alone", 272, 13, 4, 0x7E, 0x00, 0x42, 0x01);
+    MESSAGE("a cut result", 272, 13, 5, 0x7E, 0x00, 0x42, 0x02, 0x01);
+    MESSAGE("an unknown 05 in an accept", 272, 18, 5, 0x7E, 0x00, 0x42, 0x01, 0x01, 0x05, 0x00);
+}
+
+static void elements(void)
+{
+    MESSAGE("an element past the end", 273, 17, 4, 0x7E, 0x00, 0x44, 0x0B, 0x5F, 0x05);
+    MESSAGE("an unknown 0F", 274, 18, 4, 0x7E, 0x00, 0x44, 0x0B, 0x0F, 0x00);
+    MESSAGE("an unknown 05", 274, 18, 4, 0x7E, 0x00, 0x44, 0x0B, 0x05, 0x00);
+    MESSAGE("an unknown 05 past the end: at a tie the lower number", 273, 17, 4, 0x7E, 0x00, 0x44, 0x0B, 0x05);
+    MESSAGE("an unknown 05 behind 9F", 274, 18, 5, 0x7E, 0x00, 0x44, 0x0B, 0x9F, 0x05, 0x00);
+    MESSAGE("a length past the end, behind 9F", 273, 17, 5, 0x7E, 0x00, 0x44, 0x0B, 0x9F, 0x77, 0x00);
 }
 
 int main(void)
 {
     timers();
-    rejects();
-    refusals();
+    wait();
+    wellformed();
+    heads();
+    accepts();
+    elements();
     printf("reader: %d wrong\n", wrong);
     return wrong != 0;
 }

@@ -73,6 +73,7 @@ pub struct CRecord {
 #[repr(C, packed)]
 #[derive(Clone, Copy)]
 pub struct CNotice {
+    pub offset: u64,
     pub clocks: [[[u32; 2]; 3]; 2],
     pub t3247: [u32; 2],
     pub t3512: [u32; 2],
@@ -272,6 +273,7 @@ fn notice_out(p: &Reply) -> CNotice {
     let clocks = |a: usize| [T3510, T3511, T3502].map(|timer| told(p.timers[timer + a]));
     let request = |asked: Option<u8>| asked.map_or(0, |access| 1 + access as u32);
     CNotice {
+        offset: p.offset as u64,
         clocks: [clocks(0), clocks(1)],
         t3247: told(p.timers[T3247]),
         t3512: told(p.timers[T3512]),

@@ -1,108 +1,106 @@
-// A second reading of accepts and rejects, written from document 01 and R-5 alone. It writes the messages that the program
-// `reading` is run on, and what it has to print: `reading DIR` makes DIR/reading.stdin and DIR/reading.stdout.
+// A second reading of messages, written from documents 01 and 02 (R-1, R-5) alone, by each of the three readers that the
+// program `reading` runs: that of accepts and rejects, that of requests, and the reject reader for C.
+//   reading DIR                     stored messages, to DIR/reading.stdin, and what `reading` has to print, to DIR/reading.stdout
+//   reading random SEED MESSAGES    so many messages by chance, to standard output
+//   reading compare SEED MESSAGES   holds what `reading` printed of those, on standard input, to the second reading; counts the
+//                                   readings, and fails where one of them never occurs
+use std::collections::BTreeMap;
 use std::fmt;
 use std::fs;
+use std::io::{self, Write};
+use std::ops::Range;
+use std::process::ExitCode;
 
-#[derive(Clone, Copy)]
-enum Fault {
-    Cut,
-    First,
-    Second,
-    Type,
-    Past,
-    Strange,
+// The refusals of R-1.
+const CUT: u16 = 13;
+const FIRST: u16 = 14;
+const SECOND: u16 = 15;
+const TYPE: u16 = 16;
+const PAST: u16 = 17;
+const STRANGE: u16 = 18;
+
+// The least fault is the one to tell: the lowest offset, at a tie the lower number.
+#[derive(PartialEq, Eq, PartialOrd, Ord)]
+struct Fault {
+    at: usize,
+    number: u16,
 }
 
-enum Reading {
-    Accept {
-        result: u8,
-        guti: Option<usize>,
-        triplets: Option<(usize, usize)>,
-        t3502: Option<u32>,
-        t3512: Option<u32>,
-    },
-    Reject(u8),
-    Bad(Fault, usize),
-}
-
-impl fmt::Display for Fault {
-    fn fmt(&self, f: &mut fmt::Formatter) -> fmt::Result {
-        f.write_str(match self {
-            Fault::Cut => "cut",
-            Fault::First => "first",
-            Fault::Second => "second",
-            Fault::Type => "type",
-            Fault::Past => "past",
-            Fault::Strange => "strange",
-        })
-    }
-}
-
-// what is there as "1 x", what is absent as zeros
-impl fmt::Display for Reading {
-    fn fmt(&self, f: &mut fmt::Formatter) -> fmt::Result {
-        match self {
-            Reading::Accept {
-                result,
-                guti,
-                triplets,
-                t3502,
-                t3512,
-            } => {
-                let (count, start) = triplets.unwrap_or((0, 0));
-                write!(
-                    f,
-                    "accept {result} guti {} {}",
-                    guti.is_some() as u8,
-                    guti.unwrap_or(0)
-                )?;
-                write!(f, " equivalents {count} {start}")?;
-                write!(f, " wait {} {}", t3502.is_some() as u8, t3502.unwrap_or(0))?;
-                write!(
-                    f,
-                    " pace {} {}",
-                    t3512.is_some() as u8,
-                    t3512.unwrap_or(0)
-                )
-            }
-            Reading::Reject(cause) => write!(f, "reject {cause}"),
-            Reading::Bad(fault, at) => write!(f, "{fault} {at}"),
-        }
-    }
-}
-
-struct Element<'a> {
+struct Element {
     id: u8,
-    start: usize,
-    contents: &'a [u8],
+    contents: Range<usize>,
 }
 
-fn be16(octets: &[u8]) -> usize {
-    usize::from(octets[0]) << 8 | usize::from(octets[1])
+// How many octets are fixed, by the octets that are there. The elements begin behind them.
+fn fixed(msg: &[u8]) -> usize {
+    let octet = |at| msg.get(at).map_or(0, |&o: &u8| usize::from(o));
+    match msg.get(2) {
+        Some(0x41) => 6 + 256 * octet(4) + octet(5),
+        Some(0x42) => 4 + octet(3).max(1),
+        Some(0x44) => 4,
+        _ => 3,
+    }
 }
 
-// "Optional elements": all of those from `at` to the end, or the first that is malformed.
-fn elements(msg: &[u8], mut at: usize) -> Result<Vec<Element<'_>>, (Fault, usize)> {
+// Where the contents of the element at a place lie, if the message has them all.
+fn contents(msg: &[u8], at: usize) -> Option<Range<usize>> {
+    let octet = |i| msg.get(at + i).map(|&o| usize::from(o));
+    let (lead, len) = match msg[at] {
+        0x80..=0xFF => (0, 1),
+        0x70..=0x7F => (3, 256 * octet(1)? + octet(2)?),
+        0x52 if msg[2] == 0x41 => (1, 6),
+        _ => (2, octet(1)?),
+    };
+    let end = at + lead + len;
+    (end <= msg.len()).then_some(at + lead..end)
+}
+
+// "Optional elements", from a place to the end or to the first that lies past it.
+fn elements(msg: &[u8], mut at: usize, faults: &mut Vec<Fault>) -> Vec<Element> {
     let mut all = Vec::new();
     while let Some(&id) = msg.get(at) {
-        let past = (Fault::Past, at);
-        let (start, len) = match id {
-            0x80..=0xFF => (at, 1),
-            0x70..=0x7F => (at + 3, be16(msg.get(at + 1..at + 3).ok_or(past)?)),
-            _ => (at + 2, usize::from(*msg.get(at + 1).ok_or(past)?)),
-        };
-        let contents = msg.get(start..start + len).ok_or(past)?;
         if id < 0x10 {
-            return Err((Fault::Strange, at));
+            let number = STRANGE;
+            faults.push(Fault { at, number });
         }
-        all.push(Element {
-            id,
-            start,
-            contents,
-        });
-        at = start + len;
+        let Some(contents) = contents(msg, at) else {
+            faults.push(Fault { at, number: PAST });
+            break;
+        };
+        at = contents.end;
+        all.push(Element { id, contents });
     }
-    Ok(all)
+    all
+}
+
+// The elements of a message of one of these types; or of all its faults the one to tell.
+fn read(msg: &[u8], types: &[u8]) -> Result<Vec<Element>, Fault> {
+    let mut faults = Vec::new();
+    let fixed = fixed(msg);
+    if msg.len() < fixed {
+        let at = msg.len();
+        faults.push(Fault { at, number: CUT });
+    }
+    if msg.starts_with(&[0x7E, 0x00, 0x42, 0x00]) {
+        faults.push(Fault { at: 3, number: CUT });
+    }
+    for (at, octets, number) in [
+        (0, &[0x7E][..], FIRST),
+        (1, &[0x00], SECOND),
+        (2, types, TYPE),
+    ] {
+        if msg.get(at).is_some_and(|octet| !octets.contains(octet)) {
+            faults.push(Fault { at, number });
+        }
+    }
+    let all = elements(msg, fixed, &mut faults);
+    faults.into_iter().min().map_or(Ok(all), Err)
+}
+
+// The first of a repeat counts; one too short is absent.
+fn held(all: &[Element], id: u8, shortest: usize) -> Option<Range<usize>> {
+    let first = all.iter().find(|e| e.id == id)?;
+    Some(first.contents.clone()).filter(|c| c.len() >= shortest)
 }
 
 // "Timer octet": None is absent.
@@ -123,57 +121,97 @@ fn period(octet: u8) -> u32 {
     u32::from(octet & 0x1F) * UNITS[usize::from(octet >> 5)]
 }
 
-fn accept(msg: &[u8]) -> Result<Reading, (Fault, usize)> {
-    let len = match msg.get(3) {
-        None | Some(0) => return Err((Fault::Cut, 3)),
-        Some(&n) => usize::from(n),
-    };
-    let result = msg.get(4..4 + len).ok_or((Fault::Cut, msg.len()))?[0];
-    let all = elements(msg, 4 + len)?;
-    let first = |id| all.iter().find(|e| e.id == id);
-    let guti = first(0x77)
-        .filter(|e| e.contents.len() >= 11 && e.contents[0] == 0xF2)
-        .map(|e| e.start + 1);
-    let triplets = first(0x4A)
-        .map(|e| (e.contents.chunks_exact(3).take(15).count(), e.start))
-        .filter(|t| t.0 > 0);
-    let t3502 = first(0x16)
-        .and_then(|e| e.contents.first())
-        .and_then(|&t| seconds(t));
-    let t3512 = first(0x5E)
-        .and_then(|e| e.contents.first())
-        .map(|&t| period(t));
-    Ok(Reading::Accept {
-        result,
-        guti,
-        triplets,
-        t3502,
-        t3512,
+// What is there as "1 x", what is absent as zeros.
+fn given<T: Default + fmt::Display>(x: Option<T>) -> String {
+    format!("{} {}", x.is_some() as u8, x.unwrap_or_default())
+}
+
+fn accept(msg: &[u8], all: &[Element]) -> String {
+    let guti = held(all, 0x77, 11).filter(|c| msg[c.start] == 0xF2);
+    let triplets = held(all, 0x4A, 3).unwrap_or(0..0);
+    let t3502 = held(all, 0x16, 1).and_then(|c| seconds(msg[c.start]));
+    let t3512 = held(all, 0x5E, 1).map(|c| period(msg[c.start]));
+    let count = (triplets.len() / 3).min(15);
+    format!(
+        "accept {} guti {} equivalents {count} {} wait {} pace {}",
+        msg[4],
+        given(guti.map(|c| c.start + 1)),
+        triplets.start,
+        given(t3502),
+        given(t3512)
+    )
+}
+
+fn event(msg: &[u8]) -> Result<String, Fault> {
+    let all = read(msg, &[0x42, 0x44])?;
+    Ok(match msg[2] {
+        0x42 => accept(msg, &all),
+        _ => format!("reject {}", msg[3]),
     })
 }
 
-fn reject(msg: &[u8]) -> Result<Reading, (Fault, usize)> {
-    let cause = *msg.get(3).ok_or((Fault::Cut, 3))?;
-    elements(msg, 4)?;
-    Ok(Reading::Reject(cause))
+// "Request", its reading back, with types 2 and 3, 40 and 50 of R-5: 3 where the layout is broken.
+fn request(msg: &[u8]) -> Result<String, Fault> {
+    let all = read(msg, &[0x41])?;
+    let (ksi, regtype) = (msg[3] >> 4, msg[3] & 15);
+    let identity = 6..fixed(msg);
+    let named = match &msg[identity.clone()] {
+        [0xF2, guti @ ..] => guti.len() == 10,
+        suci @ [0x01, ..] => (9..=64).contains(&suci.len()),
+        _ => false,
+    };
+    let capability = held(&all, 0x10, 1);
+    let security = held(&all, 0x2E, 2);
+    let fits = capability.as_ref().is_none_or(|c| c.len() <= 13)
+        && security.as_ref().is_some_and(|c| c.len() <= 8);
+    if ksi > 7 || !(1..=3).contains(&regtype) || !named || !fits {
+        return Ok("3".to_string());
+    }
+    let status = |id| held(&all, id, 2).map(|c| c.start..c.start + 2);
+    let mut text = format!("request {regtype} {ksi}");
+    for (name, part) in [
+        ("identity", Some(identity)),
+        ("capability", capability),
+        ("security", security),
+        ("last", held(&all, 0x52, 6)),
+        ("uplink", status(0x40)),
+        ("sessions", status(0x50)),
+    ] {
+        if let Some(part) = part {
+            text += &format!(" {name} {} {}", part.start, part.len());
+        }
+    }
+    Ok(text)
 }
 
-fn read(msg: &[u8]) -> Reading {
-    let read = match msg {
-        [] => Err((Fault::Cut, 0)),
-        [0x7E] => Err((Fault::Cut, 1)),
-        [0x7E, 0x00] => Err((Fault::Cut, 2)),
-        [0x7E, 0x00, 0x42, ..] => accept(msg),
-        [0x7E, 0x00, 0x44, ..] => reject(msg),
-        [0x7E, 0x00, ..] => Err((Fault::Type, 2)),
-        [0x7E, ..] => Err((Fault::Second, 1)),
-        _ => Err((Fault::First, 0)),
+// The reject reader for C: the cause, or 256 plus the refusal's number.
+fn cause(msg: &[u8]) -> u16 {
+    match read(msg, &[0x44]) {
+        Ok(_) => u16::from(msg[3]),
+        Err(fault) => 256 + fault.number,
+    }
+}
+
+fn line(msg: &[u8]) -> String {
+    let told = |said: Result<String, Fault>| {
+        said.unwrap_or_else(|fault| format!("{} at {}", fault.number, fault.at))
     };
-    read.unwrap_or_else(|(fault, at)| Reading::Bad(fault, at))
+    format!(
+        "{} | {} | {}",
+        told(event(msg)),
+        told(request(msg)),
+        cause(msg)
+    )
 }
 
 // A message: its octets, and how many zeros follow them.
 struct Message(Vec<u8>, u16);
+
+impl Message {
+    fn whole(&self) -> Vec<u8> {
+        [self.0.clone(), vec![0; usize::from(self.1)]].concat()
+    }
+}
 
 fn hex(text: &str) -> Vec<u8> {
     text.split_whitespace()
@@ -184,18 +222,24 @@ fn hex(text: &str) -> Vec<u8> {
 const GUTI: &str = "77 00 0B F2 00 F1 10 80 01 C5 D1 C2 B3 A4";
 const EQUIVALENTS: &str = "4A 06 00 F2 20 00 F3 30";
 const WHOLE: &str = "7E 00 42 01 01 77 00 0B F2 00 F1 10 80 01 C5 D1 C2 B3 A4 4A 06 00 F2 20 00 F3 30 5E 01 2A 16 01 3F 75 00 00";
+const ASKING: &str = "7E 00 41 71 00 09 01 00 F1 10 F0 FF 00 00 07";
+const UPDATE: &str = "7E 00 41 32 00 0B F2 00 F1 10 80 01 C5 D1 C2 B3 A4 10 01 00 2E 02 F0 F0 52 00 F2 20 00 00 2A 40 02 20 00 50 02 20 00";
 
 fn plain(all: &mut Vec<Message>, text: &str) {
     all.push(Message(hex(text), 0));
 }
 
-// an accept or a reject with these elements
+// an accept, a reject or a request with these elements
 fn accepted(all: &mut Vec<Message>, text: &str, zeros: u16) {
     all.push(Message([hex("7E 00 42 01 01"), hex(text)].concat(), zeros));
 }
 
 fn rejected(all: &mut Vec<Message>, text: &str, zeros: u16) {
     all.push(Message([hex("7E 00 44 0B"), hex(text)].concat(), zeros));
+}
+
+fn asked(all: &mut Vec<Message>, text: &str, zeros: u16) {
+    all.push(Message([hex(ASKING), hex(text)].concat(), zeros));
 }
 
 // facts (9) and (10), the accept with an empty 75, and other whole messages as they are sent
@@ -207,25 +251,73 @@ fn sent(all: &mut Vec<Message>) {
         accepted(all, &format!("5E 01 {timer}"), 0);
     }
     plain(all, WHOLE);
-    plain(
-        all,
-        "7E 00 41 71 00 09 01 00 F1 10 F0 FF 00 00 07 2E 02 F0 F0",
-    );
+    asked(all, "2E 02 F0 F0", 0);
     plain(all, "7E 00 41 31 00 0B F2 00 F1 10 80 01 C5 D1 C2 B3 A4 10 01 00 2E 02 F0 F0 52 00 F2 20 00 00 2A");
+    plain(all, UPDATE);
     accepted(all, &format!("16 01 3F {GUTI}"), 0);
     plain(all, "7E 00 44 16 5F 01 2F 16 01 3F");
     plain(all, "7E 00 44 0B 5F 05");
 }
 
-// what opens a message, octet by octet, and the result of an accept
-fn opened(all: &mut Vec<Message>) {
-    for text in [
-        "", "7E", "7D", "7D 01", "7E 00", "7E 01", "7E 01 44", "7E 00 41", "7E 00 43", "7E 00 45",
-        "7E 00 42", "7E 00 44",
-    ] {
+// Each refusal at its boundary, and what each reader has to say, by R-1's sentences: octet by octet, then an accept's result,
+// the elements, and a request's identity and layout.
+const BOUNDARIES: &str = "\
+= 13 at 0 | 13 at 0 | 269
+7D = 14 at 0 | 14 at 0 | 270
+7D 01 = 14 at 0 | 14 at 0 | 270
+7D 01 99 = 14 at 0 | 14 at 0 | 270
+7E = 13 at 1 | 13 at 1 | 269
+7E 01 = 15 at 1 | 15 at 1 | 271
+7E 01 99 = 15 at 1 | 15 at 1 | 271
+7E 00 = 13 at 2 | 13 at 2 | 269
+7E 00 99 = 16 at 2 | 16 at 2 | 272
+7E 00 99 05 = 16 at 2 | 16 at 2 | 272
+7E 00 41 = 16 at 2 | 13 at 3 | 272
+7E 00 42 = 13 at 3 | 16 at 2 | 272
+7E 00 42 00 = 13 at 3 | 16 at 2 | 272
+7E 00 42 00 01 02 = 13 at 3 | 16 at 2 | 272
+7E 00 42 00 05 = 13 at 3 | 16 at 2 | 272
+7E 00 42 01 = 13 at 4 | 16 at 2 | 272
+7E 00 42 02 01 = 13 at 5 | 16 at 2 | 272
+7E 00 42 01 01 = accept 1 guti 0 0 equivalents 0 0 wait 0 0 pace 0 0 | 16 at 2 | 272
+7E 00 42 01 01 05 = 17 at 5 | 16 at 2 | 272
+7E 00 42 01 01 05 00 = 18 at 5 | 16 at 2 | 272
+7E 00 44 = 13 at 3 | 16 at 2 | 269
+7E 00 44 0B = reject 11 | 16 at 2 | 11
+7E 00 44 0B 05 = 17 at 4 | 16 at 2 | 273
+7E 00 44 0B 05 01 = 17 at 4 | 16 at 2 | 273
+7E 00 44 0B 05 00 = 18 at 4 | 16 at 2 | 274
+7E 00 44 0B 05 00 5F 05 = 18 at 4 | 16 at 2 | 274
+7E 00 44 0B 5F 05 = 17 at 4 | 16 at 2 | 273
+7E 00 44 0B 9F 05 00 = 18 at 5 | 16 at 2 | 274
+7E 00 44 0B 9F 77 00 = 17 at 5 | 16 at 2 | 273
+7E 00 41 81 = 16 at 2 | 13 at 4 | 272
+7E 00 41 71 00 = 16 at 2 | 13 at 5 | 272
+7E 00 41 71 00 09 = 16 at 2 | 13 at 6 | 272
+7E 00 41 71 00 09 01 00 F1 10 F0 FF 00 00 = 16 at 2 | 13 at 14 | 272
+7E 00 41 71 00 09 01 00 F1 10 F0 FF 00 00 07 = 16 at 2 | 3 | 272
+7E 00 41 71 00 00 = 16 at 2 | 3 | 272
+7E 00 41 71 00 00 2E 02 F0 F0 = 16 at 2 | 3 | 272
+7E 00 41 81 00 09 01 00 F1 10 F0 FF 00 00 07 2E 02 F0 F0 = 16 at 2 | 3 | 272
+7E 00 41 81 00 09 01 00 F1 10 F0 FF 00 00 07 2E 02 F0 = 16 at 2 | 17 at 15 | 272
+7E 00 41 71 00 09 01 00 F1 10 F0 FF 00 00 07 0F 00 2E = 16 at 2 | 18 at 15 | 272
+7E 00 41 71 00 09 01 00 F1 10 F0 FF 00 00 07 2E 02 F0 F0 52 00 F2 20 00 00 = 16 at 2 | 17 at 19 | 272
+";
+
+fn refused(all: &mut Vec<Message>) {
+    for row in BOUNDARIES.lines() {
+        let (text, said) = row.split_once("= ").unwrap();
+        assert_eq!(line(&hex(text)), said, "{text}");
         plain(all, text);
     }
-    for text in ["00", "00 01", "01", "01 02", "02 01", "02 01 00", "FF 01"] {
+}
+
+// what opens a message, octet by octet, and the result of an accept
+fn opened(all: &mut Vec<Message>) {
+    for text in ["7E 01 44", "7E 00 40", "7E 00 43", "7E 00 45"] {
+        plain(all, text);
+    }
+    for text in ["01 02", "02 01 00", "FF 01"] {
         plain(all, &format!("7E 00 42 {text}"));
     }
     all.push(Message(hex("7E 00 42 FF 09"), 253));
@@ -234,9 +326,16 @@ fn opened(all: &mut Vec<Message>) {
     for cause in ["00", "03", "FF"] {
         plain(all, &format!("7E 00 44 {cause}"));
     }
-    let whole = hex(WHOLE);
-    for n in 0..whole.len() {
-        all.push(Message(whole[..n].to_vec(), 0));
+}
+
+// messages cut at every octet
+fn cut(all: &mut Vec<Message>) {
+    let suci = format!("{ASKING} 2E 02 F0 F0");
+    for text in [WHOLE, UPDATE, &suci, "7E 00 44 0B 9F 5F 01 2F"] {
+        let whole = hex(text);
+        for n in 0..whole.len() {
+            all.push(Message(whole[..n].to_vec(), 0));
+        }
     }
 }
 
@@ -256,6 +355,7 @@ fn bounds(all: &mut Vec<Message>) {
             if let Ok(zeros) = u16::try_from(zeros) {
                 rejected(all, head, zeros);
                 accepted(all, head, zeros);
+                asked(all, &format!("2E 02 F0 F0 {head}"), zeros);
             }
         }
     }
@@ -266,7 +366,7 @@ fn bounds(all: &mut Vec<Message>) {
     accepted(all, "75 FF FF 01 02", 65533);
 }
 
-// the contents of each known element at their bounds
+// the contents of each element that an accept knows, at their bounds
 fn known(all: &mut Vec<Message>) {
     for (len, zeros) in [
         ("00 00", 0),
@@ -287,19 +387,54 @@ fn known(all: &mut Vec<Message>) {
     for len in [0, 1, 2, 3, 44, 45, 46, 48, 255] {
         accepted(all, &format!("4A {len:02X}"), len);
     }
-    for text in [
-        "16 00",
-        "16 02 3F 00",
-        "16 02 E5 3F",
-        "5E 00",
-        "5E 01 2A",
-        "5E 02 21 00",
-        "5E 02 E5 21",
-        "5E 03 00 21 21",
-        "5F 01 2F",
-    ] {
+    let timers = "16 00, 16 02 3F 00, 16 02 E5 3F, 5E 00, 5E 01 2A, 5E 02 21 00, 5E 02 E5 21, 5E 03 00 21 21, 5F 01 2F";
+    for text in timers.split(',') {
         accepted(all, text, 0);
     }
+}
+
+// identities at their bounds, and some past the end
+fn identities(all: &mut Vec<Message>) {
+    for lead in ["F2", "01", "F1", "02", "00"] {
+        for len in [1, 8, 9, 10, 11, 12, 63, 64, 65, 255, 256, 300] {
+            let head = format!("7E 00 41 71 {:02X} {:02X} {lead}", len / 256, len % 256);
+            let body = [hex(&head), vec![0x2E; len - 1]].concat();
+            all.push(Message([body, hex("2E 02 F0 F0")].concat(), 0));
+        }
+    }
+    for (len, zeros) in [
+        ("00 40", 62),
+        ("00 40", 63),
+        ("FF FF", 65533),
+        ("FF FF", 65534),
+    ] {
+        all.push(Message(hex(&format!("7E 00 41 71 {len} 01")), zeros));
+    }
+}
+
+// the contents of each element that a request knows, at their bounds
+fn asking(all: &mut Vec<Message>) {
+    for (id, lengths) in [
+        ("10", &[0, 1, 12, 13, 14, 255][..]),
+        ("2E", &[0, 1, 2, 7, 8, 9, 255]),
+        ("40", &[0, 1, 2, 3, 255]),
+        ("50", &[0, 1, 2, 3, 32, 255]),
+    ] {
+        for &len in lengths {
+            let text = format!("{id} {len:02X}");
+            asked(all, &format!("2E 02 F0 F0 {text}"), len);
+            let filled = format!("{text}{}", " 2E".repeat(usize::from(len)));
+            asked(all, &format!("{filled} 2E 02 F0 F0"), 0);
+            asked(all, &text, len);
+        }
+    }
+    for zeros in 4..9 {
+        asked(all, "2E 02 F0 F0 52", zeros);
+        rejected(all, "52", zeros);
+        accepted(all, "52", zeros);
+    }
+    asked(all, "52 2E 02 F0 F0 00", 0);
+    asked(all, "52 2E 02 F0 F0 00 00 2E 02 F0 F0", 0);
 }
 
 // the first of a repeat counts, even where it reads as absent
@@ -312,47 +447,65 @@ fn repeats(all: &mut Vec<Message>) {
         format!("77 00 0B F1 00 F1 10 80 01 C5 D1 C2 B3 A4 {other}"),
         format!("4A 02 00 F2 {EQUIVALENTS}"),
         format!("{EQUIVALENTS} 4A 00"),
-        "16 01 E5 16 01 3F".to_string(),
-        "16 00 16 01 3F".to_string(),
-        "16 01 21 16 01 3F".to_string(),
-        "5E 01 E5 5E 01 21".to_string(),
-        "5E 00 5E 01 21".to_string(),
-        "5E 01 00 5E 01 21".to_string(),
-        "5E 01 21 5E 01 E5".to_string(),
-        "5E 01 21 5E 00".to_string(),
-        "16 01 5E 5E 01 16".to_string(),
-        "5E 01 16 16 01 5E".to_string(),
-        "20 03 5E 01 21".to_string(),
-        "5E 01 5E 01 21".to_string(),
     ] {
         accepted(all, &text, 0);
+    }
+    let timers = "16 01 E5 16 01 3F, 16 00 16 01 3F, 16 01 21 16 01 3F, 5E 01 E5 5E 01 21, 5E 00 5E 01 21, 5E 01 00 5E 01 21, \
+        5E 01 21 5E 01 E5, 5E 01 21 5E 00, 16 01 5E 5E 01 16, 5E 01 16 16 01 5E, 20 03 5E 01 21, 5E 01 5E 01 21";
+    for text in timers.split(',') {
+        accepted(all, text, 0);
     }
     rejected(all, "52 00 F2 20 00 00 2A", 0);
     rejected(all, "52 03 F2 20 00", 0);
     rejected(all, "5E 01 21", 0);
 }
 
+// the same of a request, within and outside its layout
+fn asked_twice(all: &mut Vec<Message>) {
+    let security = "2E 02 F0 F0";
+    let others = "10 00 10 01 55, 10 01 55 10 00, 40 00 40 02 20 00, 40 01 20 40 02 20 00, 40 02 20 00 40 00, 50 00 50 02 20 00, \
+        50 02 20 00 50 04 00 20 00 00, 52 00 F2 20 00 00 2A 52 00 F1 10 00 00 2B, \
+        2E 00, 2E 01 F0, 2E 03 01 02 03, 2E 08 01 02 03 04 05 06 07 08, 2E 09 01 02 03 04 05 06 07 08 09";
+    for text in others.split(',') {
+        asked(all, &format!("{security} {text}"), 0);
+        asked(all, &format!("{text} {security}"), 0);
+    }
+    asked(all, &format!("{security} 10 0E"), 14);
+    asked(all, &format!("{security} 10 01 00 10 0E"), 14);
+}
+
+// every order of these: each text at every place of each order of those before it
+fn orders_of<'a>(texts: &[&'a str]) -> Vec<Vec<&'a str>> {
+    let mut all = vec![Vec::new()];
+    for text in texts {
+        for order in std::mem::take(&mut all) {
+            for place in 0..=order.len() {
+                all.push([&order[..place], &[*text], &order[place..]].concat());
+            }
+        }
+    }
+    all
+}
+
 // order is free
 fn orders(all: &mut Vec<Message>) {
-    let three = [GUTI, EQUIVALENTS, "16 01 5F"];
-    for order in [
-        [0, 1, 2],
-        [0, 2, 1],
-        [1, 0, 2],
-        [1, 2, 0],
-        [2, 0, 1],
-        [2, 1, 0],
-    ] {
-        accepted(all, &order.map(|i| three[i]).join(" "), 0);
-        for place in 0..=3 {
-            let mut four = order.map(|i| three[i]).to_vec();
-            four.insert(place, "5E 01 2A");
-            accepted(all, &four.join(" "), 0);
-        }
+    let accepts = [GUTI, EQUIVALENTS, "16 01 5F", "5E 01 2A"];
+    for order in [orders_of(&accepts[..3]), orders_of(&accepts)].concat() {
+        accepted(all, &order.join(" "), 0);
+    }
+    let asks = [
+        "2E 02 F0 F0",
+        "10 01 00",
+        "52 00 F2 20 00 00 2A",
+        "40 02 21 00",
+        "50 02 20 00",
+    ];
+    for order in orders_of(&asks) {
+        asked(all, &order.join(" "), 0);
     }
 }
 
-// every identifier and every timer octet
+// every identifier, every timer octet, and every octet 4 of a request
 fn octets(all: &mut Vec<Message>) {
     for octet in 0..=255 {
         rejected(all, &format!("{octet:02X}"), 0);
@@ -360,70 +513,298 @@ fn octets(all: &mut Vec<Message>) {
         accepted(all, &format!("{octet:02X} 01 01 16 01 3F"), 0);
         accepted(all, &format!("16 01 {octet:02X}"), 0);
         accepted(all, &format!("5E 01 {octet:02X}"), 0);
-    }
-}
-
-// what comes by chance: identifiers, known ones often, and octets of their contents
-const IDS: [u8; 18] = [
-    0x77, 0x77, 0x77, 0x4A, 0x4A, 0x4A, 0x16, 0x16, 0x16, 0x5E, 0x5E, 0x5E, 0x75, 0x9F, 0xF2, 0x20,
-    0x52, 0x0F,
-];
-const CONTENTS: [u8; 8] = [0xF2, 0xF2, 0xF2, 0xF2, 0x3F, 0xE5, 0x16, 0x00];
-
-// messages by chance: a few elements, one message in eight cut by an octet
-fn chance(all: &mut Vec<Message>) {
-    let mut seed: u64 = 1;
-    let mut draw = |n: u64| {
-        seed = seed
-            .wrapping_mul(6364136223846793005)
-            .wrapping_add(1442695040888963407);
-        (seed >> 33) % n
-    };
-    for _ in 0..600 {
-        let mut msg = hex(if draw(4) == 0 {
-            "7E 00 44 0B"
-        } else {
-            "7E 00 42 01 01"
-        });
-        for _ in 0..1 + draw(6) {
-            let id = IDS[draw(18) as usize];
-            let len = match id {
-                0x77 => 8 + draw(6) as u8,
-                0x80..=0xFF => 0,
-                _ => draw(14) as u8,
-            };
-            msg.push(id);
-            match id {
-                0x80..=0xFF => {}
-                0x70..=0x7F => msg.extend([0, len]),
-                _ => msg.push(len),
-            }
-            for _ in 0..len {
-                msg.push(CONTENTS[draw(8) as usize]);
-            }
-        }
-        if draw(8) == 0 {
-            msg.pop();
-        }
+        asked(all, &format!("2E 02 F0 F0 {octet:02X}"), 0);
+        asked(all, &format!("{octet:02X} 01 01 2E 02 F0 F0"), 0);
+        let mut msg = hex(UPDATE);
+        msg[3] = octet;
         all.push(Message(msg, 0));
     }
 }
 
-fn main() {
-    let dir = std::env::args().nth(1).expect("a folder");
-    let mut all = Vec::new();
-    for part in [sent, opened, bounds, known, repeats, orders, octets, chance] {
-        part(&mut all);
+// requests written by hand: elements in other orders and twice; 40 and 50 in an update, in one of type 1, too short or left out;
+// messages cut or with an element at fault; types 4 and 0, a GUTI of nine octets
+const BY_HAND: &str = "\
+7E 00 41 31 00 0B F2 00 F1 10 80 01 C5 D1 C2 B3 A4 52 00 F2 20 00 00 2A 9F 2E 02 F0 F0 10 01 00
+7E 00 41 71 00 09 01 00 F1 10 F0 FF 00 00 07 10 00 2E 02 F0 F0 10 01 55 2E 03 01 02 03
+7E 00 41 32 00 09 01 00 F1 10 F0 FF 00 00 07 50 02 20 00 10 01 00 40 02 21 00 2E 02 F0 F0
+7E 00 41 33 00 09 01 00 F1 10 F0 FF 00 00 07 2E 02 F0 F0 40 01 20 40 02 20 00
+7E 00 41 32 00 09 01 00 F1 10 F0 FF 00 00 07 2E 02 F0 F0 50 04 20 00 00 00 40 00
+7E 00 41 31 00 09 01 00 F1 10 F0 FF 00 00 07 40 02 20 00 50 02 20 00 2E 02 F0 F0
+7E 00 41 72 00 09 01 00 F1 10 F0 FF 00 00 07 2E 02 F0 F0
+7E 00 41 71 00 09 01 00
+7E 00 41 71 00 00 05 00
+7E 00 41 71 00 00 2E 02 F0
+7E 00 41 74 00 09 01 00 F1 10 F0 FF 00 00 07 2E 02 F0 F0
+7E 00 41 70 00 09 01 00 F1 10 F0 FF 00 00 07 2E 02 F0 F0
+7E 00 41 71 00 09 F2 00 F1 10 F0 FF 00 00 07 2E 02 F0 F0";
+
+fn by_hand(all: &mut Vec<Message>) {
+    for text in BY_HAND.lines() {
+        plain(all, text);
     }
-    let (mut input, mut output) = (Vec::new(), String::new());
-    for Message(octets, zeros) in &all {
+}
+
+// What comes by chance, the same for the same seed: identifiers, known ones often, and octets of their contents.
+struct Chance(u64);
+
+const ACCEPTS: [u8; 18] = [
+    0x77, 0x77, 0x77, 0x4A, 0x4A, 0x4A, 0x16, 0x16, 0x16, 0x5E, 0x5E, 0x5E, 0x75, 0x9F, 0xF2, 0x20,
+    0x52, 0x0F,
+];
+const ASKS: [u8; 14] = [
+    0x10, 0x10, 0x10, 0x2E, 0x52, 0x52, 0x52, 0x40, 0x40, 0x50, 0x50, 0x75, 0x9F, 0x20,
+];
+const CONTENTS: [u8; 8] = [0xF2, 0xF2, 0xF2, 0xF2, 0x3F, 0xE5, 0x16, 0x00];
+
+impl Chance {
+    fn below(&mut self, n: usize) -> usize {
+        self.0 = self
+            .0
+            .wrapping_mul(6364136223846793005)
+            .wrapping_add(1442695040888963407);
+        (self.0 >> 33) as usize % n
+    }
+
+    fn of<T: Copy>(&mut self, all: &[T]) -> T {
+        all[self.below(all.len())]
+    }
+
+    fn octet(&mut self) -> u8 {
+        self.below(256) as u8
+    }
+
+    fn content(&mut self) -> u8 {
+        match self.below(4) {
+            0 => self.octet(),
+            _ => self.of(&CONTENTS),
+        }
+    }
+
+    fn element(&mut self, request: bool) -> Vec<u8> {
+        let id = match self.below(8) {
+            0 => self.octet(),
+            _ => self.of(if request { &ASKS[..] } else { &ACCEPTS }),
+        };
+        let len = match id {
+            0x52 if request => 6,
+            0x77 => 8 + self.below(6),
+            0x4A => self.below(60),
+            0x10 | 0x2E => self.below(16),
+            0x70..=0x7F => self.of(&[0, 1, 5, 255, 256, 600]),
+            _ => self.below(14),
+        };
+        let mut element = vec![id];
+        match id {
+            0x80..=0xFF => return element,
+            0x70..=0x7F => element.extend((len as u16).to_be_bytes()),
+            0x52 if request => {}
+            _ => element.push(len as u8),
+        }
+        element.extend((0..len).map(|_| self.content()));
+        element
+    }
+
+    fn accept(&mut self) -> Vec<u8> {
+        let len = self.of(&[1, 1, 1, 1, 1, 2, 7, 0]);
+        let mut msg = vec![0x7E, 0x00, 0x42, len];
+        msg.extend((0..len).map(|_| self.octet()));
+        for _ in 0..self.below(6) {
+            msg.extend(self.element(false));
+        }
+        msg
+    }
+
+    fn reject(&mut self) -> Vec<u8> {
+        let mut msg = vec![0x7E, 0x00, 0x44, self.octet()];
+        for _ in 0..self.below(4) {
+            msg.extend(self.element(false));
+        }
+        msg
+    }
+
+    // mostly within the layout, its 2E anywhere among the elements
+    fn request(&mut self) -> Vec<u8> {
+        let fourth = (16 * self.below(8) + 1 + self.below(3)) as u8;
+        let suci = 9 + self.below(56) as u8;
+        let (lead, len) = match self.below(16) {
+            0 => (0x01, self.of(&[0, 1, 8, 65, 200])),
+            1 => (0xF2, self.of(&[1, 10, 12])),
+            2 => (self.octet(), suci),
+            3..=8 => (0xF2, 11),
+            _ => (0x01, suci),
+        };
+        let mut msg = vec![0x7E, 0x00, 0x41, fourth, 0x00, len];
+        msg.extend((0..len).map(|i| if i == 0 { lead } else { self.octet() }));
+        let mut elements: Vec<Vec<u8>> = (0..self.below(6)).map(|_| self.element(true)).collect();
+        if self.below(16) > 0 {
+            let len = 2 + self.below(7);
+            let place = self.below(elements.len() + 1);
+            elements.insert(place, [vec![0x2E, len as u8], vec![0xF0; len]].concat());
+        }
+        msg.extend(elements.concat());
+        msg
+    }
+
+    fn noise(&mut self) -> Vec<u8> {
+        let heads = ["", "7E", "7E 00", "7E 00 41", "7E 00 42 01 01", "7E 00 44"];
+        let mut msg = hex(self.of(&heads));
+        msg.extend((0..self.below(24)).map(|_| self.octet()));
+        msg
+    }
+
+    // as it is, or with one thing changed
+    fn changed(&mut self, mut msg: Vec<u8>) -> Vec<u8> {
+        let place = self.below(msg.len());
+        match self.below(14) {
+            0 | 1 => msg.truncate(place),
+            2 => msg.truncate(msg.len() - 1),
+            3 => msg[place] = self.octet(),
+            4 => msg[self.below(4)] = self.octet(),
+            5 => msg.insert(place, self.octet()),
+            6 => drop(msg.remove(place)),
+            7 => msg.push(self.octet()),
+            _ => {}
+        }
+        msg
+    }
+
+    fn message(&mut self) -> Message {
+        let msg = match self.below(8) {
+            0 => return Message(self.noise(), 0),
+            1 | 2 => self.accept(),
+            3 | 4 => self.reject(),
+            _ => self.request(),
+        };
+        Message(self.changed(msg), 0)
+    }
+}
+
+// so many messages of a seed
+fn random(seed: u64, messages: usize) -> Vec<Message> {
+    let mut chance = Chance(seed);
+    (0..messages).map(|_| chance.message()).collect()
+}
+
+fn by_chance(all: &mut Vec<Message>) {
+    all.extend(random(1, 100));
+}
+
+// Messages as the program `reading` takes them.
+fn input(all: &[Message]) -> Vec<u8> {
+    let mut input = Vec::new();
+    for Message(octets, zeros) in all {
         let len = u16::try_from(octets.len()).expect("a short message");
         input.extend(len.to_le_bytes());
         input.extend(zeros.to_le_bytes());
         input.extend(octets);
-        let whole = [octets.clone(), vec![0; usize::from(*zeros)]].concat();
-        output.push_str(&format!("{}\n", read(&whole)));
     }
-    fs::write(format!("{dir}/reading.stdin"), input).expect("to write the messages");
+    input
+}
+
+fn store(dir: &str) {
+    let mut all = Vec::new();
+    for part in [
+        sent,
+        refused,
+        opened,
+        cut,
+        bounds,
+        known,
+        identities,
+        asking,
+        repeats,
+        asked_twice,
+        orders,
+        octets,
+        by_hand,
+        by_chance,
+    ] {
+        part(&mut all);
+    }
+    let output: String = all.iter().map(|m| line(&m.whole()) + "\n").collect();
+    fs::write(format!("{dir}/reading.stdin"), input(&all)).expect("to write the messages");
     fs::write(format!("{dir}/reading.stdout"), output).expect("to write their readings");
+}
+
+// The readings that there are, by reader.
+const READINGS: [(&str, &[&str]); 3] = [
+    (
+        "accepts and rejects",
+        &["accept", "reject", "13", "14", "15", "16", "17", "18"],
+    ),
+    (
+        "requests",
+        &["request", "3", "13", "14", "15", "16", "17", "18"],
+    ),
+    (
+        "rejects for C",
+        &["cause", "269", "270", "271", "272", "273", "274"],
+    ),
+];
+
+// Prints how often each of them occurs; false where one never does.
+fn tally(lines: &[String]) -> bool {
+    let mut counts = BTreeMap::new();
+    for line in lines {
+        for (reader, said) in line.split(" | ").enumerate() {
+            let word = match said.parse::<u16>() {
+                Ok(cause) if reader == 2 && cause < 256 => "cause",
+                _ => said.split(' ').next().unwrap_or(""),
+            };
+            *counts.entry((reader, word)).or_insert(0) += 1;
+        }
+    }
+    let mut whole = true;
+    for (reader, (name, words)) in READINGS.iter().enumerate() {
+        let count = |word| counts.get(&(reader, word)).copied().unwrap_or(0);
+        let said: Vec<String> = words.iter().map(|w| format!("{w}: {}", count(w))).collect();
+        println!("reading: {name}: {}", said.join(", "));
+        whole &= words.iter().all(|w| count(w) > 0);
+    }
+    whole
+}
+
+// Holds what `reading` printed of the messages of a seed to the second reading, and shows the first that differs.
+fn compare(all: &[Message], printed: &str) -> bool {
+    let lines: Vec<String> = all.iter().map(|m| line(&m.whole())).collect();
+    let mut theirs = printed.lines();
+    for (number, line) in lines.iter().enumerate() {
+        let said = theirs.next().unwrap_or("nothing");
+        if said != line {
+            let octets = &all[number].0;
+            eprintln!("reading: message {} differs: {octets:02X?}", number + 1);
+            eprintln!("  the program:        {said}\n  the second reading: {line}");
+            return false;
+        }
+    }
+    if theirs.next().is_some() {
+        eprintln!("reading: more lines than messages");
+        return false;
+    }
+    let whole = tally(&lines);
+    if !whole {
+        eprintln!("reading: one of these never occurred");
+    }
+    whole
+}
+
+fn main() -> ExitCode {
+    let args: Vec<String> = std::env::args().skip(1).collect();
+    if let [dir] = &args[..] {
+        store(dir);
+        return ExitCode::SUCCESS;
+    }
+    let [mode, seed, messages] = &args[..] else {
+        panic!("DIR, or random or compare with a seed and how many messages");
+    };
+    let all = random(
+        seed.parse().expect("a seed"),
+        messages.parse().expect("how many messages"),
+    );
+    if mode == "random" {
+        io::stdout().write_all(&input(&all)).expect("to write");
+        return ExitCode::SUCCESS;
+    }
+    let printed = io::read_to_string(io::stdin()).expect("what `reading` printed");
+    ExitCode::from(!compare(&all, &printed) as u8)
 }

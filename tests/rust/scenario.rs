@@ -24,6 +24,19 @@
 // session 0 the lowest bit of the first; left out they are 0000. An accept's elements stand in
 // the order of their words, which is free. Octets of `message` and `raw` may be split by spaces.
 // A log and its text hold the same: to-text and then to-log gives the log back, octet for octet.
+//
+// Behind a message that is no accept and no reject, to-text adds a comment: the refusal's number,
+// the offset from 0 of the octet at fault, the fault in words, and the octets around that one. It
+// stands in brackets, which are empty where the message is cut.
+//
+//   message 0 unprotected draw 1800 7E0144  # by itself 15 at 1, octet 2 not 00: 7E [01] 44
+//   message 0 unprotected draw 1800 7E  # by itself 13 at 1, fewer than the fixed octets: 7E [ ]
+//
+// By itself: the event may be refused by its state or a range before its message is read.
+
+#[allow(dead_code)]
+#[path = "../../docs/src/message.rs"]
+mod message;
 
 use std::fmt::Write as _;
 use std::io::{self, Read, Write};
@@ -37,6 +50,21 @@ const FIRST_OF_DEVICE: usize = 3;
 
 /// By their numbers in a log, from 2.
 const UPDATES: [&str; 2] = ["mobility", "periodic"];
+
+/// What is wrong with a message, by the refusals' numbers from 13.
+const FAULTS: [&str; 6] = [
+    "fewer than the fixed octets",
+    "octet 1 not 7E",
+    "octet 2 not 00",
+    "type not one this call reads",
+    "an element past the end",
+    "an unknown element that must be understood",
+];
+const FIRST_FAULT: usize = 13;
+
+/// At most so many octets are shown before the one at fault, and behind it.
+const BEFORE: usize = 6;
+const BEHIND: usize = 4;
 
 fn octets(word: &str) -> Parsed<Vec<u8>> {
     let bad = || format!("`{word}` is not a row of hex octets");
@@ -311,6 +339,27 @@ fn accept_text(mut rest: &[u8]) -> Option<String> {
     Some(text)
 }
 
+/// The octets around the one at fault, in brackets; a cut message has none there.
+fn marked(message: &[u8], at: usize) -> String {
+    let octet =
+        |place: usize| message.get(place).map_or(" ".into(), |octet| format!("{octet:02X}"));
+    let word = |place| if place == at { format!("[{}]", octet(at)) } else { octet(place) };
+    let first = at.saturating_sub(BEFORE);
+    let end = message.len().clamp(at + 1, at + 1 + BEHIND);
+    let words: Vec<String> = (first..end).map(word).collect();
+    let before = if first > 0 { ".. " } else { "" };
+    let behind = if end < message.len() { " .." } else { "" };
+    format!("{before}{}{behind}", words.join(" "))
+}
+
+/// The comment behind a message that is no accept and no reject.
+fn fault_text(message: &[u8]) -> String {
+    let Err(fault) = message::read(message) else { return String::new() };
+    let words = FAULTS[fault.number as usize - FIRST_FAULT];
+    let shown = marked(message, fault.at);
+    format!("  # by itself {} at {}, {words}: {shown}", fault.number, fault.at)
+}
+
 fn message_text(access: u8, protected: u8, draw: u16, message: &[u8]) -> String {
     let way = if protected == 1 { "protected" } else { "unprotected" };
     if let [0x7E, 0x00, 0x44, cause] = message {
@@ -321,7 +370,8 @@ fn message_text(access: u8, protected: u8, draw: u16, message: &[u8]) -> String 
             return format!("accept {access} {way} draw {draw}{elements}");
         }
     }
-    format!("message {access} {way} draw {draw} {}", hex(message)).trim_end().into()
+    let text = format!("message {access} {way} draw {draw} {}", hex(message));
+    format!("{}{}", text.trim_end(), fault_text(message))
 }
 
 /// The body is the network, the area code and the octets of 40 and 50.

@@ -8,7 +8,7 @@
 use std::collections::BTreeMap;
 use std::io::Write;
 
-/// Every word of the whole reply and record (docs/src/full.rs) under a name: `answer`,
+/// Every word of the whole reply and record (docs/src/full.rs) under a name: `answer`, `offset`,
 /// `told.T3247`, `told0.T3510`, `restart`, `home`, `0.state`.
 type Fields = BTreeMap<String, String>;
 
@@ -41,9 +41,12 @@ struct Scene {
     hope: Vec<String>,
 }
 
+/// `HEX`, or `HEX*TIMES`.
 fn octets(text: &str) -> Vec<u8> {
-    assert!(text.len() % 2 == 0, "half an octet in {text}");
-    (0..text.len() / 2).map(|i| octet(&text[2 * i..2 * i + 2])).collect()
+    let (hex, times) = text.split_once('*').unwrap_or((text, "1"));
+    assert!(hex.len() % 2 == 0, "half an octet in {text}");
+    let once: Vec<u8> = (0..hex.len() / 2).map(|i| octet(&hex[2 * i..2 * i + 2])).collect();
+    once.repeat(decimal(times).into())
 }
 
 fn octet(text: &str) -> u8 {
@@ -265,20 +268,22 @@ fn fresh() -> Fields {
 
 fn read_reply(part: &str, fields: &mut Fields) {
     let words: Vec<&str> = part.split(' ').collect();
-    assert!(words.len() == 21 && words[0] == "=", "a reply of {} words", words.len());
+    assert!(words.len() == 23 && words[0] == "=", "a reply of {} words", words.len());
     fields.insert("answer".to_string(), words[1].to_string());
+    assert!(words[2] == "at");
+    fields.insert("offset".to_string(), words[3].to_string());
     for (i, timer) in TIMERS.iter().enumerate() {
-        assert!(words[2 + 3 * i] == *timer);
-        fields.insert(format!("told0.{timer}"), words[3 + 3 * i].to_string());
-        fields.insert(format!("told1.{timer}"), words[4 + 3 * i].to_string());
+        assert!(words[4 + 3 * i] == *timer);
+        fields.insert(format!("told0.{timer}"), words[5 + 3 * i].to_string());
+        fields.insert(format!("told1.{timer}"), words[6 + 3 * i].to_string());
     }
     for (i, timer) in CLOCKS.iter().enumerate() {
-        assert!(words[11 + 2 * i] == *timer);
-        fields.insert(format!("told.{timer}"), words[12 + 2 * i].to_string());
+        assert!(words[13 + 2 * i] == *timer);
+        fields.insert(format!("told.{timer}"), words[14 + 2 * i].to_string());
     }
     for (i, name) in ASKED.iter().enumerate() {
-        assert!(words[15 + 2 * i] == *name);
-        fields.insert(name.to_string(), words[16 + 2 * i].to_string());
+        assert!(words[17 + 2 * i] == *name);
+        fields.insert(name.to_string(), words[18 + 2 * i].to_string());
     }
 }
 
@@ -444,10 +449,20 @@ impl Hope<'_> {
     }
 }
 
+/// `ANSWER`, or `ANSWER@OFFSET`, which 13 to 18 have and no other.
+fn answered(text: &str) -> (String, String) {
+    let (answer, offset) = text.split_once('@').unwrap_or((text, "0"));
+    let faulty = (13..=18).contains(&decimal(answer));
+    assert!(faulty == text.contains('@'), "{text}: 13 to 18 tell an offset, no other does");
+    (answer.to_string(), offset.to_string())
+}
+
 /// Whatever an expectation does not name stays: a field as it was, a timer left, nothing asked.
 fn hoped(scene: &Scene, before: &Fields) -> Fields {
     let mut fields = before.clone();
-    fields.insert("answer".to_string(), scene.hope[0].clone());
+    let (answer, offset) = answered(&scene.hope[0]);
+    fields.insert("answer".to_string(), answer);
+    fields.insert("offset".to_string(), offset);
     for timer in CLOCKS {
         fields.insert(format!("told.{timer}"), "left".to_string());
     }

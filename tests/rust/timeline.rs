@@ -3,10 +3,11 @@
 //   timeline EVENTS <FULL >SVG
 //
 // FULL is what `regrun-rust --full` prints (docs/src/full.rs has its format); EVENTS has a line
-// of text for each event, as `scenario to-text` writes it. Columns: the event and its answer;
-// the state of access 0 and of access 1 with the attempt counter; T3247; T3512 and whether a
-// periodic update is due, if it ever ran; and for each network that an access ever held an entry
-// of, its counters against their limits and its marks.
+// of text for each event, as `scenario to-text` writes it. Columns: the event and its answer, of
+// a message that cannot be read with the octet at fault in brackets; the state of access 0 and of
+// access 1 with the attempt counter; T3247; T3512 and whether a periodic update is due, if it ever
+// ran; and for each network that an access ever held an entry of, its counters against their limits
+// and its marks.
 
 use std::collections::BTreeMap;
 use std::fmt::Write as _;
@@ -29,21 +30,28 @@ const STATES: [(&str, &str); 7] = [
 const UPDATES: [&str; 2] = ["update", "periodic update"];
 const UPDATING: &str = "#b4d7c8";
 
-const ANSWERS: [&str; 13] = [
-    "taken",
-    "out of range",
-    "ignored",
-    "malformed",
-    "table full",
-    "no card",
-    "wrong state",
-    "same network",
-    "listed",
-    "area listed",
-    "unprotected accept",
-    "not running",
-    "short buffer",
+/// By their numbers; 3 and 12 answer no event.
+const ANSWERS: [(usize, &str); 17] = [
+    (0, "taken"),
+    (1, "out of range"),
+    (2, "ignored"),
+    (4, "table full"),
+    (5, "no card"),
+    (6, "wrong state"),
+    (7, "same network"),
+    (8, "listed"),
+    (9, "area listed"),
+    (10, "unprotected accept"),
+    (11, "not running"),
+    (13, "fewer than the fixed octets"),
+    (14, "octet 1 not 7E"),
+    (15, "octet 2 not 00"),
+    (16, "type not one this call reads"),
+    (17, "an element past the end"),
+    (18, "unknown, must be understood"),
 ];
+/// Those that tell an octet at fault.
+const FAULTS: std::ops::RangeInclusive<usize> = 13..=18;
 
 const ROW: usize = 26;
 const TOP: usize = 96;
@@ -69,7 +77,9 @@ struct Access {
 
 /// One event's row.
 struct Step {
-    answer: usize,
+    answer: (usize, &'static str),
+    /// The offset of the octet at fault.
+    at: String,
     t3247: bool,
     t3512: bool,
     due: bool,
@@ -125,6 +135,13 @@ fn access(part: &[&str]) -> Parsed<Access> {
     })
 }
 
+/// The answer's number and words.
+fn answer(part: &[&str]) -> Parsed<(usize, &'static str)> {
+    let word = after(part, "=")?;
+    let found = ANSWERS.iter().find(|(number, _)| number.to_string() == word);
+    found.copied().ok_or(format!("`{word}` is no answer"))
+}
+
 /// Timers started and stopped, and what is asked, in words.
 fn told(part: &[&str]) -> Parsed<String> {
     let mut text = Vec::new();
@@ -155,7 +172,8 @@ fn step(line: &str) -> Parsed<Step> {
     let limit =
         |place| device.get(at + place).map_or(String::new(), |word: &&str| word.to_string());
     Ok(Step {
-        answer: number(reply, "=", 0..ANSWERS.len())?,
+        answer: answer(reply)?,
+        at: after(reply, "at")?.into(),
         t3247: after(device, "T3247")? == "1",
         t3512: after(device, "T3512")? == "1",
         due: after(device, "due")? == "1",
@@ -274,26 +292,36 @@ fn entry_lane(picture: &mut Picture, x: usize, which: usize, network: &str, step
     }
 }
 
+/// An event's text, and from the comment behind it the octets around the one at fault.
+fn parted(label: &str) -> (&str, &str) {
+    let (event, comment) = label.split_once("  # ").unwrap_or((label, ""));
+    (event, comment.rsplit_once(": ").map_or("", |(_, octets)| octets))
+}
+
+/// The answer in words, and the octet at fault or else what is told.
+fn answered(step: &Step, octets: &str) -> String {
+    let (number, words) = step.answer;
+    if FAULTS.contains(&number) {
+        return format!("{number} at {}, {words}: {octets}", step.at);
+    }
+    let told = if step.told.is_empty() { String::new() } else { format!(": {}", step.told) };
+    format!("{number} {words}{told}")
+}
+
 fn events(picture: &mut Picture, labels: &[&str], steps: &[Step]) {
     head(picture, 0, "event", "answer, timers and requests below");
     for (row, step) in steps.iter().enumerate() {
         let y = TOP + row * ROW;
-        let label = labels.get(row).copied().unwrap_or("");
-        let short: String = if label.chars().count() > 62 {
-            label.chars().take(60).chain("..".chars()).collect()
+        let (event, octets) = parted(labels.get(row).copied().unwrap_or(""));
+        let short: String = if event.chars().count() > 62 {
+            event.chars().take(60).chain("..".chars()).collect()
         } else {
-            label.into()
+            event.into()
         };
         picture.text(6, y + 12, "", &format!("{} {short}", row + 1));
-        let colour = if step.answer == 0 { "#38761d" } else { "#990000" };
+        let colour = if step.answer.0 == 0 { "#38761d" } else { "#990000" };
         let style = format!(r#"font-size="10" fill="{colour}""#);
-        let told = if step.told.is_empty() { String::new() } else { format!(": {}", step.told) };
-        picture.text(
-            24,
-            y + 23,
-            &style,
-            &format!("{} {}{told}", step.answer, ANSWERS[step.answer]),
-        );
+        picture.text(24, y + 23, &style, &answered(step, octets));
     }
 }
 

@@ -1,4 +1,5 @@
 -- Answers: "Checks go 1, 5, 6, 7, 8, 9 for a start; 1, 6, 3, 10, 2, 4 for a message; 1, 11 for a timer; 1, 6 for a key set; 1 for a card or a power cycle";
+-- where a message had 3, it has "13 to 18 .. at 3's place" (document 02, R-1);
 -- and for an update (document 02, R-5) 1, 6, "the other checks as for a start not manual".
 -- Each check passes on to the next; the last one is taken. The record itself is tested before. An event's `protected` is 1 or 0. Assumes nothing.
 use Prim.Native.Nat.{ℕ}
@@ -87,7 +88,7 @@ rejectAnswer h w protected cause s =
     (check (flip (isFull (rowNow h w protected cause) s (accessOf h w))) answer.Full
     answer.Taken)
 
--- what was read: 3; 10 of an accept; 2, 4 of a reject
+-- what was read: 13 to 18 of a fault; 10 of an accept; 2, 4 of a reject
 unfoldable pub readAnswer : Hot → ℕ → ℕ → Reading → Seen → Answer
 readAnswer h w protected (reading.Bad f at) s = answer.Malformed f at
 readAnswer h w protected (reading.Accept g) s = check (flip (eqb protected 0)) answer.Unprotected answer.Taken
@@ -97,7 +98,7 @@ readAnswer h w protected (reading.Reject cause) s = rejectAnswer h w protected c
 unfoldable pub messageRange : ℕ → ℕ → ℕ → Bool
 messageRange w protected draw = both (isFlag w) (both (isFlag protected) (within 1800 3600 draw))
 
--- Message: 1, 6, 3, 10, 2, 4
+-- Message: 1, 6, 13 to 18, 10, 2, 4
 unfoldable pub messageAnswer : Hot → ℕ → ℕ → ℕ → Reading → Seen → Answer
 messageAnswer h w protected draw m s =
     check (messageRange w protected draw) answer.Range

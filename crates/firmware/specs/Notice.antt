@@ -1,5 +1,6 @@
 -- A reply as numbers: "for each timer whether it was left, stopped (only if running) or started, with how many seconds; and requests (restart, leave, update)". Assumes nothing.
 use Prim.Native.Nat.{ℕ, _+_}
+use Rattle.record.specs.Answers.{faultOffset}
 use Rattle.turns.specs.declared.Told.{Told}
 use Rattle.turns.specs.declared.Told.the-variants.{Left, Stopped, Started}
 use Rattle.turns.specs.declared.Clocks.{Clocks}
@@ -27,8 +28,10 @@ unfoldable pub askedNumber : Asked → ℕ
 askedNumber No = 0
 askedNumber (On access) = 1 + access
 
+-- R-1's refusals tell "the offset from 0 of the octet at fault", counted in the message; it is 0 beside every other answer
 unfoldable pub noticeOf : Reply → Notice
 noticeOf p = record {
+  offset = faultOffset (p .answer);
   c0 = timersOf (p .c0);
   c1 = timersOf (p .c1);
   t3247 = timerNotice (p .t3247);

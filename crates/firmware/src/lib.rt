@@ -24,9 +24,11 @@ pub struct Timers {
     pub t3502: Timer,
 }
 
-// A reply but for its answer, as numbers. A request is 0 for none, else 1 plus the access that it is meant for.
+// A reply but for its answer, as numbers. The offset is of the octet at fault in a message, 0 where the answer is none of 13 to 18.
+// A request is 0 for none, else 1 plus the access that it is meant for.
 #[repr(C)]
 pub struct Notice {
+    pub offset: usize,
     pub c0: Timers,
     pub c1: Timers,
     pub t3247: Timer,

@@ -53,6 +53,7 @@ fn request_of(a: Asked) -> u32
 pub(crate) fn notice_of(p: Reply) -> Notice
     ensures { λ r. ⌜ r ≡ noticeOf p ⌝ }
 {
+    let answer = p.answer;
     let t = p.c0;
     let u = p.c1;
     let v = p.t3247;
@@ -60,6 +61,7 @@ pub(crate) fn notice_of(p: Reply) -> Notice
     let x = p.restart;
     let y = p.leave;
     let z = p.update;
+    let offset = record::offset(answer);
     let c0 = timers_of(t);
     let c1 = timers_of(u);
     let t3247 = timer_of(v);
@@ -68,6 +70,7 @@ pub(crate) fn notice_of(p: Reply) -> Notice
     let leave = request_of(y);
     let update = request_of(z);
     Notice {
+        offset,
         c0,
         c1,
         t3247,

@@ -2,3 +2,6 @@
 pub mod Lengths
 pub mod Readings
 pub mod Within
+pub mod Walk
+pub mod Lowest
+pub mod Told

@@ -103,20 +103,37 @@ typeReading s =
     (reading.Bad Kind 2)))
     (reading.Bad Cut 2)
 
--- All begin 7E 00 and a type. Octet by octet, so that of two faults the one at the lower offset is told.
+-- All begin 7E 00 and a type. Octet by octet: "The lowest offset is told", which the theorem `lowest` shows of the whole reading.
 unfoldable pub readingOf : List ℕ → Reading
 readingOf s = openedBy reading.Bad s 0 0x7E First (openedBy reading.Bad s 1 0x00 Second (typeReading s))
 
--- document 01's number for each fault: 3, message malformed or not an accept or reject
-abbrev pub faultNumber : Fault → ℕ
-faultNumber Cut = 3
-faultNumber First = 3
-faultNumber Second = 3
-faultNumber Kind = 3
-faultNumber Past = 3
-faultNumber Strange = 3
+-- "All begin 7E 00", how that ends: it is the same for every call
+unfoldable pub openingOf : List ℕ → Ending
+openingOf s = openedBy Broken s 0 0x7E First (openedBy Broken s 1 0x00 Second Whole)
 
--- The reject reader for C: the cause, or 256 plus the refusal's number; an accept is of another type
+-- "Refusals: 13 to 18 in that order, at 3's place" (document 02, R-1)
+abbrev pub faultNumber : Fault → ℕ
+-- fewer than the fixed octets
+faultNumber Cut = 13
+-- octet 1 not 7E
+faultNumber First = 14
+-- octet 2 not 00
+faultNumber Second = 15
+-- type not one this call reads
+faultNumber Kind = 16
+-- an element past the end
+faultNumber Past = 17
+-- an unknown element that must be understood
+faultNumber Strange = 18
+
+-- The reject reader for C reads 44 alone: an accept is of a type that it does not read, whatever lies behind
+unfoldable pub rejectAlone : List ℕ → Reading
+rejectAlone s = openedBy reading.Bad s 2 0x44 Kind (rejectReading s)
+
+unfoldable pub causeReading : List ℕ → Reading
+causeReading s = openedBy reading.Bad s 0 0x7E First (openedBy reading.Bad s 1 0x00 Second (rejectAlone s))
+
+-- the cause, or 256 plus the refusal's number
 unfoldable pub causeOf : Reading → ℕ
 causeOf (reading.Accept a) = 256 + faultNumber Kind
 causeOf (reading.Reject cause) = cause

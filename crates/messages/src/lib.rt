@@ -5,7 +5,7 @@ ghost use Prim.Native.Nat.{_≤_};
 ghost use lib.ListN.{getD};
 ghost use Rattle.octets.specs.Element.{Elements, elementsFrom, firstOf};
 ghost use Rattle.timers.specs.Timer.{span2Of};
-ghost use Rattle.messages.specs.Message.{gutiOf, countOf, t3502Of, pacedOf, t3512Of, timedOf, secondsOf, acceptOf, acceptedOf, acceptReading, rejectReading, typeReading, readingOf, faultNumber, causeOf, timerSeconds};
+ghost use Rattle.messages.specs.Message.{gutiOf, countOf, t3502Of, pacedOf, t3512Of, timedOf, secondsOf, acceptOf, acceptedOf, acceptReading, rejectReading, typeReading, readingOf, openingOf, faultNumber, rejectAlone, causeReading, causeOf, timerSeconds};
 use octets::Ending;
 use octets::Fault;
 use octets::Part;
@@ -237,43 +237,74 @@ fn read_type(msg: &[u8]) -> Reading
     Reading::Bad(Fault::Kind, 2)
 }
 
+// The two octets that all messages begin with.
+pub fn opens(msg: &[u8]) -> Ending
+    ensures { λ r. ⌜ r ≡ openingOf (now (msg .entry)) ⌝ }
+{
+    if msg.len() == 0 {
+        return Ending::Broken(Fault::Cut, 0);
+    }
+    if msg[0] != 0x7E {
+        return Ending::Broken(Fault::First, 0);
+    }
+    if msg.len() <= 1 {
+        return Ending::Broken(Fault::Cut, 1);
+    }
+    if msg[1] != 0x00 {
+        return Ending::Broken(Fault::Second, 1);
+    }
+    Ending::Whole
+}
+
 pub fn read(msg: &[u8]) -> Reading
     ensures { λ r. ⌜ r ≡ readingOf (now (msg .entry)) ⌝ }
 {
-    if msg.len() == 0 {
-        return Reading::Bad(Fault::Cut, 0);
+    match opens(msg) {
+        Ending::Broken(f, at) => Reading::Bad(f, at),
+        Ending::Whole => read_type(msg),
     }
-    if msg[0] != 0x7E {
-        return Reading::Bad(Fault::First, 0);
-    }
-    if msg.len() <= 1 {
-        return Reading::Bad(Fault::Cut, 1);
-    }
-    if msg[1] != 0x00 {
-        return Reading::Bad(Fault::Second, 1);
-    }
-    read_type(msg)
 }
 
-// The number that document 01 has for a fault.
+// The number that R-1 has for a fault.
 pub fn number(f: Fault) -> u8
     ensures { λ r. ⌜ r ≡ faultNumber f ⌝ }
 {
     match f {
-        Fault::Cut => 3,
-        Fault::First => 3,
-        Fault::Second => 3,
-        Fault::Kind => 3,
-        Fault::Past => 3,
-        Fault::Strange => 3,
+        Fault::Cut => 13,
+        Fault::First => 14,
+        Fault::Second => 15,
+        Fault::Kind => 16,
+        Fault::Past => 17,
+        Fault::Strange => 18,
+    }
+}
+
+fn read_alone(msg: &[u8]) -> Reading
+    ensures { λ r. ⌜ r ≡ rejectAlone (now (msg .entry)) ⌝ }
+{
+    if msg.len() <= 2 {
+        return Reading::Bad(Fault::Cut, 2);
+    }
+    if msg[2] != 0x44 {
+        return Reading::Bad(Fault::Kind, 2);
+    }
+    read_reject(msg)
+}
+
+fn read_cause(msg: &[u8]) -> Reading
+    ensures { λ r. ⌜ r ≡ causeReading (now (msg .entry)) ⌝ }
+{
+    match opens(msg) {
+        Ending::Broken(f, at) => Reading::Bad(f, at),
+        Ending::Whole => read_alone(msg),
     }
 }
 
 #[no_mangle]
 pub extern "C" fn reject_cause(msg: &[u8]) -> u32
-    ensures { λ r. ⌜ r ≡ causeOf (readingOf (now (msg .entry))) ⌝ }
+    ensures { λ r. ⌜ r ≡ causeOf (causeReading (now (msg .entry))) ⌝ }
 {
-    match read(msg) {
+    match read_cause(msg) {
         Reading::Accept(_) => 256 + word(number(Fault::Kind)),
         Reading::Reject(cause) => word(cause),
         Reading::Bad(f, _) => 256 + word(number(f)),

@@ -1,4 +1,4 @@
--- The reply numbers of document 01. Assumes nothing.
+-- The reply numbers of document 01, and R-1's with their offsets. Assumes nothing.
 use Prim.Native.Nat.{ℕ}
 use mathlib.Core.Bool.{Bool, true, false}
 use Rattle.messages.specs.Message.{faultNumber}
@@ -12,7 +12,7 @@ numberOf Taken = 0
 numberOf Range = 1
 -- ignored by the two-access rule
 numberOf Ignored = 2
--- message malformed or not an accept or reject
+-- 13 to 18: message malformed or not an accept or reject, by its fault
 numberOf (Malformed f at) = faultNumber f
 -- entry needed, network not in the access's table, all 16 entries held
 numberOf Full = 4
@@ -47,3 +47,19 @@ isTaken Area = false
 isTaken Unprotected = false
 isTaken Idle = false
 isTaken Short = false
+
+-- "Each tells the offset from 0 of the octet at fault", in the message; 0 for every other answer
+unfoldable pub faultOffset : Answer → ℕ
+faultOffset Taken = 0
+faultOffset Range = 0
+faultOffset Ignored = 0
+faultOffset (Malformed f at) = at
+faultOffset Full = 0
+faultOffset StateZero = 0
+faultOffset State = 0
+faultOffset Same = 0
+faultOffset Listed = 0
+faultOffset Area = 0
+faultOffset Unprotected = 0
+faultOffset Idle = 0
+faultOffset Short = 0

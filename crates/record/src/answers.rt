@@ -1,7 +1,7 @@
 // The reply numbers.
 use crate::Answer;
 ghost use mathlib.Core.Path.{_≡_};
-ghost use Rattle.record.specs.Answers.{numberOf, isTaken};
+ghost use Rattle.record.specs.Answers.{numberOf, isTaken, faultOffset};
 
 pub fn number(a: Answer) -> u8
     ensures { λ r. ⌜ r ≡ numberOf a ⌝ }
@@ -27,4 +27,14 @@ pub fn taken(a: Answer) -> bool
     ensures { λ r. ⌜ r ≡ isTaken a ⌝ }
 {
     number(a) == 0
+}
+
+// The offset of the octet at fault, in the message; 0 where the answer is no fault's.
+pub fn offset(a: Answer) -> usize
+    ensures { λ r. ⌜ r ≡ faultOffset a ⌝ }
+{
+    match a {
+        Answer::Malformed(_, at) => at,
+        _ => 0,
+    }
 }

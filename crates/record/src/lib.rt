@@ -10,6 +10,7 @@ mod setters;
 mod sides;
 
 pub use answers::number;
+pub use answers::offset;
 pub use answers::taken;
 pub use code::network;
 pub use code::triple;

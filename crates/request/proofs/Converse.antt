@@ -1,4 +1,4 @@
--- What reads as a request is one: each test that the reading makes is a fact of the octets. All else is answer 3. Assumes nothing.
+-- What reads as a request is one: each test that the reading makes is a fact of the octets. All else is refused, with its fault's number or with 3. Assumes nothing.
 use Prim.Native.Nat.{ℕ, _+_, _*_, _/_, _%_, _<_, _≤_}
 use mathlib.Core.Path.{_≡_, refl, sym, _∙_, subst}
 use mathlib.Core.Bool.{Bool, true, false, cond, false≢true}
@@ -10,16 +10,16 @@ use lib.Seq.{length-take-le, getD-take, getD-drop}
 use lib.Dec.{ltb, leb, eqb}
 use borrow.Author.Tests.{ltb-false, leb-true, eqb-true, eqb-false}
 use Rattle.octets.specs.declared.Fault.{Fault}
-use Rattle.octets.specs.declared.Fault.the-variants.{Cut, First, Second, Kind, Past, Strange}
+use Rattle.octets.specs.declared.Fault.the-variants.{First, Second, Kind}
 use Rattle.octets.specs.declared.Part.{Part}
 use Rattle.octets.specs.Element.{Elements, elementsFrom, absent, firstOf}
 use Rattle.octets.proofs.Inside.{Sound, from-place, found-inside}
-use Rattle.messages.specs.Message.{openedBy}
+use Rattle.messages.specs.Message.{openedBy, endedBy, faultNumber}
 use Rattle.messages.proofs.Readings.{choice, opened-so, ended-so}
 use Rattle.record.specs.Tests.{both, either, within}
 use Rattle.record.proofs.Bounds.{one, rest, least, most}
 use Rattle.request.specs.Layout.{Fields, Fit, octetsOf}
-use Rattle.request.specs.Reading.{isFourth, isIdentity, isSecurity, isCapability, isRequest, capabilityOf, pairOf, requestIn, judgedOf, askedOf, partsReading, restReading, requestReading, askingOf, cutOf, toldBy, askingNumber}
+use Rattle.request.specs.Reading.{isFourth, isIdentity, isSecurity, isCapability, isRequest, capabilityOf, pairOf, requestIn, judgedOf, askedOf, partsReading, restReading, requestReading, askingOf, cutOf, toldBy, askingNumber, askingTold}
 use Rattle.request.specs.Reading.Said.{says}
 use Rattle.request.specs.declared.Request.{Request}
 use Rattle.request.specs.declared.Asking.{Asking}
@@ -159,15 +159,11 @@ pub asked : (s : List ℕ) (q : Request) → askingOf s ≡ asking.Request q →
 unfolding Faithful
 asked s q e = rw e at (faithful s)
 
--- "All else is answer 3"
-pub all-else : (a : Asking) → ((q : Request) → a ≢ asking.Request q) → askingNumber a ≡ 3
+-- "All else is answer 3", by R-1 where it is well formed; else its fault's number
+pub all-else : (a : Asking) → ((q : Request) → a ≢ asking.Request q) → askingNumber a ≡ endedBy (λ f at. faultNumber f) (askingTold a) 3
+unfolding askingTold endedBy
 all-else (asking.Request q) h = absurd (h q refl)
-all-else (asking.Bad Cut at) h = refl
-all-else (asking.Bad First at) h = refl
-all-else (asking.Bad Second at) h = refl
-all-else (asking.Bad Kind at) h = refl
-all-else (asking.Bad Past at) h = refl
-all-else (asking.Bad Strange at) h = refl
+all-else (asking.Bad f at) h = refl
 all-else asking.Unfit h = refl
 
 -- the octets of a part that lies in the message are as many as it has

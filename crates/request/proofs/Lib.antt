@@ -3,6 +3,7 @@ pub mod Answers
 pub mod Back
 pub mod Converse
 pub mod Free
+pub mod Lowest
 pub mod Pieces
 pub mod Ranges
 pub mod Recorded

@@ -6,6 +6,8 @@ use lib.ListN.{length, getD, take, drop}
 use lib.Dec.{ltb, leb, eqb}
 use Rattle.octets.specs.declared.Fault.the-variants.{Cut, First, Second, Kind}
 use Rattle.octets.specs.declared.Part.{Part}
+use Rattle.octets.specs.declared.Ending.{Ending}
+use Rattle.octets.specs.declared.Ending.the-variants.{Broken, Whole}
 use Rattle.octets.specs.Element.{Elements, elementsFrom, absent, firstOf, endOf}
 use Rattle.messages.specs.Message.{openedBy, endedBy, faultNumber}
 use Rattle.record.specs.Tests.{both, either, within}
@@ -100,8 +102,23 @@ toldBy s (asking.Request q) = says (record {
 toldBy s (asking.Bad f at) = nothing
 toldBy s asking.Unfit = nothing
 
--- document 01's number for each case: a fault's own, and 3 for "All else"
+-- the number for each case: a fault's own, and "Number 3 stays for a well-formed request that breaks document 01's request layout"
 abbrev pub askingNumber : Asking → ℕ
 askingNumber (asking.Request q) = 0
 askingNumber (asking.Bad f at) = faultNumber f
 askingNumber asking.Unfit = 3
+
+-- the offset of the octet at fault, 0 where there is none
+abbrev pub askingOffset : Asking → ℕ
+askingOffset (asking.Request q) = 0
+askingOffset (asking.Bad f at) = at
+askingOffset asking.Unfit = 0
+
+-- the type that this call reads, and what its reading tells of faults
+abbrev pub isAsking : ℕ → Bool
+isAsking type = eqb type 0x41
+
+unfoldable pub askingTold : Asking → Ending
+askingTold (asking.Request q) = Whole
+askingTold (asking.Bad f at) = Broken f at
+askingTold asking.Unfit = Whole

@@ -7,6 +7,7 @@ mod reading;
 mod writing;
 
 pub use reading::number;
+pub use reading::offset;
 pub use reading::read;
 pub use writing::write;
 

@@ -13,7 +13,7 @@ use record::ranged;
 ghost use mathlib.Core.Path.{_≡_};
 ghost use Prim.Native.Nat.{_<_};
 ghost use Rattle.octets.specs.Element.{Elements, firstOf};
-ghost use Rattle.request.specs.Reading.{isFourth, isIdentity, isSecurity, isCapability, isRequest, capabilityOf, pairOf, requestIn, judgedOf, partsReading, restReading, requestReading, askingOf, askingNumber};
+ghost use Rattle.request.specs.Reading.{isFourth, isIdentity, isSecurity, isCapability, isRequest, capabilityOf, pairOf, requestIn, judgedOf, partsReading, restReading, requestReading, askingOf, askingNumber, askingOffset};
 
 fn fourth(o: u8) -> bool
     ensures { λ r. ⌜ r ≡ isFourth o ⌝ }
@@ -170,26 +170,16 @@ fn read_type(msg: &[u8]) -> Asking
     read_rest(msg)
 }
 
-// All begin 7E 00 and a type, read octet by octet: the fault at the lowest offset is told.
 pub fn read(msg: &[u8]) -> Asking
     ensures { λ r. ⌜ r ≡ askingOf (now (msg .entry)) ⌝ }
 {
-    if msg.len() == 0 {
-        return Asking::Bad(Fault::Cut, 0);
+    match messages::opens(msg) {
+        Ending::Broken(f, at) => Asking::Bad(f, at),
+        Ending::Whole => read_type(msg),
     }
-    if msg[0] != 0x7E {
-        return Asking::Bad(Fault::First, 0);
-    }
-    if msg.len() <= 1 {
-        return Asking::Bad(Fault::Cut, 1);
-    }
-    if msg[1] != 0x00 {
-        return Asking::Bad(Fault::Second, 1);
-    }
-    read_type(msg)
 }
 
-// The number that document 01 has for a reading.
+// The reply's number for a reading.
 pub fn number(a: Asking) -> u8
     ensures { λ r. ⌜ r ≡ askingNumber a ⌝ }
 {
@@ -197,5 +187,16 @@ pub fn number(a: Asking) -> u8
         Asking::Request(_) => 0,
         Asking::Bad(f, _) => messages::number(f),
         Asking::Unfit => 3,
+    }
+}
+
+// The offset of the octet at fault, 0 where there is none.
+pub fn offset(a: Asking) -> usize
+    ensures { λ r. ⌜ r ≡ askingOffset a ⌝ }
+{
+    match a {
+        Asking::Request(_) => 0,
+        Asking::Bad(_, at) => at,
+        Asking::Unfit => 0,
     }
 }

@@ -1,12 +1,8 @@
-// Writes requests of records of each shape and reads them back; then reads requests written by hand.
+// Writes requests of records of each shape into buffers of different lengths, and prints the buffers.
 use libc::STDOUT_FILENO;
-use octets::Fault;
-use octets::Part;
 use record::Access;
 use record::Hot;
 use record::Record;
-use request::Asking;
-use request::Request;
 
 // What a record holds: octets of the SUCI and the capabilities; of each access the same numbers.
 struct Shape {
@@ -136,54 +132,7 @@ fn octets(s: &[u8]) {
     say(b"\n");
 }
 
-fn part(name: &[u8], p: Part) {
-    if p.held {
-        say(name);
-        number(p.start as u64);
-        number(p.len as u64);
-    }
-}
-
-fn request(q: Request) {
-    say(b"request");
-    number(q.regtype as u64);
-    number(q.ksi as u64);
-    part(b" identity", q.identity);
-    part(b" capability", q.capability);
-    part(b" security", q.security);
-    part(b" last", q.last);
-    part(b" uplink", q.uplink);
-    part(b" sessions", q.sessions);
-}
-
-fn fault(f: Fault) {
-    match f {
-        Fault::Cut => say(b"cut"),
-        Fault::First => say(b"first"),
-        Fault::Second => say(b"second"),
-        Fault::Kind => say(b"type"),
-        Fault::Past => say(b"past"),
-        Fault::Strange => say(b"strange"),
-    }
-}
-
-fn asking(a: Asking) {
-    match a {
-        Asking::Request(q) => request(q),
-        Asking::Bad(f, at) => {
-            fault(f);
-            number(at as u64);
-        }
-        Asking::Unfit => say(b"unfit"),
-    }
-    say(b"\n");
-}
-
-fn tell(msg: &[u8]) {
-    asking(request::read(msg));
-}
-
-// The answer and the length, the whole buffer, and what reading the written octets says.
+// The answer and the length, then the whole buffer.
 fn send(r: Record, access: u8, buffer: &mut [u8]) {
     let w = request::write(r, access, buffer);
     let answer = w.answer;
@@ -193,10 +142,6 @@ fn send(r: Record, access: u8, buffer: &mut [u8]) {
     number(w.len as u64);
     say(b":");
     octets(buffer);
-    let n = w.len;
-    if n <= buffer.len() {
-        tell(&buffer[..n]);
-    }
 }
 
 // A buffer of AA with this many octets of room.
@@ -336,51 +281,6 @@ fn refusals() {
     sent(fresh(), 0, 19);
 }
 
-fn orders() {
-    let turned =
-        b"\x7E\x00\x41\x31\x00\x0B\xF2\x00\xF1\x10\x80\x01\xC5\xD1\xC2\xB3\xA4\x52\x00\xF2\x20\x00\x00\x2A\x9F\x2E\x02\xF0\xF0\x10\x01\x00";
-    tell(turned);
-    let twice =
-        b"\x7E\x00\x41\x71\x00\x09\x01\x00\xF1\x10\xF0\xFF\x00\x00\x07\x10\x00\x2E\x02\xF0\xF0\x10\x01\x55\x2E\x03\x01\x02\x03";
-    tell(twice);
-}
-
-// 50 before 10; a 40 of one octet, though another follows; a 50 of four octets; both in a request of type 1; an update with neither.
-fn statuses() {
-    let turned =
-        b"\x7E\x00\x41\x32\x00\x09\x01\x00\xF1\x10\xF0\xFF\x00\x00\x07\x50\x02\x20\x00\x10\x01\x00\x40\x02\x21\x00\x2E\x02\xF0\xF0";
-    tell(turned);
-    let twice =
-        b"\x7E\x00\x41\x33\x00\x09\x01\x00\xF1\x10\xF0\xFF\x00\x00\x07\x2E\x02\xF0\xF0\x40\x01\x20\x40\x02\x20\x00";
-    tell(twice);
-    let four =
-        b"\x7E\x00\x41\x32\x00\x09\x01\x00\xF1\x10\xF0\xFF\x00\x00\x07\x2E\x02\xF0\xF0\x50\x04\x20\x00\x00\x00\x40\x00";
-    tell(four);
-    let first =
-        b"\x7E\x00\x41\x31\x00\x09\x01\x00\xF1\x10\xF0\xFF\x00\x00\x07\x40\x02\x20\x00\x50\x02\x20\x00\x2E\x02\xF0\xF0";
-    tell(first);
-    tell(b"\x7E\x00\x41\x72\x00\x09\x01\x00\xF1\x10\xF0\xFF\x00\x00\x07\x2E\x02\xF0\xF0");
-}
-
-fn cuts() {
-    tell(b"\x7E\x00\x41");
-    tell(b"\x7E\x00\x41\x71\x00");
-    tell(b"\x7E\x00\x41\x71\x00\x09\x01\x00");
-    tell(b"\x7E\x00\x44\x0B");
-    tell(b"\x7E\x00\x41\x71\x00\x00");
-    tell(b"\x7E\x00\x41\x71\x00\x00\x05\x00");
-    tell(b"\x7E\x00\x41\x71\x00\x00\x2E\x02\xF0");
-}
-
-// No 2E, type 4, type 0, the wrong ngKSI, a GUTI of nine octets.
-fn unfits() {
-    tell(b"\x7E\x00\x41\x71\x00\x09\x01\x00\xF1\x10\xF0\xFF\x00\x00\x07");
-    tell(b"\x7E\x00\x41\x74\x00\x09\x01\x00\xF1\x10\xF0\xFF\x00\x00\x07\x2E\x02\xF0\xF0");
-    tell(b"\x7E\x00\x41\x70\x00\x09\x01\x00\xF1\x10\xF0\xFF\x00\x00\x07\x2E\x02\xF0\xF0");
-    tell(b"\x7E\x00\x41\x81\x00\x09\x01\x00\xF1\x10\xF0\xFF\x00\x00\x07\x2E\x02\xF0\xF0");
-    tell(b"\x7E\x00\x41\x71\x00\x09\xF2\x00\xF1\x10\xF0\xFF\x00\x00\x07\x2E\x02\xF0\xF0");
-}
-
 fn main() {
     sucis();
     gutis();
@@ -388,8 +288,4 @@ fn main() {
     bare();
     refusals();
     outside();
-    orders();
-    statuses();
-    cuts();
-    unfits();
 }

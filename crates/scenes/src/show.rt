@@ -93,8 +93,15 @@ fn answer(name: &[u8], r: Reply) {
     small(name, record::number(a));
 }
 
+// The octet at fault; 0 where no octet is.
+fn place(r: Reply) {
+    let a = r.answer;
+    field(b" at ", record::offset(a) as u64);
+}
+
 fn reply(r: Reply) {
     answer(b"= ", r);
+    place(r);
     let a = r.c0;
     let b = r.c1;
     clocks(a, b);

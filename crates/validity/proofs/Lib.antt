@@ -1,4 +1,4 @@
--- What is so of every step: a record stays valid, a refusal changes and tells nothing, timers are told as they are; and the record after a card, a power cycle, a reject.
+-- What is so of every step: a record stays valid, a refusal changes and tells nothing but the lowest fault of its message, timers are told as they are; and the record after a card, a power cycle, a reject.
 pub mod Bools
 pub mod Arrays
 pub mod Good
@@ -27,3 +27,4 @@ pub mod Told
 pub mod Power
 pub mod Update
 pub mod Steady
+pub mod Faults

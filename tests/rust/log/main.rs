@@ -3,9 +3,10 @@
 //   generate SEED EVENTS [realistic|wild]   a log on standard output
 //   generate pieces SEED                    copies standard input in odd pieces
 //
-// A realistic log has whole records only, few of them refused as out of range. A wild log
-// has damaged ones too and may end in a cut record. The state is followed with the record
-// of docs/src, so that starts, updates, messages and timers come when they have an effect.
+// A realistic log has whole records only, few of them refused as out of range, and one message
+// in twenty-five with a fault. A wild log has damaged ones too and may end in a cut record. The
+// state is followed with the record of docs/src, so that starts, updates, messages and timers
+// come when they have an effect.
 
 #[allow(dead_code)]
 #[path = "../../../docs/src/log.rs"]
@@ -98,6 +99,8 @@ const PERIODS: [u8; 16] = [
     0x00, 0x01, 0x1F, 0x21, 0x3F, 0x41, 0x5F, 0x61, 0x7F, 0x81, 0x9F, 0xA1, 0xBF, 0xC1, 0xDF, 0xE5,
 ];
 const LONG: [u8; 7] = [0x70, 0x71, 0x72, 0x75, 0x79, 0x7F, 0x77];
+/// Messages that a network or a device sends and no event reads.
+const TYPES: [u8; 8] = [0x41, 0x43, 0x45, 0x54, 0x56, 0x5D, 0x64, 0x68];
 
 /// Two- and three-digit MNCs; the first three are homes. Each of the first eight differs from
 /// three others in one octet alone, so that a network compared on two octets shows.
@@ -456,6 +459,41 @@ impl Generator {
         }
     }
 
+    /// An element that must be understood, or one past the end, or one that is both.
+    fn refused(&mut self) -> Vec<u8> {
+        let strange = self.random.below(16) as u8;
+        let length = self.random.below(4);
+        let mut octets = self.element(strange, length);
+        if self.random.odds(50) {
+            let identifier = self.random.pick(&[SHORT[length], LONG[length], strange]);
+            octets = self.element(identifier, 1 + length);
+            let kept = 1 + self.random.below(octets.len() - 1);
+            octets.truncate(kept);
+        }
+        octets
+    }
+
+    /// One of the faults that R-1 numbers, at any of its offsets; `fixed` octets come before
+    /// the elements.
+    fn fault(&mut self, fixed: usize, octets: &mut Vec<u8>) {
+        let other = 1 + self.random.below(255) as u8;
+        match self.random.below(8) {
+            0 if octets[2] == 0x42 => octets[3] = 0,
+            0 | 1 => octets.truncate(self.random.below(fixed)),
+            2 => octets[0] ^= other,
+            3 => octets[1] ^= other,
+            4 => octets[2] = self.random.pick(&TYPES),
+            5 if octets.len() > fixed => {
+                let kept = fixed + self.random.below(octets.len() - fixed);
+                octets.truncate(kept);
+            }
+            _ => {
+                octets.extend(self.refused());
+                self.elements(octets[2] == 0x42, octets);
+            }
+        }
+    }
+
     fn damage(&mut self, octets: &mut Vec<u8>) {
         match self.random.below(6) {
             0 | 1 => {
@@ -511,14 +549,17 @@ impl Generator {
         let accepts = self.accepts(a);
         let accept = self.random.odds(accepts);
         let mut octets = if accept { self.accept() } else { vec![0x7E, 0, 0x44, self.cause(a)] };
+        let fixed = octets.len();
         if self.random.odds(if accept { 80 } else { 20 }) {
             self.elements(accept, &mut octets);
         }
         if self.wild && self.random.below(400) == 0 {
             self.fill(&mut octets);
         }
-        if self.spoil(12) {
+        if self.spoil(8) {
             self.damage(&mut octets);
+        } else if self.random.odds(if self.wild { 8 } else { 4 }) {
+            self.fault(fixed, &mut octets);
         }
         let percent = if accept {
             95

@@ -1,50 +1,29 @@
--- `messages::read` meets its contract: each return rewrites by the tests that led to it. Assumes nothing.
-use borrow.Author.Tests.{lt-ltb, le-ltb, eq-eqb, ne-eqb}
+-- `messages::read` meets its contract: what `opens` ensures, by the two cases of an ending. Assumes nothing.
 use borrow.Author.Needs.{needs}
-use native.Mathlib.Omega.{arith}
-use lib.ListN.{length}
-use Rattle.messages.specs.Message.{readingOf, openedBy}
+use Rattle.messages.specs.Message.{readingOf, endedBy}
+use Rattle.messages.proofs.Readings.{opening}
 use Rattle.messages.proofs.read.Statement.{statement}
 use Rattle.messages.proofs.read.Tie as tie
 
-returns : tie.Need-returns
-unfolding readingOf openedBy
-returns c = rw (c .if1 .taken)
+opens-requires : tie.Need-opens-requires
+opens-requires c κs = search needs
 
-shared-slice-read-if2 : tie.Need-shared-slice-read-if2
-shared-slice-read-if2 c = search needs
+enum-known-f : tie.Need-enum-known-f
+enum-known-f c = search needs
 
-returns-2 : tie.Need-returns-2
-unfolding readingOf openedBy
-returns-2 c = rw (lt-ltb 0 (length (c .before .before .before .before .args .msg .now)) (omega arith), ne-eqb _ _ (c .if2 .taken))
-
-returns-3 : tie.Need-returns-3
-unfolding readingOf openedBy
-returns-3 c = rw (lt-ltb 0 (length (c .before .before .before .before .before .args .msg .now)) (omega arith), eq-eqb _ _ (c .before .if2 .left), le-ltb _ _ (c .if3 .taken))
-
-shared-slice-read-if4 : tie.Need-shared-slice-read-if4
-shared-slice-read-if4 c = search needs
-
-returns-4 : tie.Need-returns-4
-unfolding readingOf openedBy
-returns-4 c = rw (lt-ltb 0 (length (c .before .before .before .before .before .before .before .args .msg .now)) (omega arith), eq-eqb _ _ (c .before .before .before .if2 .left), lt-ltb _ _ (c .before .before .if3 .left), ne-eqb _ _ (c .if4 .taken))
+enum-told : tie.Need-enum-told
+enum-told c = search needs
 
 read-type-requires : tie.Need-read-type-requires
 read-type-requires c κs = search needs
 
-returns-5 : tie.Need-returns-5
-unfolding readingOf openedBy
-returns-5 c = rw (lt-ltb 0 (length (c .before .before .before .before .before .before .before .before .args .msg .now)) (omega arith), eq-eqb _ _ (c .before .before .before .before .if2 .left), lt-ltb _ _ (c .before .before .before .if3 .left), eq-eqb _ _ (c .before .if4 .left), c .read-type .ensures)
+returns : tie.Need-returns
+unfolding readingOf endedBy
+returns c = rw (opening, ← c .before .before .before .opens .ensures, c .before .f .given .1)
+
+returns-2 : tie.Need-returns-2
+unfolding readingOf endedBy
+returns-2 c = rw (opening, ← c .before .before .before .opens .ensures, c .before .enum-told .given .1) (c .read-type .ensures)
 
 pub read-spec : {M : Type 1} → statement M
-read-spec =
-    tie.close
-    (tie.spec
-    returns
-    shared-slice-read-if2
-    returns-2
-    returns-3
-    shared-slice-read-if4
-    returns-4
-    read-type-requires
-    returns-5)
+read-spec = tie.close (tie.spec opens-requires enum-known-f enum-told read-type-requires returns returns-2)

@@ -1,11 +1,11 @@
--- `messages::reject_cause` meets its contract: what `read` ensures, by the three cases of a reading. Assumes nothing.
+-- `messages::reject_cause` meets its contract: what `read_cause` ensures, by the three cases of a reading. Assumes nothing.
 use borrow.Author.Needs.{needs}
 use Rattle.messages.specs.Message.{causeOf}
 use Rattle.messages.proofs.reject_cause.Statement.{statement}
 use Rattle.messages.proofs.reject_cause.Tie as tie
 
-read-requires : tie.Need-read-requires
-read-requires c κs = search needs
+read-cause-requires : tie.Need-read-cause-requires
+read-cause-requires c κs = search needs
 
 enum-told : tie.Need-enum-told
 enum-told c = search needs
@@ -39,21 +39,21 @@ add-result-2 c = search needs
 
 returns : tie.Need-returns
 unfolding causeOf
-returns c = rw (← c .before .before .before .before .read .ensures, c .before .before .enum-told .given .1, c .word .ensures .0, c .before .number .ensures)
+returns c = rw (← c .before .before .before .before .read-cause .ensures, c .before .before .enum-told .given .1, c .word .ensures .0, c .before .number .ensures)
 
 returns-2 : tie.Need-returns-2
 unfolding causeOf
-returns-2 c = rw (← c .before .before .before .before .read .ensures, c .before .before .cause .given .1, c .word2 .ensures .0)
+returns-2 c = rw (← c .before .before .before .before .read-cause .ensures, c .before .before .cause .given .1, c .word2 .ensures .0)
 
 returns-3 : tie.Need-returns-3
 unfolding causeOf
-returns-3 c = rw (← c .before .before .before .before .before .read .ensures, c .before .before .before .f .given .1, c .word3 .ensures .0, c .before .number2 .ensures)
+returns-3 c = rw (← c .before .before .before .before .before .read-cause .ensures, c .before .before .before .f .given .1, c .word3 .ensures .0, c .before .number2 .ensures)
 
 pub reject-cause-spec : {M : Type 1} → statement M
 reject-cause-spec =
     tie.close
     (tie.spec
-    read-requires
+    read-cause-requires
     enum-told
     number-requires
     word-requires

@@ -4,6 +4,9 @@ use borrow.Author.Needs.{needs}
 use Rattle.firmware.proofs.told.notice_of.Statement.{statement}
 use Rattle.firmware.proofs.told.notice_of.Tie as tie
 
+offset-requires : tie.Need-offset-requires
+offset-requires c κs = search needs
+
 timers-of-requires : tie.Need-timers-of-requires
 timers-of-requires c κs = search needs
 
@@ -27,12 +30,13 @@ request-of-requires-3 c κs = search needs
 
 returns : tie.Need-returns
 unfolding noticeOf
-returns c = rw (c .request-of3 .ensures, c .before .request-of2 .ensures, c .before .before .request-of .ensures, c .before .before .before .timer-of2 .ensures, c .before .before .before .before .timer-of .ensures, c .before .before .before .before .before .timers-of2 .ensures, c .before .before .before .before .before .before .timers-of .ensures)
+returns c = rw (c .request-of3 .ensures, c .before .request-of2 .ensures, c .before .before .request-of .ensures, c .before .before .before .timer-of2 .ensures, c .before .before .before .before .timer-of .ensures, c .before .before .before .before .before .timers-of2 .ensures, c .before .before .before .before .before .before .timers-of .ensures, c .before .before .before .before .before .before .before .offset .ensures)
 
 pub notice-of-spec : {M : Type 1} → statement M
 notice-of-spec =
     tie.close
     (tie.spec
+    offset-requires
     timers-of-requires
     timers-of-requires-2
     timer-of-requires
