@@ -14,8 +14,8 @@ use Rattle.octets.specs.declared.Fault.the-variants.{Cut, First, Second, Kind, 
 use Rattle.octets.specs.declared.Ending.{Ending}
 use Rattle.octets.specs.declared.Ending.the-variants.{Broken, Whole}
 use Rattle.octets.specs.Element.{elementsFrom, endOf}
-use Rattle.messages.specs.Message.{openedBy, endedBy, faultNumber}
-use Rattle.messages.specs.Faults.{fixedOf, ElementFault, Faulty, Lowest}
+use Rattle.messages.specs.Message.{openedBy, begunBy, endedBy, faultNumber}
+use Rattle.messages.specs.Faults.{fixedOf, inRequest, ElementFault, Faulty, Lowest}
 use Rattle.messages.proofs.Readings.{choice}
 use Rattle.messages.proofs.Walk.{order, behind, elements-lowest}
 
@@ -57,8 +57,8 @@ module _ (reads : ℕ → Bool) (s : List ℕ) where
       sides false false false n m = omega arith
 
   -- the elements' faults lie behind the fixed octets and before the end
-  far : (g : Fault) (b : ℕ) → ElementFault (eqb (getD s 2 0) 0x41) s (fixedOf s) g b → (fixedOf s ≤ b) × (b < length s)
-  far g b x = behind (eqb (getD s 2 0) 0x41) s (fixedOf s) g b x
+  far : (g : Fault) (b : ℕ) → ElementFault (inRequest s) s (fixedOf s) g b → (fixedOf s ≤ b) × (b < length s)
+  far g b x = behind (inRequest s) s (fixedOf s) g b x
 
   clear : (n : ℕ) → n ≤ 3 → n ≤ length s → (0 < n → getD s 0 0 ≡ 0x7E) → (1 < n → getD s 1 0 ≡ 0x00) → (2 < n → reads (getD s 2 0) ≡ true) → Clear n
   unfolding Faulty
@@ -107,7 +107,7 @@ module _ (reads : ℕ → Bool) (s : List ℕ) where
   short-clear h c r Strange b x = omega (arith, far Strange b x)
 
   -- where the fixed octets are there and right, the elements' faults are all that are left
-  up : (g : Fault) (b : ℕ) → ElementFault (eqb (getD s 2 0) 0x41) s (fixedOf s) g b → Has g b
+  up : (g : Fault) (b : ℕ) → ElementFault (inRequest s) s (fixedOf s) g b → Has g b
   unfolding Faulty ElementFault
   up Cut b x = absurd x
   up First b x = absurd x
@@ -116,7 +116,7 @@ module _ (reads : ℕ → Bool) (s : List ℕ) where
   up Past b x = x
   up Strange b x = x
 
-  down : fixedOf s ≤ length s → Clear 3 → Result → (g : Fault) (b : ℕ) → Has g b → ElementFault (eqb (getD s 2 0) 0x41) s (fixedOf s) g b
+  down : fixedOf s ≤ length s → Clear 3 → Result → (g : Fault) (b : ℕ) → Has g b → ElementFault (inRequest s) s (fixedOf s) g b
   unfolding Faulty ElementFault
   down h c r Cut b (inl x) = omega (arith, x .0)
   down h c r Cut b (inr x) = absurd (r (x .0) (x .1 .0) (x .1 .1 .0))
@@ -126,7 +126,7 @@ module _ (reads : ℕ → Bool) (s : List ℕ) where
   down h c r Past b x = x
   down h c r Strange b x = x
 
-  lift : fixedOf s ≤ length s → Clear 3 → Result → (e : Ending) → Lowest (ElementFault (eqb (getD s 2 0) 0x41) s (fixedOf s)) e → Lowest Has e
+  lift : fixedOf s ≤ length s → Clear 3 → Result → (e : Ending) → Lowest (ElementFault (inRequest s) s (fixedOf s)) e → Lowest Has e
   unfolding Lowest
   lift h c r (Broken f at) x = (up f at (x .0), λ g b y. x .1 g b (down h c r g b y))
   lift h c r Whole x = λ g b y. x g b (down h c r g b y)
@@ -144,7 +144,7 @@ module _ {A : Type 0} (P : A → Type 0) (bad : Fault → ℕ → A) (reads : �
       (λ t. told f at (octet-lowest reads s f at n h (ltb-true at (length s) e) (is (ltb-true at (length s) e) (eqb-false (getD s at 0) octet t)) c)))
       (λ e. let m : length s ≤ at = ltb-false at (length s) e in told Cut at (cut-lowest reads s at (inl (omega (arith, fixed-some reads s), omega arith)) c))
 
-  pub opening-told : (rest : A) → (2 ≤ length s → getD s 0 0 ≡ 0x7E → getD s 1 0 ≡ 0x00 → P rest) → P (openedBy bad s 0 0x7E First (openedBy bad s 1 0x00 Second rest))
+  pub opening-told : (rest : A) → (2 ≤ length s → getD s 0 0 ≡ 0x7E → getD s 1 0 ≡ 0x00 → P rest) → P (begunBy bad s rest)
   unfolding Faulty
   opening-told rest go =
       octet-told 0 0x7E First _ (omega arith) refl (omega arith) (λ g b x. omega arith) (λ l n. (l, (n, refl)))
@@ -164,10 +164,10 @@ module _ {A : Type 0} (P : A → Type 0) (bad : Fault → ℕ → A) (reads : �
   short-told at e h c r = told Cut at (rw e (cut-lowest reads s (length s) (inl (h, refl)) (short-clear reads s h c r)))
 
   -- behind the fixed octets
-  pub ended-told : (request : Bool) (from : ℕ) (rest : A) → request ≡ eqb (getD s 2 0) 0x41 → from ≡ fixedOf s → fixedOf s ≤ length s → Clear reads s 3 → Result reads s
+  pub ended-told : (request : Bool) (from : ℕ) (rest : A) → request ≡ inRequest s → from ≡ fixedOf s → fixedOf s ≤ length s → Clear reads s 3 → Result reads s
       → (Lowest (Faulty reads s) Whole → P rest) → P (endedBy bad (endOf (elementsFrom request s from)) rest)
   unfolding endedBy
-  ended-told request from rest d e h c r fine = rw (d, e) (by (endOf (elementsFrom (eqb (getD s 2 0) 0x41) s (fixedOf s))) (lift reads s h c r _ (elements-lowest (eqb (getD s 2 0) 0x41) s (fixedOf s))))
+  ended-told request from rest d e h c r fine = rw (d, e) (by (endOf (elementsFrom (inRequest s) s (fixedOf s))) (lift reads s h c r _ (elements-lowest (inRequest s) s (fixedOf s))))
     where
       by : (x : Ending) → Lowest (Faulty reads s) x → P (endedBy bad x rest)
       by (Broken f at) x = told f at x

@@ -14,7 +14,7 @@ use Rattle.octets.specs.declared.Ending.the-variants.{Broken, Whole}
 use Rattle.octets.specs.Element.{Elements, endOf}
 use Rattle.octets.specs.Element.Elements.{over, broken, element}
 use Rattle.octets.proofs.Inside.{Sound}
-use Rattle.messages.specs.Message.{openedBy, endedBy, openingOf}
+use Rattle.messages.specs.Message.{openedBy, begunBy, endedBy, openingOf}
 
 -- a choice by a test, each side with what the test says
 pub choice : {A : Type 0} (P : A → Type 0) (x y : A) (b : Bool) → (b ≡ true → P x) → (b ≡ false → P y) → P (cond b x y)
@@ -46,6 +46,6 @@ module _ {A : Type 0} (bad : Fault → ℕ → A) (s : List ℕ) where
       sides true false = refl
       sides false b = refl
 
-  pub opening : (rest : A) → openedBy bad s 0 0x7E First (openedBy bad s 1 0x00 Second rest) ≡ endedBy bad (openingOf s) rest
+  pub opening : (rest : A) → begunBy bad s rest ≡ endedBy bad (openingOf s) rest
   unfolding openingOf endedBy
   opening rest = ap (openedBy bad s 0 0x7E First) (apart 1 0x00 Second Whole rest) ∙ apart 0 0x7E First (openedBy Broken s 1 0x00 Second Whole) rest

@@ -24,7 +24,11 @@ fixedOf s =
     (cond (eqb (getD s 2 0) 0x42) (4 + getD s 3 0)
     (cond (eqb (getD s 2 0) 0x44) 4 3))
 
--- how many octets the element at a place takes; in a request 52 is seven
+-- whether it is a request, where 52 is seven octets
+abbrev pub inRequest : List ℕ → Bool
+inRequest s = eqb (getD s 2 0) 0x41
+
+-- how many octets the element at a place takes
 abbrev pub sizeAt : Bool → List ℕ → ℕ → ℕ
 sizeAt request s at = sizeOf request (getD s at 0) (drop (suc at) s)
 
@@ -58,8 +62,8 @@ Faulty reads s First at = (0 < length s) × ((getD s 0 0 ≡ 0x7E → ⊥) × (a
 Faulty reads s Second at = (1 < length s) × ((getD s 1 0 ≡ 0x00 → ⊥) × (at ≡ 1))
 -- "type not one this call reads"
 Faulty reads s Kind at = (2 < length s) × ((reads (getD s 2 0) ≡ false) × (at ≡ 2))
-Faulty reads s Past at = ElementFault (eqb (getD s 2 0) 0x41) s (fixedOf s) Past at
-Faulty reads s Strange at = ElementFault (eqb (getD s 2 0) 0x41) s (fixedOf s) Strange at
+Faulty reads s Past at = ElementFault (inRequest s) s (fixedOf s) Past at
+Faulty reads s Strange at = ElementFault (inRequest s) s (fixedOf s) Strange at
 
 -- "The lowest offset is told, at a tie the lower number": what is told is a fault, and each one lies behind it, or at the same octet with no lower number;
 -- nothing is told only where there is none

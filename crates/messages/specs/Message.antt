@@ -72,6 +72,10 @@ acceptOf s l =
 unfoldable pub openedBy : {A : Type 0} → (Fault → ℕ → A) → List ℕ → ℕ → ℕ → Fault → A → A
 openedBy bad s at octet fault rest = cond (ltb at (length s)) (cond (eqb (getD s at 0) octet) rest (bad fault at)) (bad Cut at)
 
+-- "All begin 7E 00", octet by octet; then comes the rest
+abbrev pub begunBy : {A : Type 0} → (Fault → ℕ → A) → List ℕ → A → A
+begunBy bad s rest = openedBy bad s 0 0x7E First (openedBy bad s 1 0x00 Second rest)
+
 -- elements that end with a fault tell it; where they are whole comes the rest
 unfoldable pub endedBy : {A : Type 0} → (Fault → ℕ → A) → Ending → A → A
 endedBy bad (Broken f at) rest = bad f at
@@ -103,13 +107,13 @@ typeReading s =
     (reading.Bad Kind 2)))
     (reading.Bad Cut 2)
 
--- All begin 7E 00 and a type. Octet by octet: "The lowest offset is told", which the theorem `lowest` shows of the whole reading.
+-- "All begin 7E 00 and a type". That "the lowest offset is told" is shown of the whole reading (`lowest`).
 unfoldable pub readingOf : List ℕ → Reading
-readingOf s = openedBy reading.Bad s 0 0x7E First (openedBy reading.Bad s 1 0x00 Second (typeReading s))
+readingOf s = begunBy reading.Bad s (typeReading s)
 
--- "All begin 7E 00", how that ends: it is the same for every call
+-- how the two octets end that are the same for every call
 unfoldable pub openingOf : List ℕ → Ending
-openingOf s = openedBy Broken s 0 0x7E First (openedBy Broken s 1 0x00 Second Whole)
+openingOf s = begunBy Broken s Whole
 
 -- "Refusals: 13 to 18 in that order, at 3's place" (document 02, R-1)
 abbrev pub faultNumber : Fault → ℕ
@@ -131,7 +135,7 @@ unfoldable pub rejectAlone : List ℕ → Reading
 rejectAlone s = openedBy reading.Bad s 2 0x44 Kind (rejectReading s)
 
 unfoldable pub causeReading : List ℕ → Reading
-causeReading s = openedBy reading.Bad s 0 0x7E First (openedBy reading.Bad s 1 0x00 Second (rejectAlone s))
+causeReading s = begunBy reading.Bad s (rejectAlone s)
 
 -- the cause, or 256 plus the refusal's number
 unfoldable pub causeOf : Reading → ℕ

@@ -4,12 +4,12 @@ use mathlib.Core.Bool.{Bool, true, cond}
 use mathlib.Core.List.{List, []}
 use lib.ListN.{length, getD, take, drop}
 use lib.Dec.{ltb, leb, eqb}
-use Rattle.octets.specs.declared.Fault.the-variants.{Cut, First, Second, Kind}
+use Rattle.octets.specs.declared.Fault.the-variants.{Cut, Kind}
 use Rattle.octets.specs.declared.Part.{Part}
 use Rattle.octets.specs.declared.Ending.{Ending}
 use Rattle.octets.specs.declared.Ending.the-variants.{Broken, Whole}
 use Rattle.octets.specs.Element.{Elements, elementsFrom, absent, firstOf, endOf}
-use Rattle.messages.specs.Message.{openedBy, endedBy, faultNumber}
+use Rattle.messages.specs.Message.{openedBy, begunBy, endedBy, faultNumber}
 use Rattle.record.specs.Tests.{both, either, within}
 use Rattle.request.specs.Layout.{Fields}
 use Rattle.request.specs.declared.Request.{Request}
@@ -75,9 +75,9 @@ restReading s = cond (ltb (length s) 6) (asking.Bad Cut (length s)) (partsReadin
 unfoldable pub requestReading : List ℕ → Asking
 requestReading s = openedBy asking.Bad s 2 0x41 Kind (restReading s)
 
--- "All begin 7E 00 and a type": octet by octet, so that of two faults the one at the lower offset is told
+-- "All begin 7E 00 and a type". That the lowest offset is told is shown of the whole reading (`lowest-request`).
 unfoldable pub askingOf : List ℕ → Asking
-askingOf s = openedBy asking.Bad s 0 0x7E First (openedBy asking.Bad s 1 0x00 Second (requestReading s))
+askingOf s = begunBy asking.Bad s (requestReading s)
 
 -- the octets of a part
 unfoldable pub cutOf : List ℕ → Part → List ℕ
