@@ -176,9 +176,16 @@ uint32_t tjernfaug_new(struct tjernfaug_record *r, uint8_t cardlimit, uint8_t ba
 uint32_t tjernfaug_event(struct tjernfaug_record *r, uint32_t kind, const uint8_t *body, size_t len,
                          struct tjernfaug_notice *notice);
 
+/* The longest request, for the size of a buffer: a clear part of 80 octets, with ngKSI 7 the whole of it, then 71 with its length, and 110 in the container. */
+enum { TJERNFAUG_LONGEST_REQUEST = 193 };
+
 /*
  * The registration request of an access in state 4, written from buffer[0] on. r and what lies behind the request stay as they were.
- * How many octets it has, at most 110; or 256 plus the refusal's number, and then the whole buffer is as it was:
+ *   clear part  7E 00 41, ngKSI and type in one octet, the identity behind its length (2, the high one first), 2E; with ngKSI 7, no key set, this is all
+ *   container   with a key set, ngKSI 0 to 6: 71, a length (the same) and in it the whole request, hidden elements too: the same octets to the identity's end,
+ *               10, 2E, 52 if a last area is held, and in an update 40 if it is not zero, and 50
+ * 71 comes last, so that the security layer can cipher the message's tail, which is what the container holds. This library ciphers nothing.
+ * How many octets it has, at most TJERNFAUG_LONGEST_REQUEST; or 256 plus the refusal's number, and then the whole buffer is as it was:
  *   257  access is not 0 or 1, or r is invalid
  *   262  the access is not in state 4
  *   268  the buffer is shorter than the request

@@ -1,6 +1,7 @@
 // Reading accepts and rejects: which octet is at fault, the optional elements and the timer octets.
 
-/// Why a message is not read, by request R-1's number, and the offset of the octet at fault.
+/// Why a message is not read, by request R-1's number, and the offset of the octet at fault; a
+/// request also by number 3 with offset 0, or by R-3's 19.
 #[derive(Clone, Copy, PartialEq, Debug)]
 pub struct Fault {
     pub number: u8,

@@ -23,6 +23,9 @@ pub const AREA_LISTED: u8 = 9;
 pub const UNPROTECTED: u8 = 10;
 pub const NOT_RUNNING: u8 = 11;
 pub const SHORT: u8 = 12;
+// 13 to 18 are the faults of message.rs.
+/// A third level of requests in one another; no event is answered so.
+pub const DEEP: u8 = 19;
 
 // States.
 pub const NO_SUPI: u8 = 0;
@@ -52,7 +55,8 @@ const T3511_SECONDS: u32 = 10;
 const T3502_SECONDS: u16 = 720;
 const T3512_SECONDS: u32 = 3240;
 const MOST_ATTEMPTS: u8 = 5;
-const NO_KEY: u8 = 7;
+/// The ngKSI of no key set.
+pub const NO_KEY: u8 = 7;
 
 /// A list held in place, oldest first.
 #[derive(Clone, Copy)]

@@ -1,4 +1,5 @@
-// Scenarios worked out by hand from document 01 and requests R-1 and R-5: rustc --test docs/src/main.rs
+// Scenarios worked out by hand from document 01 and requests R-1, R-3 and R-5: rustc --test
+// docs/src/main.rs
 
 use crate::log::{apply, Input, Next};
 use crate::message::{self, Fault, Message};
@@ -6,6 +7,7 @@ use crate::record::*;
 use crate::request;
 use std::collections::BTreeMap;
 use std::io::{self, Read};
+use std::ops::Range;
 
 const HOME: Network = [0x00, 0xF1, 0x10];
 const AWAY: Network = [0x00, 0xF2, 0x20];
@@ -885,12 +887,18 @@ fn written(record: &Record, a: u8) -> Vec<u8> {
     buffer[..length].to_vec()
 }
 
+/// A clear part, and a request in a container behind it.
+fn contained(clear: &[u8], whole: &[u8]) -> Vec<u8> {
+    [clear, &[0x71, 0x00, whole.len() as u8], whole].concat()
+}
+
 #[test]
 fn requests() {
     let mut record = limited(3);
     assert_eq!(request::write(&record, 0, &mut [0; 200]), Err(6));
     assert_eq!(request::write(&record, 0, &mut []), Err(6));
     assert_eq!(request::write(&record, 2, &mut [0; 200]), Err(1));
+    assert_eq!(request::write(&record, 2, &mut []), Err(1));
     start(&mut record, 0, AWAY);
     let plain = octets("7E 00 41 71 00 09 01 00 F1 10 F0 FF 00 00 07 2E 02 F0 F0");
     assert_eq!(written(&record, 0), plain);
@@ -901,20 +909,28 @@ fn requests() {
     record.access[0].guti = Some(GUTI);
     record.access[0].last = Some(area(AWAY));
     record.key(0, 3);
-    let flat = octets(
-        "7E 00 41 31 00 0B F2 00 F1 10 80 01 C5 D1 C2 B3 A4 10 01 00 2E 02 F0 F0 52 00 F2 20 00 00 2A",
+    let nested = octets(
+        "7E 00 41 31 00 0B F2 00 F1 10 80 01 C5 D1 C2 B3 A4 2E 02 F0 F0 71 00 1F \
+         7E 00 41 31 00 0B F2 00 F1 10 80 01 C5 D1 C2 B3 A4 10 01 00 2E 02 F0 F0 52 00 F2 20 00 00 2A",
     );
-    assert_eq!(written(&record, 0), flat);
-    let read = request::read(&flat).unwrap();
+    assert_eq!(written(&record, 0), nested);
+    let read = request::read(&nested).unwrap();
+    assert_eq!((read.ksi, read.identity, read.security), (3, 30..41, 46..48));
+    assert_eq!((read.capability, read.area), (Some(43..44), Some(49..55)));
+    let read = request::read(&nested[24..]).unwrap();
     assert_eq!((read.ksi, read.identity, read.security), (3, 6..17, 22..24));
     assert_eq!((read.capability, read.area), (Some(19..20), Some(25..31)));
+    let read = request::read(&nested[..21]).unwrap();
+    assert_eq!((read.ksi, read.identity, read.security), (3, 6..17, 19..21));
+    assert_eq!((read.capability, read.area), (None, None));
     record.access[0].last = None;
-    assert_eq!(written(&record, 0), flat[..24]);
+    assert_eq!(written(&record, 0), contained(&nested[..21], &nested[24..48]));
     record.access[0].last = Some(area(AWAY));
     record.access[0].ksi = 7;
     assert_eq!(written(&record, 0)[17..], [0x2E, 0x02, 0xF0, 0xF0]);
 }
 
+/// With a key set: the clear part of 80, 71 and its length, and the request of 102 to 110.
 #[test]
 fn longest_requests() {
     let mut record = pending(0, AWAY);
@@ -928,14 +944,19 @@ fn longest_requests() {
     record.security = List::of(&[6; 8]);
     assert_eq!(written(&record, 0).len(), 80);
     record.access[0].ksi = 0;
-    assert_eq!(written(&record, 0).len(), 102);
+    assert_eq!(written(&record, 0).len(), 185);
     assert!(request::read(&written(&record, 0)).is_ok());
     record.access[0].regtype = 2;
-    assert_eq!(written(&record, 0).len(), 106);
+    assert_eq!(written(&record, 0).len(), 189);
     record.access[0].uplink = [0x00, 0x80];
-    assert_eq!(written(&record, 0).len(), 110);
-    assert_eq!(request::LONGEST, 110);
-    assert!(request::read(&written(&record, 0)).is_ok());
+    let longest = written(&record, 0);
+    assert_eq!(longest.len(), 193);
+    assert_eq!(longest[80..83], [0x71, 0x00, 110]);
+    assert_eq!(request::LONGEST, 193);
+    let read = request::read(&longest).unwrap();
+    assert_eq!((read.identity, read.capability), (89..153, Some(155..168)));
+    assert_eq!((read.security, read.area), (170..178, Some(179..185)));
+    assert_eq!((read.uplink, read.sessions), (Some(187..189), Some(191..193)));
 }
 
 /// The identity for GUTIs of two networks, either or none held; their last octets differ.
@@ -973,6 +994,9 @@ fn identities() {
             let octets = written(&record, a as u8);
             assert_eq!(octets[6..6 + expected.len()], expected[..]);
             assert_eq!(octets[5] as usize, expected.len());
+            let inner = request::read(&octets).unwrap().identity;
+            assert!(inner.start > 6 + expected.len());
+            assert_eq!(octets[inner], expected[..]);
         }
     }
 }
@@ -1764,17 +1788,20 @@ fn requests_of_updates() {
     record.access[0].guti = Some(GUTI);
     record.update(0, 3, area(NEAR), [[0x20, 0x00]; 2]);
     let identity = "00 0B F2 00 F1 10 80 01 C5 D1 C2 B3 A4";
-    let with = |fourth: &str, rest: &str| octets(&format!("7E 00 41 {fourth} {identity} {rest}"));
-    assert_eq!(written(&record, 0), with("73", "2E 02 F0 F0"));
+    let clear = |fourth: &str| octets(&format!("7E 00 41 {fourth} {identity} 2E 02 F0 F0"));
+    let with = |fourth: &str, rest: &str| {
+        let whole = octets(&format!("7E 00 41 {fourth} {identity} 10 01 00 2E 02 F0 F0 {rest}"));
+        contained(&clear(fourth), &whole)
+    };
+    assert_eq!(written(&record, 0), clear("73"));
     assert_eq!(record.key(0, 3).answer, 0);
-    let first = "10 01 00 2E 02 F0 F0";
     let last = "52 00 F2 20 00 00 2A";
     let both = "40 02 20 00 50 02 20 00";
-    assert_eq!(written(&record, 0), with("33", &format!("{first} {last} {both}")));
+    assert_eq!(written(&record, 0), with("33", &format!("{last} {both}")));
     record.access[0].regtype = 2;
-    assert_eq!(written(&record, 0), with("32", &format!("{first} {last} {both}")));
+    assert_eq!(written(&record, 0), with("32", &format!("{last} {both}")));
     record.access[0].last = None;
-    assert_eq!(written(&record, 0), with("32", &format!("{first} {both}")));
+    assert_eq!(written(&record, 0), with("32", both));
     record.access[0].last = Some(area(AWAY));
     for (uplink, sessions, rest) in [
         ([0x00, 0x00], [0x00, 0x00], "50 02 00 00"),
@@ -1783,33 +1810,49 @@ fn requests_of_updates() {
         ([0x02, 0x00], [0xFE, 0xFF], "40 02 02 00 50 02 FE FF"),
     ] {
         (record.access[0].uplink, record.access[0].sessions) = (uplink, sessions);
-        assert_eq!(written(&record, 0), with("32", &format!("{first} {last} {rest}")));
+        assert_eq!(written(&record, 0), with("32", &format!("{last} {rest}")));
     }
     record.access[0].regtype = 1;
-    assert_eq!(written(&record, 0), with("31", &format!("{first} {last}")));
+    assert_eq!(written(&record, 0), with("31", last));
+    record.access[0].last = None;
+    assert_eq!(written(&record, 0), with("31", ""));
     record.access[0].regtype = 2;
     record.access[0].ksi = 7;
-    assert_eq!(written(&record, 0), with("72", "2E 02 F0 F0"));
+    assert_eq!(written(&record, 0), clear("72"));
 }
 
-/// What is written reads back to the record's own words.
+/// What is written reads back to the record's own words, of every type and in both shapes: with
+/// a key set by the places in the container, and the clear part says no more than without one.
 #[test]
-fn requests_of_updates_read_back() {
+fn requests_of_all_types_read_back() {
     let mut record = updating(1, AWAY);
-    for ksi in [0, 6, 7] {
-        for (regtype, uplink) in [(2, [0x20, 0x01]), (3, [0x02, 0x00]), (2, [0; 2])] {
-            let this = &mut record.access[1];
-            (this.ksi, this.regtype, this.uplink) = (ksi, regtype, uplink);
-            let octets = written(&record, 1);
-            let read = request::read(&octets).unwrap();
-            let part = |part: Option<std::ops::Range<usize>>| part.map(|part| &octets[part]);
-            assert_eq!((read.regtype, read.ksi), (regtype, ksi));
-            let hidden = ksi == 7;
-            let sent = (!hidden && uplink != [0; 2]).then_some(&uplink[..]);
-            assert_eq!(part(read.uplink), sent);
-            assert_eq!(part(read.sessions), (!hidden).then_some(&MOVED[1][..]));
-            assert_eq!(part(read.area), (!hidden).then_some(&OLD[..]));
-        }
+    record.capability = List::of(&[1, 2, 3]);
+    let areas = [Some(OLD), None];
+    for (case, ksi) in (0..=7).cycle().take(8 * 3 * 2 * 2).enumerate() {
+        let this = &mut record.access[1];
+        let regtype = 1 + (case / 8 % 3) as u8;
+        (this.ksi, this.regtype, this.last) = (ksi, regtype, areas[case / 24 % 2]);
+        this.uplink = [[0x20, 0x01], [0; 2]][case / 48];
+        let this = record.access[1];
+        let octets = written(&record, 1);
+        let read = request::read(&octets).unwrap();
+        let whole = ksi < 7;
+        let update = whole && regtype > 1;
+        let part = |part: Option<Range<usize>>| part.map(|part| &octets[part]);
+        assert_eq!((read.regtype, read.ksi), (regtype, ksi));
+        assert_eq!(read.identity.start, if whole { 30 } else { 6 });
+        assert_eq!(octets[read.identity], [&[0xF2], &GUTI[..]].concat());
+        assert_eq!(octets[read.security], [0xF0, 0xF0]);
+        assert_eq!(part(read.capability), whole.then_some(&[1, 2, 3][..]));
+        assert_eq!(part(read.area), this.last.as_ref().filter(|_| whole).map(|area| &area[..]));
+        let sent = (update && this.uplink != [0; 2]).then_some(&this.uplink[..]);
+        assert_eq!(part(read.uplink), sent);
+        assert_eq!(part(read.sessions), update.then_some(&MOVED[1][..]));
+        let clear = request::read(&octets[..21]).unwrap();
+        assert_eq!((clear.regtype, clear.ksi, clear.identity), (regtype, ksi, 6..17));
+        assert_eq!((clear.security, clear.capability, clear.area), (19..21, None, None));
+        assert_eq!((clear.uplink, clear.sessions), (None, None));
+        assert_eq!(octets.len() > 21, whole);
     }
 }
 
@@ -1899,11 +1942,28 @@ fn fault_lines() {
         (&[][..], "13 at 0"),
         (&[0x7D], "14 at 0"),
         (&[0x7E, 0x00, 0x41, 0x71, 0x00, 0x00, 0x2E, 0x00], "3"),
+        (&levels("H S 71 00 19 H S 71 00 01 05"), "19 at 45"),
     ] {
         let mut text = String::new();
         crate::refused(&mut text, request::read(octets).unwrap_err());
         assert_eq!(text, told);
     }
+}
+
+/// The lines of `--request`: what is sent with a key set, and what it says.
+#[test]
+fn request_lines() {
+    let mut record = limited(3);
+    start(&mut record, 0, AWAY);
+    record.key(0, 3);
+    let mut text = String::new();
+    crate::requests(&mut text, &record);
+    let head = "7e00413100090100f110f0ff000007";
+    let lines = format!(
+        "request 0 {head}2e02f0f0710016{head}1001002e02f0f0\n\
+         read 0 type 1 ksi 3 identity 0100f110f0ff000007 cap 00 sec f0f0 area - uplink - sessions -\n"
+    );
+    assert_eq!(text, lines);
 }
 
 /// Messages for the event call: the number and offset of the fault, None if it has none.
@@ -2100,6 +2160,145 @@ fn faults_of_requests() {
     }
 }
 
+// Request R-3: a request inside a container inside a request.
+
+/// Octets with letters for parts: H the head and GUTI of 17 octets, with ngKSI 3, G the same with
+/// ngKSI 7, S the 2E. In "H S 71 .." the container is at 21 and its contents begin at 24; of "H S"
+/// in it the elements end at 45.
+fn levels(text: &str) -> Vec<u8> {
+    let identity = "00 0B F2 00 F1 10 80 01 C5 D1 C2 B3 A4";
+    let heads = ["31", "71"].map(|fourth| format!("7E 00 41 {fourth} {identity}"));
+    octets(&text.replace('H', &heads[0]).replace('G', &heads[1]).replace('S', "2E 02 F0 F0"))
+}
+
+/// Requests in one another: the number and offset of the refusal, None if it is read.
+const NESTED: &[(&str, Option<(u8, usize)>)] = &[
+    ("H S", None),
+    ("H S 71 00 15 H S", None),
+    // The container is an element of its level: past the end it is not opened.
+    ("H S 71", Some((17, 21))),
+    ("H S 71 00", Some((17, 21))),
+    ("H S 71 00 01", Some((17, 21))),
+    ("H S 71 00 16 H S", Some((17, 21))),
+    ("H S 71 00 03 7D 00", Some((17, 21))),
+    ("H S 71 01 15 H S", Some((17, 21))),
+    ("H S 71 FF FF 7D", Some((17, 21))),
+    // Its octets one by one; cut is at the end of the container.
+    ("H S 71 00 01 7D", Some((14, 24))),
+    ("H S 71 00 01 7E", Some((13, 25))),
+    ("H S 71 00 02 7E 01", Some((15, 25))),
+    ("H S 71 00 02 7E 00", Some((13, 26))),
+    ("H S 71 00 03 7E 00 40", Some((16, 26))),
+    ("H S 71 00 03 7E 00 41", Some((13, 27))),
+    ("H S 71 00 04 7E 00 44 0B", Some((16, 26))),
+    ("H S 71 00 05 7E 00 42 01 01", Some((16, 26))),
+    ("H S 71 00 04 7E 00 42 00", Some((16, 26))),
+    ("H S 71 00 06 7E 00 41 31 00 0B F2 00 F1 10 80 01 C5 D1 C2 B3 A4", Some((13, 30))),
+    ("H S 71 00 10 7E 00 41 31 00 0B F2 00 F1 10 80 01 C5 D1 C2 B3 9F", Some((13, 40))),
+    // An element past the end of the container, whatever stands behind it.
+    ("H S 71 00 16 H S 16 00", Some((17, 45))),
+    ("H S 71 00 17 H S 16 01 00", Some((17, 45))),
+    ("H S 71 00 18 H S 71 00 01 16 00", Some((17, 45))),
+    ("H S 71 00 14 H S", Some((17, 41))),
+    ("H S 71 00 17 H S 05 00", Some((18, 45))),
+    ("H S 71 00 16 H S 05 00", Some((17, 45))),
+    ("H S 71 00 16 H S 9F", None),
+    // The outer message behind the container, and of two faults the lower offset or number.
+    ("H S 71 00 15 H S 16", Some((17, 45))),
+    ("H S 71 00 15 H S 05 00", Some((18, 45))),
+    ("H S 71 00 15 H S 05", Some((17, 45))),
+    ("H S 71 00 02 7E 00 16", Some((13, 26))),
+    ("H S 71 00 02 7E 00 05 00", Some((13, 26))),
+    ("H S 71 00 17 H S 05 00 16", Some((18, 45))),
+    ("H S 71 00 01 7D 05", Some((14, 24))),
+    ("H 05 00 71 00 01 7D", Some((18, 17))),
+    ("H 16 05 71 00 01 7D", Some((17, 17))),
+    // A third level, which is not opened: at its 71, behind every fault and before 3.
+    ("H S 71 00 2D H S 71 00 15 H S", Some((19, 45))),
+    ("H S 71 00 19 H S 71 00 01 05", Some((19, 45))),
+    ("H S 71 00 19 H S 71 00 01 7D", Some((19, 45))),
+    ("H S 71 00 1B H S 71 00 03 71 00 00", Some((19, 45))),
+    ("H S 71 00 1A H S 9F 71 00 01 05", Some((19, 46))),
+    ("H S 71 00 19 H S 71 00 01 05 05", Some((17, 49))),
+    ("H S 71 00 19 H S 71 00 01 05 05 00", Some((18, 49))),
+    ("H S 71 00 19 H S 71 00 01 05 16", Some((17, 49))),
+    ("H S 71 00 1A H S 71 00 01 05 16 00", Some((17, 49))),
+    ("H S 71 00 1B H S 71 00 01 05 05 00", Some((18, 49))),
+    ("H 71 00 19 H S 71 00 01 05", Some((19, 41))),
+    ("H S 71 00 15 H 71 00 01 05", Some((19, 41))),
+    ("H 71 00 15 H 71 00 01 05", Some((19, 37))),
+    ("H S 71 00 19 H 71 00 01 05 S 71 00 15 H S", Some((19, 41))),
+    // The first container counts: an empty one is absent at each level, a second never opened.
+    ("H S 71 00 00", None),
+    ("H S 71 00 00 71 00 15 H S", None),
+    ("H S 71 00 00 71 00 01 7D", None),
+    ("H 71 00 00 71 00 01 7D", Some((3, 0))),
+    ("H S 71 00 15 H S 71 00 01 7D", None),
+    ("H S 71 00 15 H S 71 00 00", None),
+    ("H S 71 00 15 H S 71 00 02 7E", Some((17, 45))),
+    ("H S 71 00 18 H S 71 00 00", None),
+    ("H S 71 00 1C H S 71 00 00 71 00 01 05", None),
+    ("H S 71 00 1C H S 71 00 01 05 71 00 00", Some((19, 45))),
+    // Each level keeps the layout.
+    ("H S 71 00 11 H", Some((3, 0))),
+    ("H 71 00 15 H S", Some((3, 0))),
+    ("H 71 00 15 H S S", None),
+    ("H 2E 09 0 1 2 3 4 5 6 7 8 71 00 15 H S", Some((3, 0))),
+    ("H 2E 08 0 1 2 3 4 5 6 7 71 00 15 H S", None),
+    ("H S 71 00 1C H 2E 09 0 1 2 3 4 5 6 7 8", Some((3, 0))),
+    ("H 2E 01 F0 71 00 15 H S", Some((3, 0))),
+    ("H S 10 0E 0 1 2 3 4 5 6 7 8 9 A B C D 71 00 15 H S", Some((3, 0))),
+    ("H S 71 00 0A 7E 00 41 31 00 00 S", Some((3, 0))),
+    ("7E 00 41 31 00 00 S 71 00 15 H S", Some((3, 0))),
+    ("7E 00 41 81 00 09 01 00 F1 10 F0 FF 00 00 07 S 71 00 15 H S", Some((3, 0))),
+    ("H S 71 00 13 7E 00 41 34 00 09 01 00 F1 10 F0 FF 00 00 07 S", Some((3, 0))),
+    // With and without a key set.
+    ("G S 71 00 15 H S", None),
+    ("H S 71 00 15 G S", None),
+    ("G S 71 00 2D G S 71 00 15 G S", Some((19, 45))),
+];
+
+#[test]
+fn nested_requests() {
+    for (text, refusal) in NESTED {
+        let octets = levels(text);
+        let told = request::read(&octets).err().map(|fault| (fault.number, fault.at));
+        assert_eq!(told, *refusal, "{text}");
+        assert_eq!(told_of(&octets).0, refusal.map(|(number, at)| (at, number)), "{text}");
+    }
+}
+
+/// All that is handed back is of the inner request, by its place in the outermost octets; that of
+/// the outer one is not compared and does not show.
+#[test]
+fn the_inner_request_is_the_message() {
+    let read = |text: &str| request::read(&levels(text)).unwrap();
+    let full = "10 01 07 S 52 1 2 3 4 5 6 40 02 20 00 50 02 A0 01";
+    for (text, regtype, ksi, identity, security) in [
+        ("H S 71 00 15 H S", 1, 3, 30..41, 43..45),
+        ("G S 71 00 15 H S", 1, 3, 30..41, 43..45),
+        ("H S 71 00 15 G S", 1, 7, 30..41, 43..45),
+        ("H 71 00 15 H S S", 1, 3, 26..37, 39..41),
+        ("H S 71 00 15 H S 71 00 15 G S", 1, 3, 30..41, 43..45),
+        (&format!("H {full} 71 00 15 H S"), 1, 3, 48..59, 61..63),
+        (&format!("H 71 00 15 G S {full}"), 1, 7, 26..37, 39..41),
+        ("H S 71 00 13 7E 00 41 63 00 09 01 00 F1 10 F0 FF 00 00 07 S", 3, 6, 30..39, 41..43),
+        ("H S 71 00 00 71 00 15 G S", 1, 3, 6..17, 19..21),
+        ("H S 71 00 18 G S 71 00 00", 1, 7, 30..41, 43..45),
+    ] {
+        let read = read(text);
+        assert_eq!((read.regtype, read.ksi), (regtype, ksi), "{text}");
+        assert_eq!((read.identity, read.security), (identity, security), "{text}");
+        let others = [read.capability, read.area, read.uplink, read.sessions];
+        assert_eq!(others, [const { None }; 4], "{text}");
+    }
+    let inner = read(&format!("H S 71 00 27 H {full}"));
+    assert_eq!(inner, read(&format!("H S 71 00 27 H {full} {full}")));
+    assert_eq!((inner.identity, inner.security), (30..41, 46..48));
+    assert_eq!((inner.capability, inner.area), (Some(43..44), Some(49..55)));
+    assert_eq!((inner.uplink, inner.sessions), (Some(57..59), Some(61..63)));
+}
+
 /// How many octets the fixed part of a message has, by its type; what is not there counts as 0.
 fn fixed(octets: &[u8]) -> usize {
     let at = |place: usize| octets.get(place).map_or(0, |&octet| octet as usize);
@@ -2111,14 +2310,15 @@ fn fixed(octets: &[u8]) -> usize {
     }
 }
 
-/// How many octets the element at a place has in all; what is not there counts as 0.
-fn size(octets: &[u8], place: usize) -> usize {
+/// How many octets the element at a place has before its contents and in all; what is not there
+/// counts as 0.
+fn size(octets: &[u8], place: usize) -> (usize, usize) {
     let behind = |count: usize| octets.get(place + count).map_or(0, |&octet| octet as usize);
     match octets[place] {
-        0x80..=0xFF => 1,
-        0x70..=0x7F => 3 + 256 * behind(1) + behind(2),
-        0x52 if octets[2] == 0x41 => 7,
-        _ => 2 + behind(1),
+        0x80..=0xFF => (1, 1),
+        0x70..=0x7F => (3, 3 + 256 * behind(1) + behind(2)),
+        0x52 if octets[2] == 0x41 => (1, 7),
+        _ => (2, 2 + behind(1)),
     }
 }
 
@@ -2144,7 +2344,7 @@ fn faults(octets: &[u8], types: &[u8]) -> Vec<(usize, u8)> {
     }
     let mut place = fixed(octets);
     while place < length {
-        let end = place + size(octets, place);
+        let end = place + size(octets, place).1;
         if end > length {
             all.push((place, 17));
         }
@@ -2156,9 +2356,65 @@ fn faults(octets: &[u8], types: &[u8]) -> Vec<(usize, u8)> {
     all
 }
 
-/// How often each fault was told, by number and offset; 0 is none.
+/// The contents of the first element with this identifier, if the message has them all.
+fn first(octets: &[u8], identifier: u8) -> Option<Range<usize>> {
+    let mut place = fixed(octets);
+    while place < octets.len() {
+        let (before, whole) = size(octets, place);
+        if octets[place] == identifier {
+            return (place + whole <= octets.len()).then_some(place + before..place + whole);
+        }
+        place += whole;
+    }
+    None
+}
+
+/// Whether a request without a fault keeps the layout at its own level.
+fn keeps(octets: &[u8]) -> bool {
+    let length = |identifier| first(octets, identifier).map_or(0, |part| part.len());
+    let identity = match octets[6..fixed(octets)].first() {
+        Some(0xF2) => 11..=11,
+        Some(0x01) => 9..=64,
+        _ => return false,
+    };
+    identity.contains(&(fixed(octets) - 6))
+        && octets[3] < 0x80
+        && [1, 2, 3].contains(&(octets[3] % 16))
+        && length(0x10) < 14
+        && [2, 3, 4, 5, 6, 7, 8].contains(&length(0x2E))
+}
+
+/// What the request reader has to tell, by R-3's sentences, as an offset and a number: of all
+/// faults of the levels opened the lowest, then a third level, then a broken layout. And of
+/// which level it tells, 0 the outer one; None tells of the one that is read.
+fn told_of(octets: &[u8]) -> (Option<(usize, u8)>, usize) {
+    let filled = |octets: &[u8]| first(octets, 0x71).filter(|part| !part.is_empty());
+    let mut opened = vec![0..octets.len()];
+    opened.extend(filled(octets));
+    let mut all = vec![];
+    for (level, part) in opened.iter().enumerate() {
+        let own = faults(&octets[part.clone()], &[0x41]);
+        all.extend(own.into_iter().map(|(at, number)| (part.start + at, number, level)));
+    }
+    if let Some((at, number, level)) = all.into_iter().min() {
+        return (Some((at, number)), level);
+    }
+    if let [_, inner] = &opened[..] {
+        if let Some(third) = filled(&octets[inner.clone()]) {
+            return (Some((inner.start + third.start - 3, 19)), 1);
+        }
+    }
+    let broken = opened.iter().position(|part| !keeps(&octets[part.clone()]));
+    (broken.map(|_| (0, 3)), broken.unwrap_or(opened.len() - 1))
+}
+
+/// How often each was told: of messages by number and offset, of requests by number and level; 0
+/// is none.
 #[derive(Default)]
-struct Counts(BTreeMap<(u8, usize), usize>);
+struct Counts {
+    messages: BTreeMap<(u8, usize), usize>,
+    requests: BTreeMap<(u8, usize), usize>,
+}
 
 impl Counts {
     /// Both readers tell the lowest of all faults, at a tie the lower number.
@@ -2166,49 +2422,198 @@ impl Counts {
         let lowest = faults(octets, &[0x42, 0x44]).into_iter().min();
         let told = message::read(octets).err().map(|fault| (fault.at, fault.number));
         assert_eq!(told, lowest, "{octets:02X?}");
-        *self.0.entry(told.map_or((0, 0), |(at, number)| (number, at))).or_default() += 1;
+        *self.messages.entry(told.map_or((0, 0), |(at, number)| (number, at))).or_default() += 1;
+        let (lowest, level) = told_of(octets);
         let told = request::read(octets).err().map(|fault| (fault.at, fault.number));
-        match faults(octets, &[0x41]).into_iter().min() {
-            None => assert!(matches!(told, None | Some((0, 3))), "{octets:02X?}"),
-            lowest => assert_eq!(told, lowest, "{octets:02X?}"),
-        }
+        assert_eq!(told, lowest, "{octets:02X?}");
+        let number = told.map_or(0, |(_, number)| number);
+        *self.requests.entry((number, level)).or_default() += 1;
     }
 
     /// Each number came often, and those without a fixed offset at so many offsets.
     fn seen(&self, least: usize, offsets: usize) {
         for number in [0, 13, 14, 15, 16, 17, 18] {
-            let places = self.0.range((number, 0)..(number + 1, 0));
+            let places = self.messages.range((number, 0)..(number + 1, 0));
             let times: usize = places.clone().map(|(_, times)| times).sum();
             assert!(times >= least, "{number}: {times} times");
             let varied = matches!(number, 13 | 17 | 18);
             assert!(!varied || places.clone().count() >= offsets, "{number}: {places:?}");
         }
     }
-}
 
-/// Every message of at most four octets, and every one of at most five behind a type, of octets
-/// that matter.
-#[test]
-fn faults_of_short_messages() {
-    const OCTETS: [u8; 12] =
-        [0x00, 0x01, 0x02, 0x05, 0x10, 0x41, 0x42, 0x44, 0x52, 0x70, 0x7E, 0x9F];
-    fn all(octets: &mut Vec<u8>, more: usize, counts: &mut Counts) {
-        counts.hold(octets);
-        for octet in OCTETS.into_iter().take(if more > 0 { 12 } else { 0 }) {
-            octets.push(octet);
-            all(octets, more - 1, counts);
-            octets.pop();
+    /// So did each number of a request, of these levels; 19 is always of the inner one.
+    fn seen_of_requests(&self, levels: Range<usize>, least: usize) {
+        for (number, level) in [0, 3, 13, 14, 15, 16, 17, 18, 19]
+            .into_iter()
+            .flat_map(|number| levels.clone().map(move |level| (number, level)))
+        {
+            let times = self.requests.get(&(number, level)).copied().unwrap_or(0);
+            let expected = if (number, level) == (19, 0) { 0 } else { least };
+            assert!(times >= expected, "{number} of level {level}: {times} times");
         }
     }
+}
+
+/// Octets that matter.
+const OCTETS: [u8; 13] =
+    [0x00, 0x01, 0x02, 0x05, 0x10, 0x41, 0x42, 0x44, 0x52, 0x70, 0x71, 0x7E, 0x9F];
+
+/// Octets, and behind them every message of at most so many more, of those that matter.
+fn all_behind(octets: &mut Vec<u8>, more: usize, held: &mut dyn FnMut(&[u8])) {
+    held(octets);
+    if more == 0 {
+        return;
+    }
+    for octet in OCTETS {
+        octets.push(octet);
+        all_behind(octets, more - 1, held);
+        octets.pop();
+    }
+}
+
+/// Every message of at most four octets, and every one of at most five behind a type.
+#[test]
+fn faults_of_short_messages() {
     let mut counts = Counts::default();
-    all(&mut vec![], 4, &mut counts);
+    all_behind(&mut vec![], 4, &mut |octets| counts.hold(octets));
     for kind in [0x41, 0x42, 0x44] {
-        all(&mut vec![0x7E, 0x00, kind], 5, &mut counts);
+        all_behind(&mut vec![0x7E, 0x00, kind], 5, &mut |octets| counts.hold(octets));
     }
     counts.seen(1000, 3);
 }
 
+/// The same in a container, by itself and behind the beginning of a request, within the layout
+/// and not; behind the container more of the outer message.
+#[test]
+fn faults_of_short_containers() {
+    let mut counts = Counts::default();
+    for begun in ["", "7E 00 41", "7E 00 41 31 00 00", "H S"] {
+        for (outer, behind) in [("H S", ""), ("H S", "9F"), ("H", "05"), ("H", "05 00"), ("G", "S")]
+        {
+            let (outer, behind) = (levels(outer), levels(behind));
+            all_behind(&mut levels(begun), 4, &mut |inner| {
+                counts.hold(&[&contained(&outer, inner)[..], &behind].concat());
+            });
+        }
+    }
+    counts.seen_of_requests(1..2, 50);
+}
+
+/// A request with all its elements at both levels, cut at each octet; and its containers longer
+/// and shorter by some octets.
+#[test]
+fn nested_requests_cut() {
+    let mut counts = Counts::default();
+    let full = "10 01 07 S 52 1 2 3 4 5 6 40 02 20 00 50 02 A0 01";
+    let whole = levels(&format!("H {full} 71 00 41 H {full} 71 00 17 H S 9F 9F 9F"));
+    assert_eq!(request::read(&whole), Err(Fault { number: 19, at: 81 }));
+    for length in 0..whole.len() {
+        counts.hold(&whole[..length]);
+        counts.hold(&contained(&levels("H S"), &whole[..length]));
+        counts.hold(&[&contained(&levels("H S"), &whole[..length])[..], &[0x16]].concat());
+    }
+    for (outer, inner) in (0..=255).flat_map(|outer| (0..=255).map(move |inner| (outer, inner))) {
+        let mut octets = whole.clone();
+        (octets[41], octets[83]) = (outer, inner);
+        counts.hold(&octets);
+    }
+    assert!(counts.requests[&(13, 1)] > 30 && counts.requests[&(17, 0)] > 30);
+}
+
+/// Requests in one another as they were made: what the innermost says, and where the containers
+/// stand, from the outermost on.
+struct Nest {
+    octets: Vec<u8>,
+    says: request::Request,
+    containers: Vec<usize>,
+}
+
+impl Nest {
+    /// As it says when it stands behind so many octets.
+    fn behind(self, count: usize) -> (request::Request, Vec<usize>) {
+        let part = |part: Range<usize>| part.start + count..part.end + count;
+        let says = request::Request {
+            regtype: self.says.regtype,
+            ksi: self.says.ksi,
+            identity: part(self.says.identity),
+            capability: self.says.capability.map(part),
+            security: part(self.says.security),
+            area: self.says.area.map(part),
+            uplink: self.says.uplink.map(part),
+            sessions: self.says.sessions.map(part),
+        };
+        (says, self.containers.into_iter().map(|place| place + count).collect())
+    }
+}
+
+/// Puts an element behind the octets; where its contents then lie.
+fn append(octets: &mut Vec<u8>, identifier: u8, contents: &[u8]) -> Range<usize> {
+    let [high, low] = (contents.len() as u16).to_be_bytes();
+    octets.push(identifier);
+    match identifier {
+        0x71 => octets.extend([high, low]),
+        0x52 | 0x9F => {}
+        _ => octets.push(low),
+    }
+    octets.extend(contents);
+    octets.len() - contents.len()..octets.len()
+}
+
 impl Draws {
+    fn many(&mut self, count: u8) -> Vec<u8> {
+        (0..count).map(|_| self.below(256)).collect()
+    }
+
+    fn some(&mut self, least: u8, most: u8) -> Vec<u8> {
+        let count = least + self.below((most - least) as u64 + 1);
+        self.many(count)
+    }
+
+    /// Octet 4 and identity of a request within the layout.
+    fn head(&mut self) -> Vec<u8> {
+        let suci = 9 + self.below(56);
+        let (lead, length) = [(0xF2, 11), (0x01, suci)][self.below(2) as usize];
+        let fourth = 16 * self.below(8) + 1 + self.below(3);
+        let head = vec![0x7E, 0x00, 0x41, fourth, 0x00, length, lead];
+        [head, self.many(length - 1)].concat()
+    }
+
+    /// A request within the layout, in its container as many more in one another: elements in
+    /// any order, most of them there, some again behind all others, where they do not count.
+    fn nest(&mut self, depth: usize) -> Nest {
+        let mut octets = self.head();
+        let mut parts = BTreeMap::from([(0, 6..octets.len())]);
+        let mut inner = None;
+        let mut kinds = vec![0x10, 0x2E, 0x52, 0x40, 0x50, 0x71, 0x9F];
+        while !kinds.is_empty() {
+            let kind = kinds.swap_remove(self.below(kinds.len() as u64) as usize);
+            let needed = kind == 0x2E || kind == 0x71 && depth > 0;
+            if !needed && self.below(3) == 0 {
+                continue;
+            }
+            let contents = match kind {
+                0x71 if depth > 0 => inner.insert(self.nest(depth - 1)).octets.clone(),
+                0x10 => self.some(0, 13),
+                0x2E => self.some(2, 8),
+                0x52 => self.many(6),
+                0x40 | 0x50 => self.some(0, 4),
+                _ => vec![],
+            };
+            parts.insert(kind, append(&mut octets, kind, &contents));
+        }
+        for kind in parts.keys().copied().filter(|&kind| kind >= 0x10) {
+            if self.below(6) == 0 {
+                let length = match kind {
+                    0x52 => 6,
+                    0x9F => 0,
+                    _ => 9,
+                };
+                append(&mut octets, kind, &self.many(length));
+            }
+        }
+        nest_of(octets, parts, inner)
+    }
+
     /// An element of any format, some of them long.
     fn element(&mut self) -> Vec<u8> {
         let length = self.below(6);
@@ -2224,19 +2629,8 @@ impl Draws {
         head.into_iter().chain(contents).collect()
     }
 
-    /// A message of a type that one of the readers reads, whole or damaged: cut, or an octet
-    /// changed, at the front or anywhere.
-    fn octets(&mut self) -> Vec<u8> {
-        let length = 1 + self.below(12);
-        let (mut octets, length) = match self.below(3) {
-            0 => (vec![0x7E, 0x00, 0x41, 0x71, 0x00, length], length),
-            1 => (vec![0x7E, 0x00, 0x42, length], length),
-            _ => (vec![0x7E, 0x00, 0x44], 1),
-        };
-        octets.extend((0..length).map(|_| self.below(256)));
-        for _ in 0..self.below(7) {
-            octets.extend(self.element());
-        }
+    /// Octets whole or damaged: cut, or an octet changed, at the front or anywhere.
+    fn damaged(&mut self, mut octets: Vec<u8>) -> Vec<u8> {
         let count = octets.len();
         let anywhere = (256 * self.below(256) as usize + self.below(256) as usize) % count;
         match self.below(6) {
@@ -2248,6 +2642,85 @@ impl Draws {
         }
         octets
     }
+
+    /// A message of a type that one of the readers reads, whole or damaged.
+    fn octets(&mut self) -> Vec<u8> {
+        let length = 1 + self.below(12);
+        let (mut octets, length) = match self.below(3) {
+            0 => (vec![0x7E, 0x00, 0x41, 0x71, 0x00, length], length),
+            1 => (vec![0x7E, 0x00, 0x42, length], length),
+            _ => (vec![0x7E, 0x00, 0x44], 1),
+        };
+        octets.extend((0..length).map(|_| self.below(256)));
+        for _ in 0..self.below(7) {
+            octets.extend(self.element());
+        }
+        self.damaged(octets)
+    }
+
+    /// Requests in one another, whole or damaged: the inner ones, and then all of it.
+    fn levels(&mut self) -> Vec<u8> {
+        let depth = self.below(4) as usize;
+        let mut inner = self.nest(depth).octets;
+        if self.below(4) == 0 {
+            return self.damaged(inner);
+        }
+        if self.below(4) == 0 {
+            inner.extend(self.element());
+        }
+        let mut octets = self.head();
+        if self.below(8) > 0 {
+            append(&mut octets, 0x2E, &[0xF0, 0xF0]);
+        }
+        append(&mut octets, 0x71, &self.damaged(inner));
+        for _ in 0..self.below(3) {
+            octets.extend(self.element());
+        }
+        match self.below(4) {
+            0 => self.damaged(octets),
+            _ => octets,
+        }
+    }
+}
+
+/// What was made of these octets: where the first of each kind lies, the identity under 0, and
+/// what stands in the container.
+fn nest_of(octets: Vec<u8>, parts: BTreeMap<u8, Range<usize>>, inner: Option<Nest>) -> Nest {
+    let container = parts.get(&0x71).map_or(0, |part| part.start);
+    if let Some(inner) = inner {
+        let (says, mut containers) = inner.behind(container);
+        containers.insert(0, container - 3);
+        return Nest { octets, says, containers };
+    }
+    let part = |kind, least| parts.get(&kind).cloned().filter(|part| part.len() >= least);
+    let status = |kind| part(kind, 2).map(|part| part.start..part.start + 2);
+    let says = request::Request {
+        regtype: octets[3] % 16,
+        ksi: octets[3] / 16,
+        identity: parts[&0].clone(),
+        capability: part(0x10, 1),
+        security: parts[&0x2E].clone(),
+        area: part(0x52, 6),
+        uplink: status(0x40),
+        sessions: status(0x50),
+    };
+    Nest { octets, says, containers: vec![] }
+}
+
+/// Requests with none, one, two and three more in one another: the first two are read as they
+/// were made, of the others the third level is told at its container.
+#[test]
+fn nested_requests_at_random() {
+    let mut draws = Draws(3);
+    for depth in (0..4).cycle().take(4000) {
+        let Nest { octets, says, containers } = draws.nest(depth);
+        assert_eq!(containers.len(), depth);
+        let expected = match containers.get(1) {
+            Some(&at) => Err(Fault { number: 19, at }),
+            None => Ok(says),
+        };
+        assert_eq!(request::read(&octets), expected, "{octets:02X?}");
+    }
 }
 
 #[test]
@@ -2258,4 +2731,8 @@ fn faults_of_messages_at_random() {
         counts.hold(&draws.octets());
     }
     counts.seen(4000, 40);
+    for _ in 0..200_000 {
+        counts.hold(&draws.levels());
+    }
+    counts.seen_of_requests(0..2, 1000);
 }

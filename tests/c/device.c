@@ -61,21 +61,37 @@ static uint32_t update(struct device *d, uint8_t type, const uint8_t *area)
     return hand(d, UPDATE, body, sizeof body);
 }
 
-/* The request that the device sends, with ngKSI 7 and the card's SUCI; what lies behind it stays, and in too short a buffer all of it. */
-static int request(const struct device *d)
+/* The device sends these octets. What lies behind them stays, and in a buffer that is an octet too short all of it. */
+static int sends(const struct device *d, const uint8_t *octets, size_t len)
 {
-    static const uint8_t octets[] = {0x7E, 0x00, 0x41, 0x71, 0x00, 0x09, 0x01, 0x00, 0xF1, 0x10,
-                                     0xF0, 0xFF, 0x00, 0x00, 0x07, 0x2E, 0x02, 0xF0, 0xF0};
-    uint8_t sent[110], kept[110];
+    uint8_t sent[TJERNFAUG_LONGEST_REQUEST], kept[TJERNFAUG_LONGEST_REQUEST];
     memset(sent, 0xA5, sizeof sent);
     memset(kept, 0xA5, sizeof kept);
-    int right = tjernfaug_request(&d->record, 0, sent, sizeof octets - 1) == REFUSED + SHORT;
+    int right = tjernfaug_request(&d->record, 0, sent, len - 1) == REFUSED + SHORT;
     right &= tjernfaug_request(&d->record, 1, sent, sizeof sent) == REFUSED + STATE;
     right &= tjernfaug_request(&d->record, 2, sent, sizeof sent) == REFUSED + RANGE;
     right &= memcmp(sent, kept, sizeof sent) == 0;
-    right &= tjernfaug_request(&d->record, 0, sent, sizeof sent) == sizeof octets;
-    memcpy(kept, octets, sizeof octets);
+    right &= tjernfaug_request(&d->record, 0, sent, sizeof sent) == len;
+    memcpy(kept, octets, len);
     return right && memcmp(sent, kept, sizeof sent) == 0;
+}
+
+/* With ngKSI 7: the clear part alone, the card's SUCI and 2E. */
+static int clear(const struct device *d)
+{
+    static const uint8_t octets[] = {0x7E, 0x00, 0x41, 0x71, 0x00, 0x09, 0x01, 0x00, 0xF1, 0x10, 0xF0, 0xFF, 0x00, 0x00, 0x07, 0x2E, 0x02, 0xF0, 0xF0};
+    return sends(d, octets, sizeof octets);
+}
+
+/* With ngKSI 0, in an update: the clear part, then 71 and in it the whole request, with 10, the last area, the uplink data status and the session status. */
+static int nested(const struct device *d, uint8_t type, const uint8_t *last)
+{
+    const uint8_t octets[] = {
+        0x7E, 0x00, 0x41, type, 0x00, 0x09, 0x01, 0x00, 0xF1, 0x10, 0xF0, 0xFF, 0x00, 0x00, 0x07, 0x2E, 0x02, 0xF0, 0xF0, 0x71, 0x00, 0x25,
+        0x7E, 0x00, 0x41, type, 0x00, 0x09, 0x01, 0x00, 0xF1, 0x10, 0xF0, 0xFF, 0x00, 0x00, 0x07, 0x10, 0x01, 0x00, 0x2E, 0x02, 0xF0, 0xF0,
+        0x52, last[0], last[1], last[2], last[3], last[4], last[5], 0x40, 0x02, 0x20, 0x00, 0x50, 0x02, 0x20, 0x00,
+    };
+    return sends(d, octets, sizeof octets);
 }
 
 /* The false cell: cause 11, not protected; the draw for T3247 is 1800 s. */
@@ -113,7 +129,7 @@ static int quiet(struct device *d)
     int wrong = card(d) != TAKEN;
     unsigned rejects = 0;
     while (start(d, away) == TAKEN && rejects < 10) {
-        wrong |= d->notice.c0.t3510.told != 2 || d->notice.c0.t3510.seconds != 15 || !request(d);
+        wrong |= d->notice.c0.t3510.told != 2 || d->notice.c0.t3510.seconds != 15 || !clear(d);
         wrong |= reject(d) != TAKEN || d->notice.t3247.told != 2 || d->notice.c0.t3510.told != 1;
         rejects++;
         wrong |= wait(d, T3247, d->notice.t3247.seconds) != TAKEN || d->notice.t3247.told != 1;
@@ -124,15 +140,10 @@ static int quiet(struct device *d)
     return wrong;
 }
 
-/* An update and its accept. The request has the type beside ngKSI 0, and ends with the last area, the uplink data status and the session status. */
+/* An update, its request octet by octet, and its accept. */
 static int moved(struct device *d, uint8_t type, const uint8_t *from, const uint8_t *to)
 {
-    uint8_t tail[] = {0x52, 0, 0, 0, 0, 0, 0, 0x40, 0x02, 0x20, 0x00, 0x50, 0x02, 0x20, 0x00};
-    uint8_t sent[110];
-    memcpy(tail + 1, from, 6);
-    int right = update(d, type, to) == TAKEN && d->notice.c0.t3510.told == 2;
-    uint32_t len = tjernfaug_request(&d->record, 0, sent, sizeof sent);
-    right &= len == 37 && sent[3] == type && memcmp(sent + len - sizeof tail, tail, sizeof tail) == 0;
+    int right = update(d, type, to) == TAKEN && d->notice.c0.t3510.told == 2 && nested(d, type, from);
     return right && accept(d, BARE) == TAKEN && d->notice.t3512.told == 2 && d->notice.t3512.seconds == 3600;
 }
 

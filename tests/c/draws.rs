@@ -3,7 +3,8 @@ use crate::second::{CAccess, CEntries, CNotice, CRecord, Plain};
 use crate::{CAUSE, EVENT, NEW, REQUEST};
 
 const BODY: u32 = 96;
-const BUFFER: u32 = 120;
+/// Above the longest request.
+const BUFFER: u32 = 208;
 /// The first differs from each of the next three in one octet alone.
 const NETS: [[u8; 3]; 6] = [[0x00, 0xF1, 0x10], [0x10, 0xF1, 0x10], [0x00, 0x11, 0x10], [0x00, 0xF1, 0x20], [0x12, 0x34, 0x56], [0x99, 0x99, 0x99]];
 const CAUSES: [u8; 16] = [3, 6, 7, 11, 12, 13, 15, 22, 27, 72, 73, 95, 96, 97, 99, 111];
@@ -77,8 +78,10 @@ impl Draw {
         Ask { kind, arrays: [body, vec![]], ..self.ask(EVENT, record) }
     }
 
+    /// A buffer of any length, or one that ends about where a part of the request does.
     fn request(&mut self, record: CRecord, access: u8) -> Ask {
-        let len = self.below(BUFFER + 1);
+        let (any, end) = (self.below(BUFFER + 1), ends(&record, access)[self.below(4) as usize]);
+        let len = [any, end - 1, end, end + 1][self.below(4) as usize];
         let buffer = self.octets(len);
         Ask { small: [access, 0, 0], arrays: [buffer, vec![]], ..self.ask(REQUEST, record) }
     }
@@ -90,6 +93,16 @@ impl Draw {
 
 fn number([a, b, c]: [u8; 3]) -> u32 {
     u32::from_be_bytes([0, a, b, c])
+}
+
+/// Where a request's parts end by R-3: the clear part, 71 with its length, and, drawn twice as often, the whole.
+fn ends(r: &CRecord, access: u8) -> [u32; 4] {
+    let a = r.access[access as usize % 2];
+    let identity = if r.access.iter().any(|a| a.guti == 1) { 11 } else { r.dev.suci as u32 };
+    let clear = 6 + identity + 2 + r.dev.security as u32;
+    let statuses = if a.regtype == 1 { 0 } else { 4 + 4 * (a.uplink != 0) as u32 };
+    let inner = clear + 2 + r.dev.capability as u32 + 7 * a.visited as u32 + statuses;
+    if a.ksi == 7 { [clear; 4] } else { [clear, clear + 3, clear + 3 + inner, clear + 3 + inner] }
 }
 
 fn random(d: &mut Draw) -> CRecord {
@@ -270,7 +283,15 @@ fn strained(d: &mut Draw, full: &CRecord) -> CRecord {
     r
 }
 
-/// A record that is often one that writes a request: of each type, an identity of each kind, with and without a last area, lengths from end to end.
+/// What the request over an access may show, all of it and each part at its longest.
+fn stretch(r: &mut CRecord, at: usize) {
+    (r.dev.suci, r.dev.capability, r.dev.security) = (64, 13, 8);
+    (r.access[0].guti, r.access[1].guti) = (0, 0);
+    let a = &mut r.access[at];
+    (a.visited, a.regtype, a.uplink) = (1, a.regtype.max(2), a.uplink | 2);
+}
+
+/// A record that is often one that writes a request: with a key set and without, of each type, an identity of each kind, with and without a last area, lengths from end to end.
 fn writing(d: &mut Draw, live: &CRecord) -> Ask {
     let mut r = *live;
     let at = d.below(2) as usize;
@@ -292,9 +313,12 @@ fn writing(d: &mut Draw, live: &CRecord) -> Ask {
     }
     r.equivalents = equivalents;
     let a = &mut r.access[at];
-    (a.state, a.ksi, a.visited, a.equivalents) = (4 * r.dev.card, d.octet(8), d.octet(2), d.octet(16));
+    (a.state, a.ksi, a.visited, a.equivalents) = (4 * r.dev.card, d.upto(7), d.octet(2), d.octet(16));
     (a.lastnet, a.lastcode) = (d.below(1 << 24), d.below(1 << 24));
     (a.regtype, a.uplink, a.sessions) = (1 + d.octet(3), d.sessions(), d.sessions());
+    if d.below(16) == 0 {
+        stretch(&mut r, at);
+    }
     let access = if d.below(20) == 0 { d.octet(256) } else { at as u8 };
     d.request(r, access)
 }

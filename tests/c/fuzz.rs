@@ -1,12 +1,13 @@
 // Random octets through the C interface: as a record, as a kind and a body, and as changes to a record that lives on random events.
 // Held: the header's layout, answer 1 exactly where the record is invalid by a second reading of document 01, a refusal's record unchanged, nothing written outside what is lent,
-// for a valid record the answer, the notice, the record and the request of the second program, which reads that request back as the record's,
+// for a valid record the answer, the notice, the record and the request of the second program, which reads that request back as the record's, by its container where it is to have one,
 // and the fault of a message by a reading of R-1 alone, for the event and for the reject reader.
 //
 // Usage: fuzz SECONDS SEED PROGRAM [ARGUMENTS]
-// The program is tests/c/lend.c. First it tells how many octets a record and a notice have without their gaps. A call goes to it as one octet each for the call (0 to have the answers so far),
-// what fills the gaps and six small numbers (three limits, or the access), then the kind and the lengths of two arrays, then the record, the notice and the arrays; back come the answer,
-// how many octets were written before what is lent, and the record, the notice and the arrays as they then are. Numbers have four octets, the low one first.
+// The program is tests/c/lend.c. First it tells how many octets a record and a notice have without their gaps, and the header's longest request. A call goes to it as one octet each
+// for the call (0 to have the answers so far), what fills the gaps and six small numbers (three limits, or the access), then the kind and the lengths of two arrays, then the record,
+// the notice and the arrays; back come the answer, how many octets were written before what is lent, and the record, the notice and the arrays as they then are.
+// Numbers have four octets, the low one first.
 // Cases are numbered from SEED on, and each draws by its number alone. With 0 seconds the case SEED runs alone.
 #![allow(dead_code)]
 mod draws;
@@ -37,6 +38,10 @@ pub const REQUEST: u8 = 3;
 pub const CAUSE: u8 = 4;
 /// Answers that no event has: they are for requests.
 const NEVER: [u32; 2] = [3, 12];
+/// A request's answer where the buffer is too short.
+const SHORT: u32 = 268;
+/// The longest request without a container and with one.
+const LONGEST: [u32; 2] = [80, 193];
 const LIVES: u64 = 32;
 const ROUNDS: usize = 48;
 
@@ -74,6 +79,7 @@ struct Tally {
     requests: u64,
     written: u64,
     deeds: [u64; 5],
+    shapes: [[u64; 4]; 2],
 }
 
 fn fail(what: &str) -> ! {
@@ -128,6 +134,9 @@ impl Side {
         let mut side = Side { child, input, output: BufReader::with_capacity(65536, output) };
         if number(&mut side.output).ok() != Some((size_of::<CRecord>() + size_of::<CNotice>()) as u32) {
             fail("the C side does not start, or its record or notice has other fields");
+        }
+        if number(&mut side.output).ok() != Some(LONGEST[1]) {
+            fail("the header has another longest request");
         }
         side
     }
@@ -241,6 +250,18 @@ fn deeds(ask: &Ask, got: &Got) -> [bool; 5] {
     [update(2), update(3), (taken(3) || taken(4)) && (fell(0) || fell(1)), started, taken(4) && ask.arrays[0][0] == 5]
 }
 
+/// What R-3 is about, of a request without a container and of one with it: written, written into a buffer that just fits, written at its longest, refused for one octet.
+fn shapes(ask: &Ask, got: &Got) -> [[bool; 4]; 2] {
+    if ask.call != REQUEST || got.answer > 255 && got.answer != SHORT {
+        return [[false; 4]; 2];
+    }
+    let access = ask.small[0];
+    let shape = (ask.record.access[access as usize].ksi < 7) as usize;
+    let (len, whole) = (ask.arrays[0].len() as u32, second::write(&ask.record, access, &mut [0; request::LONGEST]));
+    let came = [len >= whole, len == whole, len >= whole && whole == LONGEST[shape], len + 1 == whole];
+    [0, 1].map(|each| came.map(|came| came && each == shape))
+}
+
 fn judge(ask: &Ask, got: &Got, tally: &mut Tally) -> Result<(), String> {
     equal("the count of octets written before what is lent", got.harm, 0)?;
     if ask.call != EVENT {
@@ -260,8 +281,9 @@ fn judge(ask: &Ask, got: &Got, tally: &mut Tally) -> Result<(), String> {
     tally.made += (ask.call == NEW && got.answer == 0) as u64;
     tally.requests += (ask.call == REQUEST) as u64;
     tally.written += (ask.call == REQUEST && got.answer < 256) as u64;
-    for (count, came) in tally.deeds.iter_mut().zip(deeds(ask, got)) {
-        *count += came as u64;
+    let counts = tally.deeds.iter_mut().chain(tally.shapes.as_flattened_mut());
+    for (count, came) in counts.zip(deeds(ask, got).iter().chain(shapes(ask, got).as_flattened())) {
+        *count += *came as u64;
     }
     if ask.call == CAUSE {
         tally.causes[got.answer.saturating_sub(268).min(6) as usize] += 1;
@@ -325,14 +347,18 @@ fn main() {
         group(&mut side, words, first..first + LIVES, &mut tally);
     }
     side.end();
-    let Tally { cases, answers, causes, invalid, news, made, requests, written, deeds } = tally;
+    let Tally { cases, answers, causes, invalid, news, made, requests, written, deeds, shapes } = tally;
     let [mobility, periodic, fell, started, out] = deeds;
     println!("fuzz: {cases} cases, {} events, {invalid} of them on an invalid record", answers.iter().sum::<u64>());
     println!("fuzz: {made} of {news} new records made, {written} of {requests} requests written");
+    for (shape, [written, fitted, longest, lacked]) in ["no container", "a container"].iter().zip(shapes) {
+        println!("fuzz: with {shape} {written} requests written, {fitted} of them into a buffer that just fits and {longest} at their longest, {lacked} refused for one octet");
+    }
     println!("fuzz: {mobility} mobility and {periodic} periodic updates taken, {fell} failed; T3512 started {started} times, out {out} times");
     println!("fuzz: answers 0 to 18 came {answers:?} times, a reject's cause and 269 to 274 {causes:?} times");
     let missing = (0..19).any(|answer| answers[answer] == 0 && !NEVER.contains(&(answer as u32)));
-    if seconds > 0 && (missing || causes.contains(&0) || deeds.contains(&0) || [invalid, made, news - made, written].contains(&0)) {
-        fail("some answer or deed never came");
+    let unseen = [&causes[..], &deeds, shapes.as_flattened(), &[invalid, made, news - made]].concat().contains(&0);
+    if seconds > 0 && (missing || unseen) {
+        fail("some answer, deed or shape of a request never came");
     }
 }

@@ -129,7 +129,9 @@ int main(void)
         octets += fields[i].len;
     setvbuf(stdin, NULL, _IOFBF, ROOM);
     setvbuf(stdout, NULL, _IOFBF, ROOM);
+    const uint32_t longest = TJERNFAUG_LONGEST_REQUEST;
     put(&octets, sizeof octets);
+    put(&longest, sizeof longest);
     fflush(stdout);
     while (fread(&h, sizeof h, 1, stdin) == 1) {
         if (h.call == FLUSH) {

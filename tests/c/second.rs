@@ -310,7 +310,7 @@ pub fn write(r: &CRecord, access: u8, buffer: &mut [u8]) -> u32 {
     request::write(&record_in(r), access, buffer).map_or_else(|answer| 256 + answer as u32, |length| length as u32)
 }
 
-/// Whether octets, read as a request, say what the record says over an access.
+/// Whether octets, read as a request, say what the record says over an access: with a key set it is the container's request that says it.
 pub fn reads(r: &CRecord, access: u8, octets: &[u8]) -> bool {
     let held = record_in(r);
     let a = &held.access[access as usize];
@@ -318,10 +318,33 @@ pub fn reads(r: &CRecord, access: u8, octets: &[u8]) -> bool {
     let shown = a.ksi < 7;
     let update = shown && a.regtype != INITIAL;
     let [capability, area, uplink, sessions] = [said.capability, said.area, said.uplink, said.sessions].map(|part| part.map(|part| &octets[part]));
+    let identity = &octets[said.identity.clone()];
     (said.ksi, said.regtype) == (a.ksi, a.regtype)
+        && identities(&held).iter().any(|one| one == identity)
+        && begins(octets, identity, &held.security, shown).is_some_and(|start| said.identity.start == start + 6)
+        && said.security.start > said.identity.end
         && octets[said.security] == held.security[..]
         && capability == shown.then_some(&held.capability[..])
         && area == a.last.as_ref().filter(|_| shown).map(|last| &last[..])
         && uplink == (update && a.uplink != [0; 2]).then_some(&a.uplink[..])
         && sessions == update.then_some(&a.sessions[..])
+}
+
+/// The GUTIs that are held, as sent; without any the SUCI.
+fn identities(held: &Record) -> Vec<Vec<u8>> {
+    let gutis: Vec<_> = held.access.iter().filter_map(|a| a.guti).map(|guti| [&[0xF2], &guti[..]].concat()).collect();
+    if gutis.is_empty() { vec![held.suci.to_vec()] } else { gutis }
+}
+
+/// Where the request to go by begins: at 0 if the clear part (head, identity, 2E) is all; in the container if there is to be one, up to the end and with the same head.
+fn begins(octets: &[u8], identity: &[u8], security: &[u8], nested: bool) -> Option<usize> {
+    let head = [&octets[..6], identity].concat();
+    let clear = [&head[..], &[0x2E, security.len() as u8], security].concat();
+    match octets.strip_prefix(&clear[..])? {
+        [] if !nested => Some(0),
+        [0x71, high, low, inner @ ..] if nested && inner.starts_with(&head) => {
+            (u16::from_be_bytes([*high, *low]) as usize == inner.len()).then_some(clear.len() + 3)
+        }
+        _ => None,
+    }
 }

@@ -1,4 +1,4 @@
-// A second reading of messages, written from documents 01 and 02 (R-1, R-5) alone, by each of the three readers that the
+// A second reading of messages, written from documents 01 and 02 (R-1, R-3, R-5) alone, by each of the three readers that the
 // program `reading` runs: that of accepts and rejects, that of requests, and the reject reader for C.
 //   reading DIR                     stored messages, to DIR/reading.stdin, and what `reading` has to print, to DIR/reading.stdout
 //   reading random SEED MESSAGES    so many messages by chance, to standard output
@@ -11,13 +11,17 @@ use std::io::{self, Write};
 use std::ops::Range;
 use std::process::ExitCode;
 
-// The refusals of R-1.
+// The refusals of R-1, and that of R-3.
 const CUT: u16 = 13;
 const FIRST: u16 = 14;
 const SECOND: u16 = 15;
 const TYPE: u16 = 16;
 const PAST: u16 = 17;
 const STRANGE: u16 = 18;
+const DEEP: u16 = 19;
+
+// R-3: the outer request and the one in its container.
+const LEVELS: usize = 2;
 
 // The least fault is the one to tell: the lowest offset, at a tie the lower number.
 #[derive(PartialEq, Eq, PartialOrd, Ord)]
@@ -73,8 +77,8 @@ fn elements(msg: &[u8], mut at: usize, faults: &mut Vec<Fault>) -> Vec<Element> 
     all
 }
 
-// The elements of a message of one of these types; or of all its faults the one to tell.
-fn read(msg: &[u8], types: &[u8]) -> Result<Vec<Element>, Fault> {
+// The elements of a message of one of these types, and all its faults.
+fn listed(msg: &[u8], types: &[u8]) -> (Vec<Element>, Vec<Fault>) {
     let mut faults = Vec::new();
     let fixed = fixed(msg);
     if msg.len() < fixed {
@@ -94,6 +98,12 @@ fn read(msg: &[u8], types: &[u8]) -> Result<Vec<Element>, Fault> {
         }
     }
     let all = elements(msg, fixed, &mut faults);
+    (all, faults)
+}
+
+// The elements; or of all faults the one to tell.
+fn read(msg: &[u8], types: &[u8]) -> Result<Vec<Element>, Fault> {
+    let (all, faults) = listed(msg, types);
     faults.into_iter().min().map_or(Ok(all), Err)
 }
 
@@ -150,30 +160,73 @@ fn event(msg: &[u8]) -> Result<String, Fault> {
     })
 }
 
-// "Request", its reading back, with types 2 and 3, 40 and 50 of R-5: 3 where the layout is broken.
-fn request(msg: &[u8]) -> Result<String, Fault> {
-    let all = read(msg, &[0x41])?;
-    let (ksi, regtype) = (msg[3] >> 4, msg[3] & 15);
-    let identity = 6..fixed(msg);
-    let named = match &msg[identity.clone()] {
+// One of the requests in one another: where it lies in the outermost message, and its elements by their places there.
+struct Level {
+    place: Range<usize>,
+    all: Vec<Element>,
+}
+
+// R-3: the requests in one another, the outer one first. Of all faults of those that are opened the one to tell; where there is
+// none, a level too many, which is not opened, at its 71.
+fn levels(msg: &[u8]) -> Result<Vec<Level>, Fault> {
+    let mut faults = Vec::new();
+    let mut levels = Vec::new();
+    let mut next = Some(0..msg.len());
+    for _ in 0..LEVELS {
+        let Some(place) = next.take() else {
+            break;
+        };
+        let start = place.start;
+        let (mut all, own) = listed(&msg[place.clone()], &[0x41]);
+        for Element { contents: c, .. } in &mut all {
+            *c = start + c.start..start + c.end;
+        }
+        faults.extend(own.into_iter().map(|Fault { at, number }| {
+            let at = start + at;
+            Fault { at, number }
+        }));
+        next = held(&all, 0x71, 1);
+        levels.push(Level { place, all });
+    }
+    let deep = next.map(|third| Fault {
+        at: third.start - 3,
+        number: DEEP,
+    });
+    faults.into_iter().min().or(deep).map_or(Ok(levels), Err)
+}
+
+// "Request", its reading back, with types 2 and 3 of R-5: whether one of them keeps the layout.
+fn keeps(msg: &[u8], all: &[Element]) -> bool {
+    let named = match &msg[6..fixed(msg)] {
         [0xF2, guti @ ..] => guti.len() == 10,
         suci @ [0x01, ..] => (9..=64).contains(&suci.len()),
         _ => false,
     };
-    let capability = held(&all, 0x10, 1);
-    let security = held(&all, 0x2E, 2);
-    let fits = capability.as_ref().is_none_or(|c| c.len() <= 13)
-        && security.as_ref().is_some_and(|c| c.len() <= 8);
-    if ksi > 7 || !(1..=3).contains(&regtype) || !named || !fits {
+    let capability = held(all, 0x10, 1);
+    let security = held(all, 0x2E, 2);
+    msg[3] >> 4 <= 7
+        && (1..=3).contains(&(msg[3] & 15))
+        && named
+        && capability.is_none_or(|c| c.len() <= 13)
+        && security.is_some_and(|c| c.len() <= 8)
+}
+
+// 3 where a level breaks the layout, else what the inner one says, with 40 and 50 of R-5.
+fn request(msg: &[u8]) -> Result<String, Fault> {
+    let levels = levels(msg)?;
+    let fits = |level: &Level| keeps(&msg[level.place.clone()], &level.all);
+    if !levels.iter().all(fits) {
         return Ok("3".to_string());
     }
-    let status = |id| held(&all, id, 2).map(|c| c.start..c.start + 2);
-    let mut text = format!("request {regtype} {ksi}");
+    let Level { place, all } = &levels[levels.len() - 1];
+    let own = &msg[place.clone()];
+    let status = |id| held(all, id, 2).map(|c| c.start..c.start + 2);
+    let mut text = format!("request {} {}", own[3] & 15, own[3] >> 4);
     for (name, part) in [
-        ("identity", Some(identity)),
-        ("capability", capability),
-        ("security", security),
-        ("last", held(&all, 0x52, 6)),
+        ("identity", Some(place.start + 6..place.start + fixed(own))),
+        ("capability", held(all, 0x10, 1)),
+        ("security", held(all, 0x2E, 2)),
+        ("last", held(all, 0x52, 6)),
         ("uplink", status(0x40)),
         ("sessions", status(0x50)),
     ] {
@@ -223,6 +276,7 @@ const GUTI: &str = "77 00 0B F2 00 F1 10 80 01 C5 D1 C2 B3 A4";
 const EQUIVALENTS: &str = "4A 06 00 F2 20 00 F3 30";
 const WHOLE: &str = "7E 00 42 01 01 77 00 0B F2 00 F1 10 80 01 C5 D1 C2 B3 A4 4A 06 00 F2 20 00 F3 30 5E 01 2A 16 01 3F 75 00 00";
 const ASKING: &str = "7E 00 41 71 00 09 01 00 F1 10 F0 FF 00 00 07";
+const CLEAR: &str = "7E 00 41 31 00 0B F2 00 F1 10 80 01 C5 D1 C2 B3 A4 2E 02 F0 F0";
 const UPDATE: &str = "7E 00 41 32 00 0B F2 00 F1 10 80 01 C5 D1 C2 B3 A4 10 01 00 2E 02 F0 F0 52 00 F2 20 00 00 2A 40 02 20 00 50 02 20 00";
 
 fn plain(all: &mut Vec<Message>, text: &str) {
@@ -242,6 +296,16 @@ fn asked(all: &mut Vec<Message>, text: &str, zeros: u16) {
     all.push(Message([hex(ASKING), hex(text)].concat(), zeros));
 }
 
+// a container with these octets in it, and a request with that behind its 2E
+fn container(inner: &[u8]) -> Vec<u8> {
+    let [high, low] = (inner.len() as u16).to_be_bytes();
+    [&[0x71, high, low], inner].concat()
+}
+
+fn around(inner: &[u8]) -> Vec<u8> {
+    [hex(CLEAR), container(inner)].concat()
+}
+
 // facts (9) and (10), the accept with an empty 75, and other whole messages as they are sent
 fn sent(all: &mut Vec<Message>) {
     rejected(all, "9F 16 01 3F", 0);
@@ -254,6 +318,8 @@ fn sent(all: &mut Vec<Message>) {
     asked(all, "2E 02 F0 F0", 0);
     plain(all, "7E 00 41 31 00 0B F2 00 F1 10 80 01 C5 D1 C2 B3 A4 10 01 00 2E 02 F0 F0 52 00 F2 20 00 00 2A");
     plain(all, UPDATE);
+    plain(all, "7E 00 41 31 00 0B F2 00 F1 10 80 01 C5 D1 C2 B3 A4 2E 02 F0 F0 71 00 1F 7E 00 41 31 00 0B F2 00 F1 10 80 01 C5 D1 C2 B3 A4 10 01 00 2E 02 F0 F0 52 00 F2 20 00 00 2A");
+    all.push(Message(around(&hex(UPDATE)), 0));
     accepted(all, &format!("16 01 3F {GUTI}"), 0);
     plain(all, "7E 00 44 16 5F 01 2F 16 01 3F");
     plain(all, "7E 00 44 0B 5F 05");
@@ -304,11 +370,91 @@ const BOUNDARIES: &str = "\
 7E 00 41 71 00 09 01 00 F1 10 F0 FF 00 00 07 2E 02 F0 F0 52 00 F2 20 00 00 = 16 at 2 | 17 at 19 | 272
 ";
 
+// The same of requests in one another, by R-3's: what the request reader has to say, to the others each is a request. H is a
+// head and GUTI of 17 octets with ngKSI 3, G the same with ngKSI 7, S its 2E: in "H S 71" the container is at 21, what is in it
+// begins at 24, and "H S" in there ends at 45. First the container and its octets one by one; the elements in it and behind it;
+// a third level; empty and further containers; the layout of each level; what is read.
+const CONTAINERS: &str = "\
+H S 71 = 17 at 21
+H S 71 00 = 17 at 21
+H S 71 00 01 = 17 at 21
+H S 71 00 16 H S = 17 at 21
+H S 71 00 03 7D 00 = 17 at 21
+H S 71 FF FF H S = 17 at 21
+H S 71 00 01 7D = 14 at 24
+H S 71 00 01 7E = 13 at 25
+H S 71 00 02 7E 01 = 15 at 25
+H S 71 00 02 7E 00 = 13 at 26
+H S 71 00 03 7E 00 40 = 16 at 26
+H S 71 00 03 7E 00 41 = 13 at 27
+H S 71 00 04 7E 00 44 0B = 16 at 26
+H S 71 00 05 7E 00 42 01 01 = 16 at 26
+H S 71 00 04 7E 00 42 00 = 16 at 26
+H S 71 00 08 7E 00 44 0B 71 00 01 05 = 16 at 26
+H S 71 00 06 7E 00 41 31 00 01 F2 = 13 at 30
+H S 71 00 16 H S 16 00 = 17 at 45
+H S 71 00 17 H S 16 01 00 = 17 at 45
+H S 71 00 18 H S 71 00 01 16 00 = 17 at 45
+H S 71 00 16 H S 05 00 = 17 at 45
+H S 71 00 17 H S 05 00 = 18 at 45
+H S 71 00 17 H S 05 00 16 = 18 at 45
+H S 71 00 14 H S = 17 at 41
+H S 71 00 15 H S 16 = 17 at 45
+H S 71 00 15 H S 05 = 17 at 45
+H S 71 00 15 H S 05 00 = 18 at 45
+H S 71 00 02 7E 00 16 = 13 at 26
+H S 71 00 02 7E 00 05 00 = 13 at 26
+H S 71 00 01 7D 05 = 14 at 24
+H 05 00 71 00 01 7D S = 18 at 17
+H S 71 00 2D H S 71 00 15 H S = 19 at 45
+H S 71 00 19 H S 71 00 01 05 = 19 at 45
+H S 71 00 1B H S 71 00 03 7E 00 44 = 19 at 45
+H S 71 00 1A H S 9F 71 00 01 05 = 19 at 46
+H S 71 00 19 H S 71 00 01 05 05 = 17 at 49
+H S 71 00 19 H S 71 00 01 05 05 00 = 18 at 49
+H S 71 00 19 H S 71 00 01 05 16 = 17 at 49
+H S 71 00 1A H S 71 00 01 05 16 00 = 17 at 49
+H S 71 00 1B H S 71 00 01 05 05 00 = 18 at 49
+H 71 00 19 H S 71 00 01 05 = 19 at 41
+H S 71 00 15 H 71 00 01 05 = 19 at 41
+H 71 00 15 H 71 00 01 05 = 19 at 37
+H S 71 00 00 = request 1 3 identity 6 11 security 19 2
+H S 71 00 00 71 00 15 G S = request 1 3 identity 6 11 security 19 2
+H S 71 00 00 71 00 01 7D = request 1 3 identity 6 11 security 19 2
+H 71 00 00 71 00 15 H S = 3
+H S 71 00 15 H S 71 00 01 7D = request 1 3 identity 30 11 security 43 2
+H S 71 00 18 H S 71 00 00 = request 1 3 identity 30 11 security 43 2
+H S 71 00 1C H S 71 00 00 71 00 01 05 = request 1 3 identity 30 11 security 43 2
+H S 71 00 1C H S 71 00 01 05 71 00 00 = 19 at 45
+H S 71 00 11 H = 3
+H 71 00 15 H S = 3
+H 71 00 15 H S S = request 1 3 identity 26 11 security 39 2
+H 2E 09 00 00 00 00 00 00 00 00 00 71 00 15 H S = 3
+H 2E 08 00 00 00 00 00 00 00 00 71 00 15 H S = request 1 3 identity 36 11 security 49 2
+H S 71 00 1C H 2E 09 00 00 00 00 00 00 00 00 00 = 3
+H S 71 00 0A 7E 00 41 31 00 00 S = 3
+7E 00 41 31 00 00 S 71 00 15 H S = 3
+G S 71 00 15 H S = request 1 3 identity 30 11 security 43 2
+H S 71 00 15 G S = request 1 7 identity 30 11 security 43 2
+G S 71 00 19 G S 71 00 01 05 = 19 at 45
+H 10 01 00 S 71 00 15 H S = request 1 3 identity 33 11 security 46 2
+H S 71 00 18 H 10 01 00 S = request 1 3 identity 30 11 capability 43 1 security 46 2
+";
+
 fn refused(all: &mut Vec<Message>) {
     for row in BOUNDARIES.lines() {
         let (text, said) = row.split_once("= ").unwrap();
         assert_eq!(line(&hex(text)), said, "{text}");
         plain(all, text);
+    }
+    let (head, security) = CLEAR.split_at(CLEAR.len() - 11);
+    for row in CONTAINERS.lines() {
+        let (text, said) = row.split_once("= ").unwrap();
+        let text = text.replace('G', &head.replace("31", "71"));
+        let text = text.replace('H', head).replace('S', security);
+        let said = format!("16 at 2 | {said} | 272");
+        assert_eq!(line(&hex(&text)), said, "{row}");
+        plain(all, &text);
     }
 }
 
@@ -336,6 +482,10 @@ fn cut(all: &mut Vec<Message>) {
         for n in 0..whole.len() {
             all.push(Message(whole[..n].to_vec(), 0));
         }
+    }
+    let whole = around(&hex(UPDATE));
+    for n in hex(CLEAR).len()..whole.len() {
+        all.push(Message(whole[..n].to_vec(), 0));
     }
 }
 
@@ -472,6 +622,116 @@ fn asked_twice(all: &mut Vec<Message>) {
     }
     asked(all, &format!("{security} 10 0E"), 14);
     asked(all, &format!("{security} 10 01 00 10 0E"), 14);
+}
+
+// a container at every place among the elements of a request, empty, with a request in it and with too many
+fn placed(all: &mut Vec<Message>) {
+    let elements = [
+        "2E 02 F0 F0",
+        "10 01 00",
+        "52 00 F2 20 00 00 2A",
+        "40 02 21 00",
+        "50 02 20 00",
+    ];
+    for place in 0..=elements.len() {
+        let with = |inner: &[u8]| {
+            let (before, behind) = elements.split_at(place);
+            let before = hex(&before.join(" "));
+            let behind = hex(&behind.join(" "));
+            [hex(ASKING), before, container(inner), behind].concat()
+        };
+        for inner in [hex(""), hex(UPDATE), around(&hex(UPDATE))] {
+            all.push(Message(with(&inner), 0));
+            all.push(Message(around(&with(&inner)), 0));
+        }
+    }
+}
+
+// two containers, in a request and in one inside a container
+fn contained_twice(all: &mut Vec<Message>) {
+    let containers = [hex(""), hex("7D"), hex(UPDATE), around(&hex(UPDATE))].map(|c| container(&c));
+    for first in &containers {
+        for second in &containers {
+            let msg = [&hex(CLEAR), &first[..], second].concat();
+            all.push(Message(around(&msg), 0));
+            all.push(Message(msg, 0));
+        }
+    }
+}
+
+// The request in a container cut at every octet; two to four requests in one another, these elements behind one of the
+// containers or all there is, and one of the containers longer or shorter than what is in it.
+fn nested(all: &mut Vec<Message>) {
+    let update = hex(UPDATE);
+    for n in 0..update.len() {
+        all.push(Message(around(&update[..n]), 0));
+    }
+    for levels in 2..=4 {
+        let whole = (1..levels).fold(update.clone(), |inner, _| around(&inner));
+        for at in 1..levels {
+            for tail in ["9F", "05", "05 00", "16", "71 00 01 05"] {
+                let inside = (1..at).fold(update.clone(), |inner, _| around(&inner));
+                let msg = [around(&inside), hex(tail)].concat();
+                let msg = (at + 1..levels).fold(msg, |inner, _| around(&inner));
+                all.push(Message(msg, 0));
+            }
+            for len in [-2, -1, 1, 2] {
+                let mut msg = whole.clone();
+                let place = 24 * at - 1;
+                msg[place] = msg[place].wrapping_add_signed(len);
+                all.push(Message(msg, 0));
+            }
+        }
+        all.push(Message(whole, 0));
+    }
+}
+
+// requests of one level within the layout and outside it, in a container and with one
+fn layouts(all: &mut Vec<Message>) {
+    let mut each = Vec::new();
+    let (suci, security) = ("00 09 01 00 F1 10 F0 FF 00 00 07", "2E 02 F0 F0");
+    for fourth in "00 01 02 03 04 08 11 32 63 71 72 74 81 83 F1 FF".split(' ') {
+        each.push(format!("{fourth} {suci} {security}"));
+    }
+    for (lead, len) in [
+        ("F2", 10),
+        ("F2", 11),
+        ("F2", 12),
+        ("01", 8),
+        ("01", 9),
+        ("01", 64),
+        ("01", 65),
+        ("02", 11),
+    ] {
+        let identity = format!("{lead}{}", " 2E".repeat(len - 1));
+        each.push(format!("71 00 {len:02X} {identity} {security}"));
+    }
+    let elements = "10 00, 10 0D, 10 0E, 2E 00, 2E 01, 2E 02, 2E 08, 2E 09, 40 01, 40 02, 40 03, 50 01, 50 02, 50 03";
+    for element in elements.split(", ") {
+        let contents = " 07".repeat(hex(element)[1].into());
+        each.push(format!("32 {suci} {element}{contents} {security}"));
+    }
+    for text in each {
+        let msg = hex(&format!("7E 00 41 {text}"));
+        all.push(Message(around(&msg), 0));
+        all.push(Message([msg, container(&hex(UPDATE))].concat(), 0));
+    }
+}
+
+// containers as long as they can be, in them zeros, an identity, one more element or a third level; and one octet more or less
+fn long(all: &mut Vec<Message>) {
+    for (inner, len) in [
+        ("".to_string(), 65535),
+        ("7E 00 41 31 FF F9 01".to_string(), 65528),
+        (format!("{CLEAR} 75 FF E7"), 65511),
+        (format!("{CLEAR} 71 FF E7"), 65511),
+    ] {
+        for zeros in [len - 1, len, len + 1] {
+            if let Ok(zeros) = u16::try_from(zeros) {
+                all.push(Message(hex(&format!("{CLEAR} 71 FF FF {inner}")), zeros));
+            }
+        }
+    }
 }
 
 // every order of these: each text at every place of each order of those before it
@@ -622,8 +882,8 @@ impl Chance {
         msg
     }
 
-    // mostly within the layout, its 2E anywhere among the elements
-    fn request(&mut self) -> Vec<u8> {
+    // mostly within the layout, its 2E anywhere among the elements, and often a container with at most so many in one another
+    fn request(&mut self, inside: usize) -> Vec<u8> {
         let fourth = (16 * self.below(8) + 1 + self.below(3)) as u8;
         let suci = 9 + self.below(56) as u8;
         let (lead, len) = match self.below(16) {
@@ -641,8 +901,31 @@ impl Chance {
             let place = self.below(elements.len() + 1);
             elements.insert(place, [vec![0x2E, len as u8], vec![0xF0; len]].concat());
         }
+        if self.below(4) < inside {
+            let place = self.below(elements.len() + 1);
+            elements.insert(place, self.container(inside));
+        }
         msg.extend(elements.concat());
         msg
+    }
+
+    // what is in it is a request, changed or not, or something else; few have another length or are empty
+    fn container(&mut self, inside: usize) -> Vec<u8> {
+        let inner = match self.below(16) {
+            0 => self.noise(),
+            1 => self.accept(),
+            2 => Vec::new(),
+            3..=6 => {
+                let msg = self.request(inside - 1);
+                self.changed(msg)
+            }
+            _ => self.request(inside - 1),
+        };
+        let mut all = container(&inner);
+        if self.below(16) == 0 {
+            all[2] = all[2].wrapping_add_signed(self.of(&[-1, 1]));
+        }
+        all
     }
 
     fn noise(&mut self) -> Vec<u8> {
@@ -673,7 +956,7 @@ impl Chance {
             0 => return Message(self.noise(), 0),
             1 | 2 => self.accept(),
             3 | 4 => self.reject(),
-            _ => self.request(),
+            _ => self.request(3),
         };
         Message(self.changed(msg), 0)
     }
@@ -714,6 +997,11 @@ fn store(dir: &str) {
         asking,
         repeats,
         asked_twice,
+        placed,
+        contained_twice,
+        nested,
+        layouts,
+        long,
         orders,
         octets,
         by_hand,
@@ -726,32 +1014,53 @@ fn store(dir: &str) {
     fs::write(format!("{dir}/reading.stdout"), output).expect("to write their readings");
 }
 
-// The readings that there are, by reader.
-const READINGS: [(&str, &[&str]); 3] = [
+// The readings that there are, by reader, and of the requests' those of a request in a container.
+const READINGS: [(&str, &[&str]); 4] = [
     (
         "accepts and rejects",
         &["accept", "reject", "13", "14", "15", "16", "17", "18"],
     ),
     (
         "requests",
-        &["request", "3", "13", "14", "15", "16", "17", "18"],
+        &["request", "3", "13", "14", "15", "16", "17", "18", "19"],
     ),
     (
         "rejects for C",
         &["cause", "269", "270", "271", "272", "273", "274"],
     ),
+    (
+        "requests in containers",
+        &["request", "3", "13", "14", "15", "16", "17", "18"],
+    ),
 ];
 
+// Whether what is said of a request is of the one in its container: at an octet in there, at its end where that one is cut, or 3.
+fn inner(msg: &[u8], said: &str) -> bool {
+    let Some(inside) = held(&listed(msg, &[0x41]).0, 0x71, 1) else {
+        return false;
+    };
+    let words: Vec<&str> = said.split(' ').collect();
+    let at = match words[..] {
+        ["request", _, _, _, identity, ..] => identity,
+        [_, "at", at] => at,
+        _ => return true,
+    };
+    inside.contains(&at.parse().expect("an offset")) || words[0] == "13"
+}
+
 // Prints how often each of them occurs; false where one never does.
-fn tally(lines: &[String]) -> bool {
+fn tally(all: &[Message], lines: &[String]) -> bool {
     let mut counts = BTreeMap::new();
-    for line in lines {
+    for (msg, line) in all.iter().zip(lines) {
         for (reader, said) in line.split(" | ").enumerate() {
             let word = match said.parse::<u16>() {
                 Ok(cause) if reader == 2 && cause < 256 => "cause",
                 _ => said.split(' ').next().unwrap_or(""),
             };
             *counts.entry((reader, word)).or_insert(0) += 1;
+            if reader == 1 && inner(&msg.whole(), said) {
+                *counts.entry((3, word)).or_insert(0) += 1;
+            }
         }
     }
     let mut whole = true;
@@ -781,7 +1090,7 @@ fn compare(all: &[Message], printed: &str) -> bool {
         eprintln!("reading: more lines than messages");
         return false;
     }
-    let whole = tally(&lines);
+    let whole = tally(all, &lines);
     if !whole {
         eprintln!("reading: one of these never occurred");
     }

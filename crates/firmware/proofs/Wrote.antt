@@ -1,4 +1,4 @@
--- A request has at most 110 octets, and what is told of its writing is its length or a refusal. Assumes nothing.
+-- A request has at most 193 octets, and what is told of its writing is its length or a refusal. Assumes nothing.
 use Prim.Native.Nat.{ℕ, _+_, _≤_}
 use mathlib.Core.Path.{_≡_, refl}
 use mathlib.Core.Bool.{Bool, true, false, cond}
@@ -20,14 +20,14 @@ use Rattle.request.proofs.Short.{request-short}
 use Rattle.firmware.specs.Calls.{wroteBy, wroteOf}
 
 -- nothing is written but of a valid record in state 4
-chosen : (x y z : Bool) (k : ℕ) → (x ≡ true → y ≡ true → k ≤ 110) → cond (isTaken (cond x (cond y (cond z Taken Short) State) Range)) k 0 ≤ 110
+chosen : (x y z : Bool) (k : ℕ) → (x ≡ true → y ≡ true → k ≤ 193) → cond (isTaken (cond x (cond y (cond z Taken Short) State) Range)) k 0 ≤ 193
 unfolding isTaken
 chosen true true true k h = h refl refl
 chosen true true false k h = omega arith
 chosen true false z k h = omega arith
 chosen false y z k h = omega arith
 
-pub short : (r : Record) (access n : ℕ) → writtenOf r access n .len ≤ 110
+pub short : (r : Record) (access n : ℕ) → writtenOf r access n .len ≤ 193
 unfolding writtenOf writingAnswer
 short r access n =
     chosen (both (leb access 1) (validOf r)) (eqb (accessOf (r .hot) access .state) 4) (leb (length (requestOf r access)) n) (length (requestOf r access))
@@ -35,7 +35,7 @@ short r access n =
 
 -- of what the writer says, by the answer's number
 module _ (r : Record) (access n : ℕ) (w : Written) (number : ℕ) (e : w ≡ writtenOf r access n) (f : number ≡ numberOf (w .answer)) where
-  pub few : w .len ≤ 110
+  pub few : w .len ≤ 193
   few = rw e (short r access n)
 
   zeroed : eqb number 0 ≡ isTaken (w .answer)

@@ -14,7 +14,8 @@ use Rattle.validity.specs.Run.{Heard, AllOctets, runOf}
 use Rattle.validity.proofs.Sizes.{made-sized}
 use Rattle.validity.proofs.Runs.{ran, ran-valid, run-sized}
 use Rattle.request.specs.Layout.{shown}
-use Rattle.request.specs.Reading.{askingOf, toldBy}
+use Rattle.request.specs.Levels.{askingOf}
+use Rattle.request.specs.Reading.{toldBy}
 use Rattle.request.specs.Reading.Said.{says}
 use Rattle.request.specs.Writing.{fieldsOf, requestOf, writingAnswer, writtenOf, bufferOf}
 use Rattle.request.proofs.Recorded.{Whole, read-back}
@@ -64,15 +65,15 @@ module _ (cardlimit banlimit n1limit : ℕ) (capability security : List ℕ) (xs
       let whole : Whole reached = sized-whole reached (run-sized _ xs (made-sized cardlimit banlimit n1limit capability security)) in
       read-back reached access b whole taken
 
-  -- and so it does in state 4, into a buffer of 110 octets
-  pub writes : AllOctets xs → access ≤ 1 → accessOf (reached .hot) access .state ≡ 4 → 110 ≤ length b → writtenOf reached access (length b) .answer ≡ Taken
+  -- and so it does in state 4, into a buffer of 193 octets
+  pub writes : AllOctets xs → access ≤ 1 → accessOf (reached .hot) access .state ≡ 4 → 193 ≤ length b → writtenOf reached access (length b) .answer ≡ Taken
   unfolding writtenOf writingAnswer
   writes o a state n =
       let valid = ran-valid cardlimit banlimit n1limit capability security xs o in
       let short : length (requestOf reached access) ≤ length b = omega (arith, request-short reached access valid state) in
       rw (le-leb access 1 a, valid, state, le-leb (length (requestOf reached access)) (length b) short)
 
--- Three requests: ngKSI 7 and a SUCI; ngKSI 3 and a GUTI, with all three elements, both as another decoder reads them; and an update's, with 40 and 50
+-- Three requests: ngKSI 7 and a SUCI; ngKSI 3 and a GUTI, all three elements in a 71, both as another decoder reads them; and an update's, with 40 and 50
 
 abbrev heard : Event → List ℕ → Heard
 heard e octets = record { event = e; octets = octets }
@@ -100,9 +101,11 @@ abbrev sent : List Heard → List ℕ
 sent xs = writing.requestOf (runOf (new.newRecord 3 3 3 (0x00 ∷ []) (0xF0 ∷ 0xF0 ∷ [])) (begun xs)) 0
 
 pub rows-sent : (sent [] ≡ 0x7E ∷ 0x00 ∷ 0x41 ∷ 0x71 ∷ 0x00 ∷ 0x09 ∷ 0x01 ∷ 0x00 ∷ 0xF1 ∷ 0x10 ∷ 0xF0 ∷ 0xFF ∷ 0x00 ∷ 0x00 ∷ 0x07 ∷ 0x2E ∷ 0x02 ∷ 0xF0 ∷ 0xF0 ∷ [])
-    × (sent again ≡ 0x7E ∷ 0x00 ∷ 0x41 ∷ 0x31 ∷ 0x00 ∷ 0x0B ∷ 0xF2 ∷ 0x00 ∷ 0xF1 ∷ 0x10 ∷ 0x80 ∷ 0x01 ∷ 0xC5 ∷ 0xD1 ∷ 0xC2 ∷ 0xB3 ∷ 0xA4
+    × (sent again ≡ 0x7E ∷ 0x00 ∷ 0x41 ∷ 0x31 ∷ 0x00 ∷ 0x0B ∷ 0xF2 ∷ 0x00 ∷ 0xF1 ∷ 0x10 ∷ 0x80 ∷ 0x01 ∷ 0xC5 ∷ 0xD1 ∷ 0xC2 ∷ 0xB3 ∷ 0xA4 ∷ 0x2E ∷ 0x02 ∷ 0xF0 ∷ 0xF0 ∷ 0x71 ∷ 0x00 ∷ 0x1F
+    ∷ 0x7E ∷ 0x00 ∷ 0x41 ∷ 0x31 ∷ 0x00 ∷ 0x0B ∷ 0xF2 ∷ 0x00 ∷ 0xF1 ∷ 0x10 ∷ 0x80 ∷ 0x01 ∷ 0xC5 ∷ 0xD1 ∷ 0xC2 ∷ 0xB3 ∷ 0xA4
     ∷ 0x10 ∷ 0x01 ∷ 0x00 ∷ 0x2E ∷ 0x02 ∷ 0xF0 ∷ 0xF0 ∷ 0x52 ∷ 0x00 ∷ 0xF2 ∷ 0x20 ∷ 0x00 ∷ 0x00 ∷ 0x2A ∷ [])
-    × (sent moved ≡ 0x7E ∷ 0x00 ∷ 0x41 ∷ 0x32 ∷ 0x00 ∷ 0x0B ∷ 0xF2 ∷ 0x00 ∷ 0xF1 ∷ 0x10 ∷ 0x80 ∷ 0x01 ∷ 0xC5 ∷ 0xD1 ∷ 0xC2 ∷ 0xB3 ∷ 0xA4
+    × (sent moved ≡ 0x7E ∷ 0x00 ∷ 0x41 ∷ 0x32 ∷ 0x00 ∷ 0x0B ∷ 0xF2 ∷ 0x00 ∷ 0xF1 ∷ 0x10 ∷ 0x80 ∷ 0x01 ∷ 0xC5 ∷ 0xD1 ∷ 0xC2 ∷ 0xB3 ∷ 0xA4 ∷ 0x2E ∷ 0x02 ∷ 0xF0 ∷ 0xF0 ∷ 0x71 ∷ 0x00 ∷ 0x27
+    ∷ 0x7E ∷ 0x00 ∷ 0x41 ∷ 0x32 ∷ 0x00 ∷ 0x0B ∷ 0xF2 ∷ 0x00 ∷ 0xF1 ∷ 0x10 ∷ 0x80 ∷ 0x01 ∷ 0xC5 ∷ 0xD1 ∷ 0xC2 ∷ 0xB3 ∷ 0xA4
     ∷ 0x10 ∷ 0x01 ∷ 0x00 ∷ 0x2E ∷ 0x02 ∷ 0xF0 ∷ 0xF0 ∷ 0x52 ∷ 0x00 ∷ 0xF2 ∷ 0x20 ∷ 0x00 ∷ 0x00 ∷ 0x2A ∷ 0x40 ∷ 0x02 ∷ 0x02 ∷ 0x04 ∷ 0x50 ∷ 0x02 ∷ 0x20 ∷ 0x80 ∷ [])
-unfolding upto.upto upto.copied upto.seekTo upto.allTo upto.distinctTo octets.formatOf octets.leadBy octets.contentsBy octets.readAs octets.leadOf octets.contentsOf octets.sizeOf octets.elementOf octets.joined octets.elementsOf octets.elementsFrom octets.firstOf octets.endOf messages.gutiOf messages.countOf messages.tripletsOf messages.t3502Of messages.t3512Of messages.acceptOf messages.endedBy messages.acceptedOf messages.acceptReading messages.rejectReading messages.typeReading messages.openedBy messages.readingOf entries.entriesHeld entries.placeIn entries.hasEntry entries.peekAt entries.seenIn entries.liftMark entries.bumped entries.putAt entries.clearUnless entries.raised entries.banned entries.barredBy entries.unforbidden entries.swept entries.powered entries.none entries.entriesAfter areas.areasHeld areas.areaPlace areas.listedIn areas.placed areas.placedCount areas.kept areas.stayed areas.sweptList areas.listAfter areas.countAfter network.isNetwork new.newDevice new.newAccess new.emptyRecord new.newRecord valid.deviceRanges valid.periodicRanges valid.deviceNumbers valid.modeRanges valid.pendingRanges valid.identityRanges valid.heldRanges valid.accessRanges valid.rangesOf valid.countersOf valid.cardOf valid.suciOf valid.codesOf valid.clockOf valid.onceOf valid.validOf answers.numberOf answers.isTaken clocks.flagAfter clocks.isDeviceTimer clocks.runsIn clocks.runsOn clocks.toldOf clocks.clocksOf setters.forgotten setters.inState setters.withStatus setters.withAttempts setters.emptied setters.counted setters.pending setters.keyed setters.taught setters.entered clocks.clocked rows.isCard rows.isNetworkNo rows.isAreaNo rows.isN1No rows.isProtocol rows.isUpdating words.isMark words.listOf words.markIn words.acrossOf words.applied turns.started turns.updated turns.keySet turns.accepted turns.startFailed turns.updateFailed turns.failed turns.t3510Out turns.t3511Out turns.t3502Out turns.cycled turns.renewed turns.turned turns.rowTurn turns.otherTurned turns.otherTurn hot.accessOf hot.otherOf hot.hotOf checks.mayStart checks.isSame checks.isFree checks.placeAnswer checks.startRange checks.startAnswer checks.updateRange checks.mayUpdate checks.updateAnswer checks.rowNow checks.isFull checks.rejectAnswer checks.readAnswer checks.messageRange checks.messageAnswer checks.timerRange checks.runs checks.timerAnswer checks.keyAnswer checks.cardAnswer effects.ticked effects.scheduled effects.carded effects.cardEffect effects.startEffect effects.updateEffect effects.keyEffect effects.t3512Time effects.acceptT3512 effects.acceptDevice effects.acceptEffect effects.clockEffect effects.t3247Effect effects.t3512Effect effects.deviceEffect effects.timerEffect effects.powerEffect effects.markDeed effects.rowDeed effects.rowWork effects.rejectEffect plan.askOf plan.siteAt plan.siteOf plan.accessIn plan.answerOf plan.messageEffect plan.effectOf plan.hotAfter plan.takenReply plan.isIgnoring plan.refusedReply plan.takenPlan plan.refusedPlan plan.decidedBy plan.planOf parts.seenBy parts.sightOf parts.seenOf parts.listedOf parts.plannedOf plan.deedOn plan.deedOf parts.tableAfter parts.withCounts parts.doneOf parts.carriedOut parts.partsAfter parts.networksOf parts.gutiAfter parts.equivalentsAfter parts.suciAfter parts.keptAfter step.together step.joinedOf step.advanceOf step.stepOf runOf layout.layout layout.shown layout.octetsOf layout.opening layout.openingHead layout.itemsOf layout.laid layout.itemOctets layout.withLead layout.lengthIn writing.gutisOf writing.lastOf writing.uplinkOf writing.sessionsOf writing.sayingOf writing.saysOf writing.fieldsOf writing.requestOf identity.isPending identity.equivalentsHeld identity.isAmong identity.isEquivalent identity.ownFirst identity.orderOf identity.slotOf identity.partOf identity.identityOf timers.timer2Rows timers.timer3Rows timers.span2Of timers.span3Of
+unfolding upto.upto upto.copied upto.seekTo upto.allTo upto.distinctTo octets.formatOf octets.leadBy octets.contentsBy octets.readAs octets.leadOf octets.contentsOf octets.sizeOf octets.elementOf octets.joined octets.elementsOf octets.elementsFrom octets.firstOf octets.endOf messages.gutiOf messages.countOf messages.tripletsOf messages.t3502Of messages.t3512Of messages.acceptOf messages.endedBy messages.acceptedOf messages.acceptReading messages.rejectReading messages.typeReading messages.openedBy messages.readingOf entries.entriesHeld entries.placeIn entries.hasEntry entries.peekAt entries.seenIn entries.liftMark entries.bumped entries.putAt entries.clearUnless entries.raised entries.banned entries.barredBy entries.unforbidden entries.swept entries.powered entries.none entries.entriesAfter areas.areasHeld areas.areaPlace areas.listedIn areas.placed areas.placedCount areas.kept areas.stayed areas.sweptList areas.listAfter areas.countAfter network.isNetwork new.newDevice new.newAccess new.emptyRecord new.newRecord valid.deviceRanges valid.periodicRanges valid.deviceNumbers valid.modeRanges valid.pendingRanges valid.identityRanges valid.heldRanges valid.accessRanges valid.rangesOf valid.countersOf valid.cardOf valid.suciOf valid.codesOf valid.clockOf valid.onceOf valid.validOf answers.numberOf answers.isTaken clocks.flagAfter clocks.isDeviceTimer clocks.runsIn clocks.runsOn clocks.toldOf clocks.clocksOf setters.forgotten setters.inState setters.withStatus setters.withAttempts setters.emptied setters.counted setters.pending setters.keyed setters.taught setters.entered clocks.clocked rows.isCard rows.isNetworkNo rows.isAreaNo rows.isN1No rows.isProtocol rows.isUpdating words.isMark words.listOf words.markIn words.acrossOf words.applied turns.started turns.updated turns.keySet turns.accepted turns.startFailed turns.updateFailed turns.failed turns.t3510Out turns.t3511Out turns.t3502Out turns.cycled turns.renewed turns.turned turns.rowTurn turns.otherTurned turns.otherTurn hot.accessOf hot.otherOf hot.hotOf checks.mayStart checks.isSame checks.isFree checks.placeAnswer checks.startRange checks.startAnswer checks.updateRange checks.mayUpdate checks.updateAnswer checks.rowNow checks.isFull checks.rejectAnswer checks.readAnswer checks.messageRange checks.messageAnswer checks.timerRange checks.runs checks.timerAnswer checks.keyAnswer checks.cardAnswer effects.ticked effects.scheduled effects.carded effects.cardEffect effects.startEffect effects.updateEffect effects.keyEffect effects.t3512Time effects.acceptT3512 effects.acceptDevice effects.acceptEffect effects.clockEffect effects.t3247Effect effects.t3512Effect effects.deviceEffect effects.timerEffect effects.powerEffect effects.markDeed effects.rowDeed effects.rowWork effects.rejectEffect plan.askOf plan.siteAt plan.siteOf plan.accessIn plan.answerOf plan.messageEffect plan.effectOf plan.hotAfter plan.takenReply plan.isIgnoring plan.refusedReply plan.takenPlan plan.refusedPlan plan.decidedBy plan.planOf parts.seenBy parts.sightOf parts.seenOf parts.listedOf parts.plannedOf plan.deedOn plan.deedOf parts.tableAfter parts.withCounts parts.doneOf parts.carriedOut parts.partsAfter parts.networksOf parts.gutiAfter parts.equivalentsAfter parts.suciAfter parts.keptAfter step.together step.joinedOf step.advanceOf step.stepOf runOf layout.layout layout.levelsOf layout.shown layout.nested layout.clear layout.octetsOf layout.opening layout.openingHead layout.itemsOf layout.laid layout.itemOctets layout.withLead layout.lengthIn writing.gutisOf writing.lastOf writing.uplinkOf writing.sessionsOf writing.sayingOf writing.saysOf writing.fieldsOf writing.requestOf identity.isPending identity.equivalentsHeld identity.isAmong identity.isEquivalent identity.ownFirst identity.orderOf identity.slotOf identity.partOf identity.identityOf timers.timer2Rows timers.timer3Rows timers.span2Of timers.span3Of
 rows-sent = (refl, refl, refl)

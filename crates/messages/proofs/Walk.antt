@@ -48,14 +48,14 @@ module _ (request : Bool) (s : List ℕ) where
   Fails = ElementFault request s
 
   -- the octets from a place on
-  abbrev rest : ℕ → ℕ
+  abbrev pub rest : ℕ → ℕ
   rest at = suc (length (drop (suc at) s))
 
-  left : (at : ℕ) → at < length s → at + rest at ≡ length s
+  pub left : (at : ℕ) → at < length s → at + rest at ≡ length s
   left at h = simp length-drop (omega arith)
 
   -- the element at a place, by the two tests of its faults
-  met : (at : ℕ) → at < length s
+  pub met : (at : ℕ) → at < length s
       → elementAt request s at
       ≡ cond (ltb (rest at) (sizeAt request s at)) (Bad Past)
       (cond (ltb (getD s at 0) 16) (Bad Strange)
@@ -64,7 +64,7 @@ module _ (request : Bool) (s : List ℕ) where
   met at h = rw (lt-ltb _ _ h, strange)
 
   -- elements begin at the place or behind it, and each fault lies at one
-  onward : (n from : ℕ) → from ≤ placeOf request s from n
+  pub onward : (n from : ℕ) → from ≤ placeOf request s from n
   unfolding placeOf
   onward zero from = omega arith
   onward (suc n) from = omega (arith, onward n (from + sizeAt request s from))
@@ -78,7 +78,7 @@ module _ (request : Bool) (s : List ℕ) where
   behind from Second b x = absurd x
   behind from Kind b x = absurd x
 
-  here : (from : ℕ) → from < length s → Begins request s from from
+  pub here : (from : ℕ) → from < length s → Begins request s from from
   unfolding placeOf
   here from h = (h, (0, refl))
 
@@ -89,7 +89,7 @@ module _ (request : Bool) (s : List ℕ) where
     later b zero e other = absurd (other e)
     later b (suc n) e other = (n, e)
 
-    down : (g : Fault) (b : ℕ) → Fails from g b → Fails (from + sizeAt request s from) g b
+    pub down : (g : Fault) (b : ℕ) → Fails from g b → Fails (from + sizeAt request s from) g b
     unfolding ElementFault
     down Past b x = ((x .0 .0, later b (x .0 .1 .0) (x .0 .1 .1) (λ e. let past : length s < from + sizeAt request s from = rw e (x .1) in omega arith)), x .1)
     down Strange b x = ((x .0 .0, later b (x .0 .1 .0) (x .0 .1 .1) (λ e. let low : getD s from 0 < 16 = rw e (x .1) in omega arith)), x .1)
@@ -98,7 +98,7 @@ module _ (request : Bool) (s : List ℕ) where
     down Second b x = x
     down Kind b x = x
 
-    up : (g : Fault) (b : ℕ) → Fails (from + sizeAt request s from) g b → Fails from g b
+    pub up : (g : Fault) (b : ℕ) → Fails (from + sizeAt request s from) g b → Fails from g b
     unfolding ElementFault placeOf
     up Past b x = ((x .0 .0, (suc (x .0 .1 .0), x .0 .1 .1)), x .1)
     up Strange b x = ((x .0 .0, (suc (x .0 .1 .0), x .0 .1 .1)), x .1)

@@ -1,238 +1,169 @@
--- What reads as a request is one: each test that the reading makes is a fact of the octets. All else is refused, with its fault's number or with 3. Assumes nothing.
-use Prim.Native.Nat.{ℕ, _+_, _*_, _/_, _%_, _<_, _≤_}
-use mathlib.Core.Path.{_≡_, refl, sym, _∙_, subst}
-use mathlib.Core.Bool.{Bool, true, false, cond, false≢true}
-use mathlib.Core.Logic.{_⊎_, inl, inr, _≢_}
-use mathlib.Core.List.{List, []}
+-- The converse of the round trip: what reads as a request is one at each level that was read, and what is read laid out again reads as the same. All else is
+-- refused, with its fault's number, with 19 or with 3. Assumes nothing.
+use Prim.Native.Nat.{ℕ, zero, suc, _+_, _≤_}
+use mathlib.Core.Path.{_≡_, refl, sym, _∙_, ap, subst}
+use mathlib.Core.Bool.{Bool, true, false, cond}
+use mathlib.Core.Logic.{_⊎_, inl, inr, _≢_, ⊎-elim}
+use mathlib.Core.List.{List}
 use native.Mathlib.Omega.{arith}
-use lib.ListN.{length, getD, take, drop, length-drop}
-use lib.Seq.{length-take-le, getD-take, getD-drop}
-use lib.Dec.{ltb, leb, eqb}
-use borrow.Author.Tests.{ltb-false, leb-true, eqb-true, eqb-false}
+use lib.ListN.{length}
 use Rattle.octets.specs.declared.Fault.{Fault}
-use Rattle.octets.specs.declared.Fault.the-variants.{First, Second, Kind}
+use Rattle.octets.specs.declared.Ending.{Ending}
+use Rattle.octets.specs.declared.Ending.the-variants.{Broken, Whole}
 use Rattle.octets.specs.declared.Part.{Part}
-use Rattle.octets.specs.Element.{Elements, elementsFrom, absent, firstOf}
-use Rattle.octets.proofs.Inside.{Sound, from-place, found-inside}
-use Rattle.messages.specs.Message.{openedBy, endedBy, faultNumber}
-use Rattle.messages.proofs.Readings.{choice, opened-so, ended-so}
-use Rattle.record.specs.Tests.{both, either, within}
-use Rattle.record.proofs.Bounds.{one, rest, least, most}
-use Rattle.request.specs.Layout.{Fields, Fit, octetsOf}
-use Rattle.request.specs.Reading.{isFourth, isIdentity, isSecurity, isCapability, isRequest, capabilityOf, pairOf, requestIn, judgedOf, askedOf, partsReading, restReading, requestReading, askingOf, cutOf, toldBy, askingNumber, askingTold}
+use Rattle.octets.specs.Element.{endOf}
+use Rattle.messages.specs.Message.{endedBy, faultNumber}
+use Rattle.request.specs.Layout.{Fields, Fit, nested}
+use Rattle.request.specs.Reading.{identityIn, headOf, isRequest, requestIn, judgedOf, cutOf, toldBy, askingNumber}
 use Rattle.request.specs.Reading.Said.{says}
+use Rattle.request.specs.Levels.{shiftedRequest, shifted, aroundOf, askedBy, readTo, askingOf}
+use Rattle.request.specs.Reader.{elementsIn, containerIn, insideOf, elementsReading, RequestBelow, Below}
 use Rattle.request.specs.declared.Request.{Request}
 use Rattle.request.specs.declared.Asking.{Asking}
 use Rattle.request.specs.declared.Asking.the-variants as asking
-use Rattle.request.proofs.RoundTrip.{round}
+use Rattle.request.proofs.Asked.{Asked, fits, told, fit}
+use Rattle.request.proofs.Below.{Headed, headed, cut-length, container-below, reads-below}
+use Rattle.request.proofs.Depth.{round}
+use Rattle.request.proofs.Shifts.{cut-shifted}
+use Rattle.request.proofs.Ways.{by-head}
 
--- "identity F2 and 10 octets, or 01 and 9 to 64 octets in all", by its first octet and its length
-abbrev Known : ℕ → ℕ → Type 0
-Known o n = ((o ≡ 0xF2) × (n ≡ 11)) ⊎ ((o ≡ 0x01) × ((9 ≤ n) × (n ≤ 64)))
+-- What reads as a request at a level: one with no octets in a 71; or one that keeps the layout, and what is read is in its 71, by offsets in the message around
 
--- Octets that are a request, and what is read in them: each part that is held lies in them and in its range.
-pub record Asked (s : List ℕ) (q : Request) : Type 0 where
-  pub opens : (getD s 0 0 ≡ 0x7E) × ((getD s 1 0 ≡ 0x00) × (getD s 2 0 ≡ 0x41))
-  pub regtype : (1 ≤ q .regtype) × (q .regtype ≤ 3)
-  pub ksi : q .ksi ≤ 7
-  pub fourth : getD s 3 0 ≡ q .ksi * 16 + q .regtype
-  pub identity : q .identity ≡ record { held = true; start = 6; len = getD s 4 0 * 256 + getD s 5 0 }
-  pub known : Known (getD s 6 0) (q .identity .len)
-  pub inside : 6 + q .identity .len ≤ length s
-  pub capability : q .capability .held ≡ true → ((1 ≤ q .capability .len) × (q .capability .len ≤ 13)) × (q .capability .start + q .capability .len ≤ length s)
-  pub security : (q .security .held ≡ true) × (((2 ≤ q .security .len) × (q .security .len ≤ 8)) × (q .security .start + q .security .len ≤ length s))
-  pub last : q .last .held ≡ true → (q .last .len ≡ 6) × (q .last .start + q .last .len ≤ length s)
-  pub uplink : q .uplink .held ≡ true → (q .uplink .len ≡ 2) × (q .uplink .start + q .uplink .len ≤ length s)
-  pub sessions : q .sessions .held ≡ true → (q .sessions .len ≡ 2) × (q .sessions .start + q .sessions .len ≤ length s)
+pub record Alone (s : List ℕ) (q : Request) : Type 0 where
+  pub asked : Asked s q
+  pub none : containerIn s .held ≡ false
 
--- the tests as facts
+pub record Around (Inner : List ℕ → Request → Type 0) (s : List ℕ) (q : Request) : Type 0 where
+  pub outer : Request
+  pub keeps : Asked s outer
+  pub held : containerIn s .held ≡ true
+  pub lies : containerIn s .start + containerIn s .len ≤ length s
+  pub inner : Request
+  pub asked : Inner (cutOf s (containerIn s)) inner
+  pub below : RequestBelow (containerIn s .len) inner
+  pub is : q ≡ shiftedRequest (containerIn s .start) inner
 
-fourth-facts : (o : ℕ) → isFourth o ≡ true → ((1 ≤ o % 16) × (o % 16 ≤ 3)) × (o / 16 ≤ 7)
-unfolding isFourth
-fourth-facts o e =
-    let w : within 1 3 (o % 16) ≡ true = one (within 1 3 (o % 16)) _ e in
-    ((least 1 3 (o % 16) w, most 1 3 (o % 16) w), leb-true (o / 16) 7 (rest (within 1 3 (o % 16)) _ e))
+unfoldable pub AskedTo : ℕ → List ℕ → Request → Type 0
+AskedTo zero s q = Alone s q
+AskedTo (suc d) s q = Alone s q ⊎ Around (AskedTo d) s q
 
-identity-facts : (o n : ℕ) → isIdentity o n ≡ true → Known o n
-unfolding isIdentity
-identity-facts o n e = go (both (eqb o 0xF2) (eqb n 11)) refl e
-  where
-    go : (b : Bool) → both (eqb o 0xF2) (eqb n 11) ≡ b → either b (both (eqb o 0x01) (within 9 64 n)) ≡ true → Known o n
-    go true g t = inl (eqb-true o 0xF2 (one (eqb o 0xF2) _ g), eqb-true n 11 (rest (eqb o 0xF2) _ g))
-    go false g t =
-        let w : within 9 64 n ≡ true = rest (eqb o 0x01) _ t in
-        inr (eqb-true o 0x01 (one (eqb o 0x01) _ t), (least 9 64 n w, most 9 64 n w))
+-- what a request comes from, choice by choice
 
-capability-facts : (n : ℕ) (p : Part) → (p .held ≡ true → p .start + p .len ≤ n) → isCapability p ≡ true → capabilityOf p .held ≡ true
-    → ((1 ≤ capabilityOf p .len) × (capabilityOf p .len ≤ 13)) × (capabilityOf p .start + capabilityOf p .len ≤ n)
-unfolding isCapability capabilityOf
-capability-facts n p w c t = go (eqb (p .len) 0) (p .held) refl refl c t
-  where
-    part : Bool → Part
-    part b = cond b absent p
+ended-request : (e : Ending) (a : Asking) (q : Request) → endedBy asking.Bad e a ≡ asking.Request q → (e ≡ Whole) × (a ≡ asking.Request q)
+unfolding endedBy
+ended-request Whole a q h = (refl, h)
+ended-request (Broken f at) a q h = let z : _≡_ {A = ℕ} 0 1 = cc in absurd (omega arith)
 
-    go : (b h : Bool) → eqb (p .len) 0 ≡ b → p .held ≡ h → cond h (leb (p .len) 13) true ≡ true → part b .held ≡ true → ((1 ≤ part b .len) × (part b .len ≤ 13)) × (part b .start + part b .len ≤ n)
-    go true h e f g u = absurd (false≢true u)
-    go false true e f g u = let z : p .len ≢ 0 = eqb-false (p .len) 0 e in ((omega arith, leb-true (p .len) 13 g), w f)
-    go false false e f g u = absurd (false≢true (sym f ∙ u))
+kept-request : (b : Bool) (p q : Request) → cond b (asking.Request p) asking.Unfit ≡ asking.Request q → (b ≡ true) × (p ≡ q)
+kept-request true p q h = (refl, cc)
+kept-request false p q h = let z : _≡_ {A = ℕ} 0 1 = cc in absurd (omega arith)
 
-security-facts : (n : ℕ) (p : Part) → (p .held ≡ true → p .start + p .len ≤ n) → isSecurity p ≡ true → (p .held ≡ true) × (((2 ≤ p .len) × (p .len ≤ 8)) × (p .start + p .len ≤ n))
-unfolding isSecurity
-security-facts n p w e =
-    let h : p .held ≡ true = one (p .held) _ e in
-    let r : within 2 8 (p .len) ≡ true = rest (p .held) _ e in
-    (h, ((least 2 8 (p .len) r, most 2 8 (p .len) r), w h))
+around-request : (e : Ending) (b : Bool) (a : Asking) (q : Request) → aroundOf e b a ≡ asking.Request q → (b ≡ true) × (a ≡ asking.Request q)
+unfolding aroundOf
+around-request e b (asking.Request p) q h = let k = kept-request b p q (ended-request e _ q h .1) in (k .0, ap asking.Request (k .1))
+around-request e b (asking.Bad f at) q h = let z : _≡_ {A = ℕ} 0 1 = cc in absurd (omega arith)
+around-request e b (asking.Deep at) q h = let k = ended-request e _ q h .1 in let z : _≡_ {A = ℕ} 0 1 = cc in absurd (omega arith)
+around-request e b asking.Unfit q h = let k = ended-request e _ q h .1 in let z : _≡_ {A = ℕ} 0 1 = cc in absurd (omega arith)
 
-pair-facts : (n : ℕ) (p : Part) → (p .held ≡ true → p .start + p .len ≤ n) → pairOf p .held ≡ true → (pairOf p .len ≡ 2) × (pairOf p .start + pairOf p .len ≤ n)
-unfolding pairOf
-pair-facts n p w t = go (ltb (p .len) 2) refl t
-  where
-    part : Bool → Part
-    part b = cond b absent (record { held = p .held; start = p .start; len = 2 })
+shifted-request : (k : ℕ) (a : Asking) (q : Request) → shifted k a ≡ asking.Request q → (p : Request) × ((a ≡ asking.Request p) × (q ≡ shiftedRequest k p))
+unfolding shifted
+shifted-request k (asking.Request p) q h = (p, (refl, cc))
+shifted-request k (asking.Bad f at) q h = let z : _≡_ {A = ℕ} 0 1 = cc in absurd (omega arith)
+shifted-request k (asking.Deep at) q h = let z : _≡_ {A = ℕ} 0 1 = cc in absurd (omega arith)
+shifted-request k asking.Unfit q h = let z : _≡_ {A = ℕ} 0 1 = cc in absurd (omega arith)
 
-    go : (b : Bool) → ltb (p .len) 2 ≡ b → part b .held ≡ true → (part b .len ≡ 2) × (part b .start + part b .len ≤ n)
-    go true e u = absurd (false≢true u)
-    go false e u =
-        let h : 2 ≤ p .len = ltb-false (p .len) 2 e in
-        let k : p .start + p .len ≤ n = w u in
-        (refl, omega arith)
+module _ (s : List ℕ) (q : Request) (head : Headed s) where
+  abbrev k : Bool
+  k = isRequest s (identityIn s) (elementsIn s)
 
--- What each answer of the reading says of the octets
-unfoldable Faithful : List ℕ → Asking → Type 0
-Faithful s (asking.Request q) = Asked s q
-Faithful s (asking.Bad f at) = at ≤ length s
-Faithful s asking.Unfit = Unit {0}
-
-fault-told : (s : List ℕ) (f : Fault) (at : ℕ) → at ≤ length s → Faithful s (asking.Bad f at)
-unfolding Faithful
-fault-told s f at h = h
-
-module _ (s : List ℕ) (opens : (getD s 0 0 ≡ 0x7E) × ((getD s 1 0 ≡ 0x00) × (getD s 2 0 ≡ 0x41))) where
-  abbrev n : ℕ
-  n = getD s 4 0 * 256 + getD s 5 0
-
-  module _ (inside : 6 + n ≤ length s) (l : Elements) (sound : Sound true (length s) l) where
-    fits : isRequest s n l ≡ true → Asked s (requestIn s n l)
-    unfolding isRequest requestIn
-    fits e =
-        let o = fourth-facts (getD s 3 0) (one (isFourth (getD s 3 0)) _ e) in
-        let parts = rest (isFourth (getD s 3 0)) _ e in
-        let items = rest (isIdentity (getD s 6 0) n) _ parts in
-        let able : isCapability (firstOf 0x10 l) ≡ true = one (isCapability (firstOf 0x10 l)) _ items in
-        let safe : isSecurity (firstOf 0x2E l) ≡ true = rest (isCapability (firstOf 0x10 l)) _ items in
-        record {
-          opens = opens;
-          regtype = o .0;
-          ksi = o .1;
-          fourth = omega arith;
-          identity = refl;
-          known = identity-facts (getD s 6 0) n (one (isIdentity (getD s 6 0) n) _ parts);
-          inside = inside;
-          capability = capability-facts (length s) (firstOf 0x10 l) (λ h. found-inside true (length s) 0x10 l sound h .0) able;
-          security = security-facts (length s) (firstOf 0x2E l) (λ h. found-inside true (length s) 0x2E l sound h .0) safe;
-          last = λ h. (found-inside true (length s) 0x52 l sound h .1 refl refl, found-inside true (length s) 0x52 l sound h .0);
-          uplink = pair-facts (length s) (firstOf 0x40 l) (λ h. found-inside true (length s) 0x40 l sound h .0);
-          sessions = pair-facts (length s) (firstOf 0x50 l) (λ h. found-inside true (length s) 0x50 l sound h .0);
-        }
-
-    judged : Faithful s (judgedOf s n l)
-    unfolding judgedOf Faithful
-    judged = choice (Faithful s) _ _ (isRequest s n l) fits (λ e. tt)
-
-  parted : Faithful s (restReading s)
-  unfolding restReading partsReading askedOf Faithful
-  parted =
-      choice (Faithful s) _ _ (ltb (length s) 6) (λ e. omega arith)
-      (λ e. choice (Faithful s) _ _ (ltb (length s) (6 + n)) (λ f. omega arith)
-      (λ f. let l : 6 + n ≤ length s = ltb-false (length s) (6 + n) f in
-      ended-so (Faithful s) asking.Bad s (fault-told s) true (elementsFrom true s (6 + n)) _ (from-place true s (6 + n) l) (judged l (elementsFrom true s (6 + n)) (from-place true s (6 + n) l))))
-
-faithful : (s : List ℕ) → Faithful s (askingOf s)
-unfolding askingOf requestReading
-faithful s = opened 0 0x7E First _ (omega arith) (λ h a. opened 1 0x00 Second _ h (λ g b. opened 2 0x41 Kind _ g (λ k c. parted s (a, (b, c)))))
-  where
-    opened : (at octet : ℕ) (f : Fault) (a : Asking) → at ≤ length s → (at < length s → getD s at 0 ≡ octet → Faithful s a) → Faithful s (openedBy asking.Bad s at octet f a)
-    opened = opened-so (Faithful s) asking.Bad s (fault-told s)
-
--- The converse of the round trip: what reads as a request is one
-pub asked : (s : List ℕ) (q : Request) → askingOf s ≡ asking.Request q → Asked s q
-unfolding Faithful
-asked s q e = rw e at (faithful s)
-
--- "All else is answer 3", by R-1 where it is well formed; else its fault's number
-pub all-else : (a : Asking) → ((q : Request) → a ≢ asking.Request q) → askingNumber a ≡ endedBy (λ f at. faultNumber f) (askingTold a) 3
-unfolding askingTold endedBy
-all-else (asking.Request q) h = absurd (h q refl)
-all-else (asking.Bad f at) h = refl
-all-else asking.Unfit h = refl
-
--- the octets of a part that lies in the message are as many as it has
-cut-length : (s : List ℕ) (p : Part) → p .held ≡ true → p .start + p .len ≤ length s → length (cutOf s p) ≡ p .len
-unfolding cutOf
-cut-length s p e h = rw e (length-take-le (p .len) (drop (p .start) s) (simp length-drop (omega arith)))
-
--- a part that is not held has none
-cut-at-most : (s : List ℕ) (p : Part) (k : ℕ) → (p .held ≡ true → (p .len ≤ k) × (p .start + p .len ≤ length s)) → length (cutOf s p) ≤ k
-unfolding cutOf
-cut-at-most s p k f = go (p .held) refl
-  where
-    go : (b : Bool) → p .held ≡ b → length (cutOf s p) ≤ k
-    go true e = rw (cut-length s p e (f e .1)) (f e .0)
-    go false e = rw e (omega arith)
-
--- one that has k octets or is not held
-cut-or-none : (s : List ℕ) (p : Part) (k : ℕ) → (p .held ≡ true → (p .len ≡ k) × (p .start + p .len ≤ length s)) → (cutOf s p ≡ []) ⊎ (length (cutOf s p) ≡ k)
-unfolding cutOf
-cut-or-none s p k f = go (p .held) refl
-  where
-    go : (b : Bool) → p .held ≡ b → (cutOf s p ≡ []) ⊎ (length (cutOf s p) ≡ k)
-    go true e = inr (cut-length s p e (f e .1) ∙ f e .0)
-    go false e = inl (rw e)
-
--- So what is read fits: it is what the layout may say, and laid out again it reads as the same.
-module _ (s : List ℕ) (q : Request) (a : Asked s q) where
-  abbrev told : Fields
-  told = record {
-    regtype = q .regtype;
-    ksi = q .ksi;
-    identity = cutOf s (q .identity);
-    capability = cutOf s (q .capability);
-    security = cutOf s (q .security);
-    last = cutOf s (q .last);
-    uplink = cutOf s (q .uplink);
-    sessions = cutOf s (q .sessions);
-  }
-
-  fit : Fit told
-  unfolding cutOf
-  fit = record {
-    regtype = a .regtype;
-    ksi = a .ksi;
-    identity = rw (a .identity) (known (getD s 4 0 * 256 + getD s 5 0) (rw (a .identity) at (a .known)) (rw (a .identity) at (a .inside)));
-    capability = cut-at-most s (q .capability) 13 (λ h. (a .capability h .0 .1, a .capability h .1));
-    security = let n = cut-length s (q .security) (a .security .0) (a .security .1 .1) in (rw n (a .security .1 .0 .0), rw n (a .security .1 .0 .1));
-    last = cut-or-none s (q .last) 6 (a .last);
-    uplink = cut-or-none s (q .uplink) 2 (a .uplink);
-    sessions = cut-or-none s (q .sessions) 2 (a .sessions);
-  }
+  -- a request that holds no other, or one that keeps the layout around it
+  asked-either : (f : Part → Asking) → askedBy f s (identityIn s) (elementsIn s) ≡ asking.Request q
+      → Alone s q ⊎ ((containerIn s .held ≡ true) × (Asked s (requestIn s (identityIn s) (elementsIn s)) × (f (containerIn s) ≡ asking.Request q)))
+  unfolding askedBy judgedOf
+  asked-either f h = go (containerIn s .held) refl h
     where
-      some : (n : ℕ) → Known (getD s 6 0) n → 0 < n
-      some n (inl (e, h)) = omega arith
-      some n (inr (e, h)) = omega arith
+      go : (b : Bool) → containerIn s .held ≡ b
+          → cond b (aroundOf (endOf (elementsIn s)) k (f (containerIn s))) (endedBy asking.Bad (endOf (elementsIn s)) (cond k (asking.Request (requestIn s (identityIn s) (elementsIn s))) asking.Unfit)) ≡ asking.Request q
+          → Alone s q ⊎ ((containerIn s .held ≡ true) × (Asked s (requestIn s (identityIn s) (elementsIn s)) × (f (containerIn s) ≡ asking.Request q)))
+      go true e x = let y = around-request (endOf (elementsIn s)) k (f (containerIn s)) q x in inr (e, (fits s head (y .0), y .1))
+      go false e x =
+          let y = kept-request k _ q (ended-request (endOf (elementsIn s)) _ q x .1) in
+          inl (record { asked = subst (Asked s) (y .1) (fits s head (y .0)); none = e })
 
-      known : (n : ℕ) → Known (getD s 6 0) n → 6 + n ≤ length s → Known (getD (cutOf s (record { held = true; start = 6; len = n })) 0 0) (length (cutOf s (record { held = true; start = 6; len = n })))
-      known n k h =
-          let first : getD (take n (drop 6 s)) 0 0 ≡ getD s 6 0 = getD-take n (drop 6 s) 0 0 (some n k) ∙ getD-drop 6 s 0 0 in
-          rw (first, length-take-le n (drop 6 s) (simp length-drop (omega arith))) k
+  -- what is read in it lies in it
+  placed : (a : Asking) (p : Request) → a ≡ asking.Request p → Below (length (cutOf s (containerIn s))) a → containerIn s .held ≡ true → RequestBelow (containerIn s .len) p
+  unfolding Below
+  placed a p e x h = rw (cut-length s (containerIn s) h (container-below s (head .inside) h)) at (rw e at x)
+
+-- however deep it was read
+pub asked-to : (d : ℕ) (q : Request) (s : List ℕ) → readTo d s ≡ asking.Request q → AskedTo d s q
+unfolding elementsReading insideOf AskedTo
+asked-to zero q s e =
+    let b = ended-request (headOf s) (elementsReading 0 s) q (sym (by-head 0 s) ∙ e) in
+    ⊎-elim (λ a. a) (λ x. let z : _≡_ {A = ℕ} 0 1 = cc in absurd (omega arith)) (asked-either s q (headed s (b .0)) (insideOf 0 s) (b .1))
+asked-to (suc d) q s e =
+    let b = ended-request (headOf s) (elementsReading (suc d) s) q (sym (by-head (suc d) s) ∙ e) in
+    let head = headed s (b .0) in
+    ⊎-elim inl
+    (λ x. let c = containerIn s in
+    let p = shifted-request (c .start) (readTo d (cutOf s c)) q (x .1 .1) in
+    inr record {
+      outer = requestIn s (identityIn s) (elementsIn s);
+      keeps = x .1 .0;
+      held = x .0;
+      lies = container-below s (head .inside) (x .0);
+      inner = p .0;
+      asked = asked-to d (p .0) (cutOf s c) (p .1 .0);
+      below = placed s q head (readTo d (cutOf s c)) (p .0) (p .1 .0) (reads-below d (cutOf s c)) (x .0);
+      is = p .1 .1;
+    })
+    (asked-either s q head (insideOf (suc d) s) (b .1))
+
+pub asked : (s : List ℕ) (q : Request) → askingOf s ≡ asking.Request q → AskedTo 1 s q
+unfolding askingOf
+asked s q e = asked-to 1 q s e
+
+-- "All else is answer 3" where it is well formed and no level is too many; else its number is 19, or its fault's
+pub all-else : (a : Asking) → ((q : Request) → a ≢ asking.Request q) → (askingNumber a ≡ 3) ⊎ (((at : ℕ) × ((a ≡ asking.Deep at) × (askingNumber a ≡ 19))) ⊎ ((f : Fault) × ((at : ℕ) × ((a ≡ asking.Bad f at) × (askingNumber a ≡ faultNumber f)))))
+all-else (asking.Request q) h = absurd (h q refl)
+all-else (asking.Bad f at) h = inr (inr (f, (at, (refl, refl))))
+all-else (asking.Deep at) h = inr (inl (at, (refl, refl)))
+all-else asking.Unfit h = inl refl
+
+-- what is read in a 71 says the same in the message around it
+moved : {Inner : List ℕ → Request → Type 0} (s : List ℕ) (q : Request) (a : Around Inner s q) → told s q ≡ told (cutOf s (containerIn s)) (a .inner)
+unfolding shiftedRequest
+moved s q a =
+    let c = containerIn s in
+    let p = a .inner in
+    rw (
+      a .is,
+      cut-shifted s c (a .held) (p .identity) (a .below .0),
+      cut-shifted s c (a .held) (p .capability) (a .below .1 .0),
+      cut-shifted s c (a .held) (p .security) (a .below .1 .1 .0),
+      cut-shifted s c (a .held) (p .last) (a .below .1 .1 .1 .0),
+      cut-shifted s c (a .held) (p .uplink) (a .below .1 .1 .1 .1 .0),
+      cut-shifted s c (a .held) (p .sessions) (a .below .1 .1 .1 .1 .1),
+    )
+
+-- so what is read fits
+asked-fit : (d : ℕ) (s : List ℕ) (q : Request) → AskedTo d s q → Fit (told s q)
+unfolding AskedTo
+asked-fit zero s q a = fit s q (a .asked)
+asked-fit (suc d) s q (inl a) = fit s q (a .asked)
+asked-fit (suc d) s q (inr a) = subst Fit (sym (moved s q a)) (asked-fit d (cutOf s (containerIn s)) (a .inner) (a .asked))
 
 pub told-fit : (s : List ℕ) (f : Fields) → toldBy s (askingOf s) ≡ says f → Fit f
 unfolding toldBy
 told-fit s f e = go (askingOf s) refl e
   where
     go : (x : Asking) → askingOf s ≡ x → toldBy s x ≡ says f → Fit f
-    go (asking.Request q) g h = let z : told s q (asked s q g) ≡ f = cc in subst Fit z (fit s q (asked s q g))
+    go (asking.Request q) g h = let z : told s q ≡ f = cc in subst Fit z (asked-fit 1 s q (asked s q g))
     go (asking.Bad c at) g h = let z : _≡_ {A = ℕ} 0 1 = cc in absurd (omega arith)
+    go (asking.Deep at) g h = let z : _≡_ {A = ℕ} 0 1 = cc in absurd (omega arith)
     go asking.Unfit g h = let z : _≡_ {A = ℕ} 0 1 = cc in absurd (omega arith)
 
-pub told-again : (s : List ℕ) (f : Fields) → toldBy s (askingOf s) ≡ says f → toldBy (octetsOf f) (askingOf (octetsOf f)) ≡ says f
-told-again s f e = round f (told-fit s f e)
+-- and laid out again, flat or in a container, it reads as the same
+pub told-again : (s : List ℕ) (f : Fields) → toldBy s (askingOf s) ≡ says f → (k : ℕ) → k ≤ 1 → toldBy (nested k f) (askingOf (nested k f)) ≡ says f
+unfolding askingOf
+told-again s f e k h = round f (told-fit s f e) 1 k h

@@ -1,12 +1,22 @@
 -- Laws of the layout and its reading.
 pub mod Answers
+pub mod Asked
 pub mod Back
+pub mod Below
 pub mod Converse
+pub mod Depth
+pub mod First
 pub mod Free
+pub mod Gathers
+pub mod Holds
 pub mod Lowest
+pub mod Own
 pub mod Pieces
 pub mod Ranges
 pub mod Recorded
 pub mod RoundTrip
 pub mod Rows
+pub mod Shifts
 pub mod Short
+pub mod Third
+pub mod Ways

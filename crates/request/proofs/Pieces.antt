@@ -8,16 +8,16 @@ use native.Mathlib.Nat.{add-zero, zero-add}
 use lib.ListN.{length, take, drop, replicate, length-append, drop-of-length-le}
 use lib.Seq.{take-at, drop-append-add, drop-drop, length-take-le, paste, paste-zero, take-length, take-all}
 use lib.Dec.{ltb, leb, eqb}
-use borrow.Author.Tests.{ne-eqb, le-leb, lt-leb}
+use borrow.Author.Tests.{eq-eqb, ne-eqb, le-leb, lt-leb}
 use Rattle.record.specs.declared.Access.{Access}
 use Rattle.record.specs.declared.Device.{Device}
 use Rattle.record.specs.declared.Answer.the-variants.{Taken, Short}
 use Rattle.record.specs.Tests.{either}
 use Rattle.identity.specs.Identity.{slotOf, partOf, identityOf}
-use Rattle.request.specs.Layout.{lengthIn, withLead, itemOctets, laid, openingHead, opening, itemsOf, octetsOf, shown, layout}
-use Rattle.request.specs.Layout.Form.{shortForm, plainForm}
+use Rattle.request.specs.Layout.{Fields, lengthIn, withLead, itemOctets, laid, openingHead, opening, itemsOf, octetsOf, clear, nested, shown, levelsOf, layout}
+use Rattle.request.specs.Layout.Form.{shortForm, longForm, plainForm}
 use Rattle.request.specs.Writing.{octets3, octets2, lastOf, uplinkOf, sessionsOf, sayingOf, over, gutisOf}
-use Rattle.request.specs.Steps.{spliced, Put, tailOctets, sizedOf, heldLengths, shownLengths, sentOf, sentOver}
+use Rattle.request.specs.Steps.{spliced, Put, tailOctets, sizedOf, heldLengths, sentOf, sentOver}
 use Rattle.request.specs.declared.writing.Lengths.{Lengths}
 
 module _ (b : List ℕ) (at : ℕ) (s t : List ℕ) (h : at ≤ length b) where
@@ -91,56 +91,81 @@ unfolding withLead
 sizes lead [] = refl
 sizes lead (o ∷ s) = rw (ne-eqb (length (o ∷ s)) 0 (λ e. omega arith)) (length-append lead (o ∷ s))
 
-pub long : (regtype ksi : ℕ) (i c s l u v : List ℕ) → length (octetsOf (sayingOf regtype ksi i c s l u v))
-    ≡ 6 + (length i + (sizedOf 2 (length c) + (sizedOf 2 (length s) + (sizedOf 1 (length l) + (sizedOf 2 (length u) + sizedOf 2 (length v))))))
+most : (b : Bool) (k : ℕ) → cond b 0 k ≤ k
+most true k = omega arith
+most false k = omega arith
+
+pub sized-most : (k n : ℕ) → sizedOf k n ≤ k + n
+sized-most k n = most (eqb n 0) (k + n)
+
+abbrev sumOf : (i c s l u v : List ℕ) → ℕ
+sumOf i c s l u v = 6 + (length i + (sizedOf 2 (length c) + (sizedOf 2 (length s) + (sizedOf 1 (length l) + (sizedOf 2 (length u) + sizedOf 2 (length v))))))
+
+pub sum-most : (i c s l u v : List ℕ) → sumOf i c s l u v ≤ 15 + (length i + (length c + (length s + (length l + (length u + length v)))))
+sum-most i c s l u v = omega (arith, sized-most 2 (length c), sized-most 2 (length s), sized-most 1 (length l), sized-most 2 (length u), sized-most 2 (length v))
+
+pub long : (regtype ksi : ℕ) (i c s l u v : List ℕ) → length (octetsOf (sayingOf regtype ksi i c s l u v)) ≡ sumOf i c s l u v
 unfolding itemOctets lengthIn
 long regtype ksi i c s l u v = spread regtype ksi i c s l u v ∙ rw (spread-tail, opens, sizes _ c, sizes _ s, sizes _ l, sizes _ u, sizes _ v) (omega arith)
+
+-- the whole request in a 71 behind the clear part: how many octets that is, and the pieces that it is put in
+module _ (regtype ksi : ℕ) (i c s l u v : List ℕ) where
+  abbrev outer : List ℕ
+  outer = octetsOf (sayingOf regtype ksi i [] s [] [] [])
+
+  abbrev whole : List ℕ
+  whole = octetsOf (sayingOf regtype ksi i c s l u v)
+
+  inside : nested 1 (sayingOf regtype ksi i c s l u v) ≡ (outer ++ (0x71 ∷ lengthIn longForm (length whole))) ++ whole
+  unfolding nested clear sayingOf itemOctets
+  inside = rw (lead-some _ whole (λ z. omega (arith, long regtype ksi i c s l u v)), append-assoc)
+
+  pub nested-long : {m n : ℕ} → length outer ≡ m → length whole ≡ n → length (nested 1 (sayingOf regtype ksi i c s l u v)) ≡ m + 3 + n
+  unfolding lengthIn
+  nested-long x y = rw inside (simp length-append (omega arith))
+
+  pub nests : {b d e g : List ℕ} {p q r n : ℕ} → length whole ≡ n → Put b 0 outer d p → Put d p (0x71 ∷ lengthIn longForm n) e q → Put e q whole g r
+      → Put b 0 (nested 1 (sayingOf regtype ksi i c s l u v)) g r
+  nests k x y z = rw (inside, k) (join (omega arith) (join (omega arith) x y) z)
 
 -- a piece that is left out, or taken to its end
 left : (b : Bool) (n : ℕ) (l : List ℕ) → length l ≤ n → take (cond b 0 n) l ≡ cond b [] l
 left true n l h = refl
 left false n l h = take-all n l h
 
--- What is shown of each piece is what the layout shows of it.
+-- What is written of each piece that a record holds is what the layout shows of it, by whether ngKSI is 7.
 module _ (a : Access) (d : Device) where
   abbrev area : List ℕ
   area = octets3 (a .lastnet) ++ octets3 (a .lastcode)
 
-  -- by whether ngKSI is 7
-  abbrev lengthsBy : Bool → Lengths
-  lengthsBy x = cond x (record { capability = 0; security = d .security; last = 0; uplink = 0; sessions = 0 }) (heldLengths a d)
+  abbrev said : (i cap sec : List ℕ) → Fields
+  said i cap sec = sayingOf (a .regtype) (a .ksi) i (take (d .capability) cap) (take (d .security) sec) (lastOf a) (uplinkOf a) (sessionsOf a)
 
-  shows : (x : Bool) (i cap sec : List ℕ)
-      → sayingOf (a .regtype) (a .ksi) i (take (lengthsBy x .capability) cap) (take (lengthsBy x .security) sec) (take (lengthsBy x .last) area) (take (lengthsBy x .uplink) (octets2 (a .uplink))) (take (lengthsBy x .sessions) (octets2 (a .sessions)))
-      ≡ cond x (sayingOf (a .regtype) (a .ksi) i [] (take (d .security) sec) [] [] []) (sayingOf (a .regtype) (a .ksi) i (take (d .capability) cap) (take (d .security) sec) (lastOf a) (uplinkOf a) (sessionsOf a))
-  unfolding lastOf uplinkOf sessionsOf heldLengths
-  shows true i cap sec = refl
-  shows false i cap sec =
-      rw (
-        left (eqb (a .visited) 0) 6 area (omega arith),
-        left (either (leb (a .regtype) 1) (eqb (a .uplink) 0)) 2 (octets2 (a .uplink)) (omega arith),
-        left (leb (a .regtype) 1) 2 (octets2 (a .sessions)) (omega arith),
-      )
+  module _ (n : Lengths) (held : n ≡ heldLengths a d) where
+    pub alone : (i cap sec : List ℕ) → a .ksi ≡ 7 → octetsOf (sayingOf (a .regtype) (a .ksi) i [] (take (n .security) sec) [] [] []) ≡ layout (said i cap sec)
+    unfolding layout levelsOf nested shown clear sayingOf heldLengths
+    alone i cap sec e = rw (held, eq-eqb (a .ksi) 7 e)
 
-  pub composed : (i cap sec l u v : List ℕ) (n : Lengths) → n ≡ shownLengths a d → l ≡ area → u ≡ octets2 (a .uplink) → v ≡ octets2 (a .sessions)
-      → octetsOf (sayingOf (a .regtype) (a .ksi) i (take (n .capability) cap) (take (n .security) sec) (take (n .last) l) (take (n .uplink) u) (take (n .sessions) v))
-      ≡ layout (sayingOf (a .regtype) (a .ksi) i (take (d .capability) cap) (take (d .security) sec) (lastOf a) (uplinkOf a) (sessionsOf a))
-  unfolding layout shown sayingOf shownLengths
-  composed i cap sec l u v n en el eu ev = rw (en, el, eu, ev) (ap octetsOf (shows (eqb (a .ksi) 7) i cap sec))
+    pub composed : (i cap sec l u v : List ℕ) → (a .ksi ≡ 7 → ⊥) → l ≡ area → u ≡ octets2 (a .uplink) → v ≡ octets2 (a .sessions)
+        → nested 1 (sayingOf (a .regtype) (a .ksi) i (take (n .capability) cap) (take (n .security) sec) (take (n .last) l) (take (n .uplink) u) (take (n .sessions) v))
+        ≡ layout (said i cap sec)
+    unfolding layout levelsOf shown sayingOf lastOf uplinkOf sessionsOf heldLengths
+    composed i cap sec l u v h el eu ev =
+        rw (
+          held,
+          el,
+          eu,
+          ev,
+          ne-eqb (a .ksi) 7 h,
+          left (eqb (a .visited) 0) 6 area (omega arith),
+          left (either (leb (a .regtype) 1) (eqb (a .uplink) 0)) 2 (octets2 (a .uplink)) (omega arith),
+          left (leb (a .regtype) 1) 2 (octets2 (a .sessions)) (omega arith),
+        )
 
-  -- and no more than there is
-  pub few : (n : Lengths) → n ≡ shownLengths a d → d .capability ≤ 13 → d .security ≤ 8
-      → (n .capability ≤ 13) × ((n .security ≤ 8) × ((n .last ≤ 6) × ((n .uplink ≤ 2) × (n .sessions ≤ 2))))
-  unfolding shownLengths heldLengths
-  few n e c s = rw e (go (eqb (a .ksi) 7))
-    where
-      most : (b : Bool) (k : ℕ) → cond b 0 k ≤ k
-      most true k = omega arith
-      most false k = omega arith
-
-      go : (x : Bool) → (lengthsBy x .capability ≤ 13) × ((lengthsBy x .security ≤ 8) × ((lengthsBy x .last ≤ 6) × ((lengthsBy x .uplink ≤ 2) × (lengthsBy x .sessions ≤ 2))))
-      go true = (omega arith, (s, (omega arith, (omega arith, omega arith))))
-      go false = (c, (s, (most (eqb (a .visited) 0) 6, (most (either (leb (a .regtype) 1) (eqb (a .uplink) 0)) 2, most (leb (a .regtype) 1) 2))))
+    -- and no more than there is
+    pub few : d .capability ≤ 13 → d .security ≤ 8 → (n .capability ≤ 13) × ((n .security ≤ 8) × ((n .last ≤ 6) × ((n .uplink ≤ 2) × (n .sessions ≤ 2))))
+    unfolding heldLengths
+    few c s = rw held (c, (s, (most (eqb (a .visited) 0) 6, (most (either (leb (a .regtype) 1) (eqb (a .uplink) 0)) 2, most (leb (a .regtype) 1) 2))))
 
 pub sent-short : (o b : List ℕ) (len : ℕ) → length o ≡ len → length b < len → (record { answer = Short; len = 0 } ≡ sentOf o (length b)) × (b ≡ sentOver o b)
 unfolding sentOf sentOver

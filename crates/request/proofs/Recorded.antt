@@ -18,12 +18,13 @@ use Rattle.ranges.specs.Valid.{validOf}
 use Rattle.record.proofs.Bounds.{rest}
 use Rattle.identity.specs.Identity.{slotOf, partOf, identityOf}
 use Rattle.request.specs.Layout.{Fit, shown}
-use Rattle.request.specs.Reading.{askingOf, toldBy}
+use Rattle.request.specs.Reading.{toldBy}
+use Rattle.request.specs.Levels.{askingOf}
 use Rattle.request.specs.Reading.Said.{says}
 use Rattle.record.specs.Sides.{accessOf}
 use Rattle.request.specs.Writing.{gutisOf, lastOf, uplinkOf, sessionsOf, sayingOf, saysOf, fieldsOf, requestOf, writingAnswer, writtenOf, over, bufferOf}
 use Rattle.request.proofs.Ranges.{Ready, ready}
-use Rattle.request.proofs.RoundTrip.{round-layout}
+use Rattle.request.proofs.Depth.{round-layout}
 
 -- A record that the code holds has its arrays' lengths.
 pub record Whole (r : Record) : Type 0 where

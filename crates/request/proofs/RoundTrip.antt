@@ -1,6 +1,6 @@
--- Reading what the layout gives, for any fields that fit, gives them back: the opening as it stands, each element by its identifier, in any order and
--- with others among them. Assumes nothing.
-use Prim.Native.Nat.{ℕ, suc, _+_, _*_, _/_, _%_, _≤_}
+-- A level of a request reads as it is laid out, for any fields that fit: the opening as it stands, each element by its identifier, in any order and with
+-- others among them; and what lies in its 71 reads as a message of its own. Assumes nothing.
+use Prim.Native.Nat.{ℕ, suc, _+_, _-_, _*_, _/_, _%_, _≤_}
 use mathlib.Core.Path.{_≡_, refl, _∙_, ap}
 use mathlib.Core.Bool.{Bool, true, false, cond}
 use mathlib.Core.Logic.{_⊎_, inl, inr}
@@ -8,24 +8,29 @@ use mathlib.Core.List.{List, [], _∷_, _++_}
 use native.Mathlib.Omega.{arith}
 use lib.ListN.{length, getD, length-append}
 use lib.Seq.{take-at}
-use lib.Dec.{eqb}
 use borrow.Author.Tests.{lt-ltb, le-ltb, le-leb, ne-eqb}
 use Rattle.octets.specs.declared.Part.{Part}
 use Rattle.octets.specs.declared.Ending.the-variants.{Whole}
 use Rattle.octets.specs.Element.{Elements, formatOf, elementsFrom, firstOf, endOf}
 use Rattle.messages.specs.Message.{openedBy, endedBy}
-use Rattle.request.specs.Layout.{Fields, Fit, Item, lengthIn, laid, openingHead, opening, itemsOf, octetsOf, shown, layout}
+use Rattle.request.specs.Layout.{Fields, Fit, Item, lengthIn, laid, openingHead, opening, itemsOf}
 use Rattle.request.specs.Layout.Form.{plainForm}
-use Rattle.request.specs.Reading.{isFourth, isIdentity, isSecurity, isCapability, isRequest, capabilityOf, pairOf, requestIn, judgedOf, askedOf, partsReading, restReading, requestReading, askingOf, cutOf, toldBy}
+use Rattle.request.specs.Reading.{identityIn, headOf, isFourth, isIdentity, isSecurity, isCapability, isRequest, filledOf, pairOf, requestIn, judgedOf, cutOf, toldBy}
 use Rattle.request.specs.Reading.Said.{says}
+use Rattle.request.specs.Levels.{shifted, askedBy, readTo}
+use Rattle.request.specs.Reader.{insideOf, elementsReading}
+use Rattle.request.specs.declared.Asking.{Asking}
 use Rattle.request.specs.declared.Asking.the-variants as asking
 use Rattle.request.proofs.Back.{Reads, AllRead, short-reads, plain-reads, orElse, saysIn, some, Found, back, ends}
+use Rattle.request.proofs.Below.{reads-below}
+use Rattle.request.proofs.Shifts.{told-shifted, chosen, kept-around}
+use Rattle.request.proofs.Ways.{by-head}
 
--- behind 7E 00 41 and octet 4 stands the identity's length
-headed : (o hi lo : ℕ) (t : List ℕ) (n : ℕ) → hi * 256 + lo ≡ n → askingOf (0x7E ∷ 0x00 ∷ 0x41 ∷ o ∷ hi ∷ lo ∷ t) ≡ partsReading (0x7E ∷ 0x00 ∷ 0x41 ∷ o ∷ hi ∷ lo ∷ t) n
-unfolding askingOf openedBy requestReading restReading
-headed o hi lo t n e =
-    rw (lt-ltb 0 (suc (suc (suc (suc (suc (suc (length t))))))) (omega arith), lt-ltb 1 (suc (suc (suc (suc (suc (suc (length t))))))) (omega arith), lt-ltb 2 (suc (suc (suc (suc (suc (suc (length t))))))) (omega arith), le-ltb (suc (suc (suc (suc (suc (suc (length t))))))) 6 (omega arith), e)
+-- 7E 00 41, octet 4 and the identity are all there
+head-whole : (o hi lo : ℕ) (t : List ℕ) → hi * 256 + lo ≤ length t → headOf (0x7E ∷ 0x00 ∷ 0x41 ∷ o ∷ hi ∷ lo ∷ t) ≡ Whole
+unfolding headOf openedBy
+head-whole o hi lo t h =
+    rw (lt-ltb 0 (suc (suc (suc (suc (suc (suc (length t))))))) (omega arith), lt-ltb 1 (suc (suc (suc (suc (suc (suc (length t))))))) (omega arith), lt-ltb 2 (suc (suc (suc (suc (suc (suc (length t))))))) (omega arith), le-ltb (suc (suc (suc (suc (suc (suc (length t))))))) (6 + (hi * 256 + lo)) (omega arith))
 
 fourth : (ksi regtype : ℕ) → 1 ≤ regtype → regtype ≤ 3 → ksi ≤ 7 → isFourth (ksi * 16 + regtype) ≡ true
 unfolding isFourth
@@ -50,14 +55,14 @@ unfolding formatOf
 area-read c (inl e) = inl e
 area-read c (inr e) = inr (plain-reads 0x52 c refl e)
 
-all-read : (f : Fields) → Fit f → AllRead (itemsOf f)
+pub all-read : (f : Fields) → Fit f → AllRead (itemsOf f)
 unfolding AllRead itemsOf formatOf
 all-read f fit = (
   inr (short-reads 0x10 (f .capability) refl),
   (inr (short-reads 0x2E (f .security) refl), (area-read (f .last) (fit .last), (inr (short-reads 0x40 (f .uplink) refl), (inr (short-reads 0x50 (f .sessions) refl), tt)))),
 )
 
-alone : (c : List ℕ) → orElse c [] ≡ c
+pub alone : (c : List ℕ) → orElse c [] ≡ c
 unfolding orElse
 alone [] = refl
 alone (o ∷ c) = refl
@@ -76,8 +81,8 @@ module _ {s : List ℕ} {q : Part} where
   secure [] h k m = absurd (omega arith)
   secure (o ∷ c) h k m = rw (h .held, h .len, le-leb 2 (length (o ∷ c)) k, le-leb (length (o ∷ c)) 8 m)
 
-  stays : (c : List ℕ) → Found s q c → cutOf s (capabilityOf q) ≡ c
-  unfolding capabilityOf cutOf
+  stays : (c : List ℕ) → Found s q c → cutOf s (filledOf q) ≡ c
+  unfolding filledOf cutOf
   stays [] h = rw (h .len)
   stays (o ∷ c) h = rw (ne-eqb (q .len) 0 (λ e. omega (arith, h .len))) (h .cut)
 
@@ -131,27 +136,29 @@ module _ (f : Fields) (fit : Fit f) (i : List Item) (tells : Tells i f) where
   found-sessions : Found s (firstOf 0x50 l) (f .sessions)
   found-sessions = rw (tells .sessions) at (finds 0x50)
 
-  begins : askingOf s ≡ partsReading s n
+  long : identityIn s ≡ n
   unfolding opening openingHead lengthIn
-  begins = let h : n ≤ 64 = size .1 in headed (f .ksi * 16 + f .regtype) (n / 256) (n % 256) (f .identity ++ laid i) n (omega arith)
+  long = let h : n ≤ 64 = size .1 in omega arith
 
-  goes : partsReading s n ≡ judgedOf s n l
-  unfolding partsReading askedOf endedBy
-  goes = rw (le-ltb (length s) (6 + n) fits, whole)
-    where
-      fits : 6 + n ≤ length (opening f ++ laid i)
-      fits = omega (arith, length-append (opening f) (laid i), opened)
+  begins : headOf s ≡ Whole
+  unfolding opening openingHead lengthIn
+  begins = let h : n ≤ 64 = size .1 in head-whole (f .ksi * 16 + f .regtype) (n / 256) (n % 256) (f .identity ++ laid i) (omega (arith, length-append (f .identity) (laid i)))
 
-      whole : endOf l ≡ Whole
-      whole = rw (← opened) (ends (opening f) i (tells .read))
+  whole : endOf l ≡ Whole
+  whole = rw (← opened) (ends (opening f) i (tells .read))
 
   opens : (isFourth (getD s 3 0) ≡ true) × (isIdentity (getD s 6 0) n ≡ true)
   unfolding opening openingHead lengthIn
   opens = (fourth (f .ksi) (f .regtype) (fit .regtype .0) (fit .regtype .1) (fit .ksi), rw (leads (f .identity) (laid i) (size .0)) (identified (getD (f .identity) 0 0) n (fit .identity)))
 
-  judged : judgedOf s n l ≡ asking.Request (requestIn s n l)
-  unfolding judgedOf isRequest
-  judged = rw (opens .0, opens .1, capable (f .capability) found-capability (fit .capability), secure (f .security) found-security (fit .security .0) (fit .security .1))
+  keeps : isRequest s n l ≡ true
+  unfolding isRequest
+  keeps = rw (opens .0, opens .1, capable (f .capability) found-capability (fit .capability), secure (f .security) found-security (fit .security .0) (fit .security .1))
+
+  -- the level reads as its elements have it
+  level : (d : ℕ) → readTo d s ≡ askedBy (insideOf d s) s n l
+  unfolding endedBy elementsReading
+  level d = rw (by-head d s, begins, long)
 
   same-identity : cutOf s (record { held = true; start = 6; len = n }) ≡ f .identity
   unfolding cutOf opening openingHead lengthIn
@@ -176,28 +183,41 @@ module _ (f : Fields) (fit : Fit f) (i : List Item) (tells : Tells i f) where
       )
 
   -- "Reading a request back accepts, elements in any order": others among them change nothing of what is said
-  pub any-order : toldBy (opening f ++ laid i) (askingOf (opening f ++ laid i)) ≡ says f
-  any-order = ap (toldBy s) (begins ∙ goes ∙ judged) ∙ told
+  pub any-order : (d : ℕ) → saysIn 0x71 i ≡ [] → toldBy s (readTo d s) ≡ says f
+  unfolding askedBy judgedOf endedBy filledOf
+  any-order d none = ap (toldBy s) (level d ∙ rw (rw none at (finds 0x71 .len), whole, keeps)) ∙ told
 
--- the round trip: the elements in the order of the layout
-pub round : (f : Fields) → Fit f → toldBy (octetsOf f) (askingOf (octetsOf f)) ≡ says f
-unfolding octetsOf saysIn itemsOf
-round f fit =
-    any-order f fit (itemsOf f)
-    (record { read = all-read f fit; capability = alone (f .capability); security = alone (f .security); last = alone (f .last); uplink = alone (f .uplink); sessions = alone (f .sessions) })
+  -- with octets in a 71, what they say
+  module _ (o : ℕ) (c : List ℕ) (has : saysIn 0x71 i ≡ o ∷ c) where
+    abbrev p : Part
+    p = firstOf 0x71 l
 
--- what ngKSI 7 leaves out fits too
-either : (b : Bool) (f g : Fields) → Fit f → Fit g → Fit (cond b f g)
-either true f g x y = x
-either false f g x y = y
+    found : Found s p (o ∷ c)
+    found = rw has at (finds 0x71)
 
-shown-fit : (f : Fields) → Fit f → Fit (shown f)
-unfolding shown
-shown-fit f fit =
-    either (eqb (f .ksi) 7) _ f
-    (record { regtype = fit .regtype; ksi = fit .ksi; identity = fit .identity; capability = omega arith; security = fit .security; last = inl refl; uplink = inl refl; sessions = inl refl })
-    fit
+    held : p .held ≡ true
+    unfolding some
+    held = found .held
 
-pub round-layout : (f : Fields) → Fit f → toldBy (layout f) (askingOf (layout f)) ≡ says (shown f)
-unfolding layout
-round-layout f fit = round (shown f) (shown-fit f fit)
+    full : filledOf p ≡ p
+    unfolding filledOf
+    full = rw (ne-eqb (p .len) 0 (λ e. omega (arith, found .len)))
+
+    around : (d : ℕ) → readTo d s ≡ insideOf d s p
+    unfolding askedBy
+    around d = level d ∙ rw full (chosen (p .held) _ _ held ∙ rw (whole, keeps) (kept-around (insideOf d s p)))
+
+    pub inner : (d : ℕ) → readTo (suc d) s ≡ shifted (p .start) (readTo d (o ∷ c))
+    unfolding insideOf
+    inner d = around (suc d) ∙ ap (λ (t : List ℕ). shifted (p .start) (readTo d t)) (found .cut)
+
+    -- "and reads the inner one as the message"
+    pub inner-told : (d : ℕ) → toldBy s (readTo (suc d) s) ≡ toldBy (o ∷ c) (readTo d (o ∷ c))
+    inner-told d =
+        ap (toldBy s) (inner d)
+        ∙ told-shifted s p held (readTo d (o ∷ c)) (rw (found .len) (reads-below d (o ∷ c)))
+        ∙ ap (λ (t : List ℕ). toldBy t (readTo d (o ∷ c))) (found .cut)
+
+    pub too-deep : readTo 0 s ≡ asking.Deep (p .start - 3)
+    unfolding insideOf
+    too-deep = around 0

@@ -1,5 +1,5 @@
 -- The layout of a request, apart from its writer and its reader: from what a request says to its octets. Assumes nothing.
-use Prim.Native.Nat.{ℕ, _+_, _*_, _/_, _%_, _≤_}
+use Prim.Native.Nat.{ℕ, zero, suc, _+_, _*_, _/_, _%_, _≤_}
 use mathlib.Core.Path.{_≡_}
 use mathlib.Core.Logic.{_⊎_}
 use mathlib.Core.Bool.{cond}
@@ -69,12 +69,25 @@ itemsOf f =
 unfoldable pub octetsOf : Fields → List ℕ
 octetsOf f = opening f ++ laid (itemsOf f)
 
+-- "the clear part (identity, 2E)"
+unfoldable pub clear : Fields → Fields
+clear f = record { regtype = f .regtype; ksi = f .ksi; identity = f .identity; capability = []; security = f .security; last = []; uplink = []; sessions = [] }
+
+-- "the request is the clear part (identity, 2E), then 71 with the whole request in it" (document 02, R-3): the whole request, so many levels in
+unfoldable pub nested : ℕ → Fields → List ℕ
+nested zero f = octetsOf f
+nested (suc d) f = octetsOf (clear f) ++ itemOctets longForm 0x71 (nested d f)
+
 -- "With ngKSI 7 only 2E follows the identity."
 unfoldable pub shown : Fields → Fields
-shown f = cond (eqb (f .ksi) 7) (record { regtype = f .regtype; ksi = f .ksi; identity = f .identity; capability = []; security = f .security; last = []; uplink = []; sessions = [] }) f
+shown f = cond (eqb (f .ksi) 7) (clear f) f
+
+-- "with a valid security context, and only then, hidden elements travel in a NAS message container": with ngKSI below 7, one level in
+unfoldable pub levelsOf : Fields → ℕ
+levelsOf f = cond (eqb (f .ksi) 7) 0 1
 
 unfoldable pub layout : Fields → List ℕ
-layout f = octetsOf (shown f)
+layout f = nested (levelsOf f) (shown f)
 
 -- What a request may say: type 1 to 3; an identity of F2 and 10 octets, or 01 and 9 to 64 octets in all; a capability of at most 13 octets,
 -- a security capability of 2 to 8; a last area of six octets or none, each status of two or none

@@ -1,4 +1,4 @@
--- What a request read back says: "Reading a request back accepts, elements in any order: ..". Assumes nothing.
+-- What a request read back says by its own octets: "Reading a request back accepts, elements in any order: ..". Requests inside it: Levels. Assumes nothing.
 use Prim.Native.Nat.{ℕ, _+_, _*_, _/_, _%_}
 use mathlib.Core.Bool.{Bool, true, cond}
 use mathlib.Core.List.{List, []}
@@ -8,13 +8,25 @@ use Rattle.octets.specs.declared.Fault.the-variants.{Cut, Kind}
 use Rattle.octets.specs.declared.Part.{Part}
 use Rattle.octets.specs.declared.Ending.{Ending}
 use Rattle.octets.specs.declared.Ending.the-variants.{Broken, Whole}
-use Rattle.octets.specs.Element.{Elements, elementsFrom, absent, firstOf, endOf}
-use Rattle.messages.specs.Message.{openedBy, begunBy, endedBy, faultNumber}
+use Rattle.octets.specs.Element.{Elements, absent, firstOf}
+use Rattle.messages.specs.Message.{openedBy, begunBy, faultNumber}
 use Rattle.record.specs.Tests.{both, either, within}
 use Rattle.request.specs.Layout.{Fields}
 use Rattle.request.specs.declared.Request.{Request}
 use Rattle.request.specs.declared.Asking.{Asking}
 use Rattle.request.specs.declared.Asking.the-variants as asking
+
+-- the identity's two-octet length
+abbrev pub identityIn : List ℕ → ℕ
+identityIn s = getD s 4 0 * 256 + getD s 5 0
+
+-- 41 request; octet 4 and an identity with two-octet length, all of it in the message
+abbrev pub fixedReading : List ℕ → Ending
+fixedReading s = openedBy Broken s 2 0x41 Kind (cond (ltb (length s) (6 + identityIn s)) (Broken Cut (length s)) Whole)
+
+-- "All begin 7E 00 and a type": what stands before the elements, and how it ends
+unfoldable pub headOf : List ℕ → Ending
+headOf s = begunBy Broken s (fixedReading s)
 
 -- "octet 4 with low half 1 and high half 0 to 7"; 2 and 3 are updates
 unfoldable pub isFourth : ℕ → Bool
@@ -36,9 +48,9 @@ isCapability p = cond (p .held) (leb (p .len) 13) true
 unfoldable pub isRequest : List ℕ → ℕ → Elements → Bool
 isRequest s n l = both (isFourth (getD s 3 0)) (both (isIdentity (getD s 6 0) n) (both (isCapability (firstOf 0x10 l)) (isSecurity (firstOf 0x2E l))))
 
--- a capability of no octets is too short: absent
-unfoldable pub capabilityOf : Part → Part
-capabilityOf p = cond (eqb (p .len) 0) absent p
+-- one of no octets is too short: absent, as 10 is, and "an empty 71 is absent"
+unfoldable pub filledOf : Part → Part
+filledOf p = cond (eqb (p .len) 0) absent p
 
 -- a status is its first two octets: "Extra octets at an element's end are ignored; a known element too short is absent"
 unfoldable pub pairOf : Part → Part
@@ -50,7 +62,7 @@ requestIn s n l = record {
   regtype = getD s 3 0 % 16;
   ksi = getD s 3 0 / 16;
   identity = record { held = true; start = 6; len = n };
-  capability = capabilityOf (firstOf 0x10 l);
+  capability = filledOf (firstOf 0x10 l);
   security = firstOf 0x2E l;
   last = firstOf 0x52 l;
   uplink = pairOf (firstOf 0x40 l);
@@ -59,25 +71,6 @@ requestIn s n l = record {
 
 unfoldable pub judgedOf : List ℕ → ℕ → Elements → Asking
 judgedOf s n l = cond (isRequest s n l) (asking.Request (requestIn s n l)) asking.Unfit
-
--- what the elements make of a request: a malformed one tells
-unfoldable pub askedOf : List ℕ → ℕ → Elements → Asking
-askedOf s n l = endedBy asking.Bad (endOf l) (judgedOf s n l)
-
--- octet 4 and an identity with two-octet length, all of it in the message; then the elements
-unfoldable pub partsReading : List ℕ → ℕ → Asking
-partsReading s n = cond (ltb (length s) (6 + n)) (asking.Bad Cut (length s)) (askedOf s n (elementsFrom true s (6 + n)))
-
-unfoldable pub restReading : List ℕ → Asking
-restReading s = cond (ltb (length s) 6) (asking.Bad Cut (length s)) (partsReading s (getD s 4 0 * 256 + getD s 5 0))
-
--- 41 request
-unfoldable pub requestReading : List ℕ → Asking
-requestReading s = openedBy asking.Bad s 2 0x41 Kind (restReading s)
-
--- "All begin 7E 00 and a type". That the lowest offset is told is shown of the whole reading (`lowest-request`).
-unfoldable pub askingOf : List ℕ → Asking
-askingOf s = begunBy asking.Bad s (requestReading s)
 
 -- the octets of a part
 unfoldable pub cutOf : List ℕ → Part → List ℕ
@@ -100,18 +93,21 @@ toldBy s (asking.Request q) = says (record {
   sessions = cutOf s (q .sessions);
 })
 toldBy s (asking.Bad f at) = nothing
+toldBy s (asking.Deep at) = nothing
 toldBy s asking.Unfit = nothing
 
--- the number for each case: a fault's own, and "Number 3 stays for a well-formed request that breaks document 01's request layout"
+-- the number for each case: a fault's own, "19 for a third level", and "Number 3 stays for a well-formed request that breaks document 01's request layout"
 abbrev pub askingNumber : Asking → ℕ
 askingNumber (asking.Request q) = 0
 askingNumber (asking.Bad f at) = faultNumber f
+askingNumber (asking.Deep at) = 19
 askingNumber asking.Unfit = 3
 
--- the offset of the octet at fault, 0 where there is none
+-- the offset of the octet at fault, of a third level its 71, 0 where there is none
 abbrev pub askingOffset : Asking → ℕ
 askingOffset (asking.Request q) = 0
 askingOffset (asking.Bad f at) = at
+askingOffset (asking.Deep at) = at
 askingOffset asking.Unfit = 0
 
 -- the type that this call reads, and what its reading tells of faults
@@ -121,4 +117,5 @@ isAsking type = eqb type 0x41
 unfoldable pub askingTold : Asking → Ending
 askingTold (asking.Request q) = Whole
 askingTold (asking.Bad f at) = Broken f at
+askingTold (asking.Deep at) = Whole
 askingTold asking.Unfit = Whole

@@ -32,7 +32,7 @@ tailOctets last uplink sessions = (itemOctets plainForm 0x52 last ++ itemOctets 
 abbrev pub sizedOf : ℕ → ℕ → ℕ
 sizedOf k n = cond (eqb n 0) 0 (k + n)
 
--- how many octets a record holds of each piece behind the identity, and how many of them are shown
+-- how many octets a record holds of each piece behind the identity
 unfoldable pub heldLengths : Access → Device → Lengths
 heldLengths a d = record {
   capability = d .capability;
@@ -41,9 +41,6 @@ heldLengths a d = record {
   uplink = cond (either (leb (a .regtype) 1) (eqb (a .uplink) 0)) 0 2;
   sessions = cond (leb (a .regtype) 1) 0 2;
 }
-
-unfoldable pub shownLengths : Access → Device → Lengths
-shownLengths a d = cond (eqb (a .ksi) 7) (record { capability = 0; security = d .security; last = 0; uplink = 0; sessions = 0 }) (heldLengths a d)
 
 -- what is written of octets into a buffer, if they have room there
 unfoldable pub sentOf : List ℕ → ℕ → Written

@@ -23,10 +23,11 @@ pub struct Request {
     pub sessions: Part,
 }
 
-// A refusal is a fault and its offset, or a well-formed request that breaks the layout.
+// A refusal is a fault and its offset, a third level and its 71's offset, or a well-formed request that breaks the layout.
 pub enum Asking {
     Request(Request),
     Bad(Fault, usize),
+    Deep(usize),
     Unfit,
 }
 

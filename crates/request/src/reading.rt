@@ -1,9 +1,10 @@
-// The reading of a request.
+// The reading of a request, and of the one inside it.
 use crate::Asking;
 use crate::Request;
 use messages::octet;
 use octets::Ending;
 use octets::Fault;
+use octets::Gathered;
 use octets::Part;
 use octets::Wanted;
 use octets::wide;
@@ -11,9 +12,15 @@ use record::and;
 use record::or;
 use record::ranged;
 ghost use mathlib.Core.Path.{_≡_};
-ghost use Prim.Native.Nat.{_<_};
+ghost use mathlib.Core.Bool.{cond};
+ghost use Prim.Native.Nat.{_+_, _-_, _<_, _≤_};
+ghost use lib.ListN.{length};
 ghost use Rattle.octets.specs.Element.{Elements, firstOf};
-ghost use Rattle.request.specs.Reading.{isFourth, isIdentity, isSecurity, isCapability, isRequest, capabilityOf, pairOf, requestIn, judgedOf, partsReading, restReading, requestReading, askingOf, askingNumber, askingOffset};
+ghost use Rattle.messages.specs.Message.{endedBy};
+ghost use Rattle.request.specs.Reading.{identityIn, fixedReading, headOf, isFourth, isIdentity, isSecurity, isCapability, isRequest, filledOf, pairOf, requestIn, judgedOf, askingNumber, askingOffset};
+ghost use Rattle.request.specs.Levels.{shiftedPart, shiftedRequest, shifted, aroundOf, readTo, askingOf};
+ghost use Rattle.request.specs.Reader.{partsOf, aloneOf, enclosedOf, elementsReading, PartBelow, RequestBelow, Below};
+ghost use Rattle.request.specs.declared.Asking.the-variants as asking;
 
 fn fourth(o: u8) -> bool
     ensures { λ r. ⌜ r ≡ isFourth o ⌝ }
@@ -50,8 +57,9 @@ fn fits(msg: &[u8], n: usize, p: Part, q: Part) -> bool
     and(a, and(b, c))
 }
 
-fn held(p: Part) -> Part
-    ensures { λ r. ⌜ r ≡ capabilityOf p ⌝ }
+// One of no octets is none.
+fn filled(p: Part) -> Part
+    ensures { λ r. ⌜ r ≡ filledOf p ⌝ }
 {
     if p.len == 0 {
         return Part {
@@ -86,7 +94,7 @@ fn said(msg: &[u8], n: usize, p: Part, q: Part, t: Part, u: Part, v: Part) -> Re
     ensures { λ r. ⌜ ((l : Elements) → p ≡ firstOf 0x10 l → q ≡ firstOf 0x2E l → t ≡ firstOf 0x52 l → u ≡ firstOf 0x40 l → v ≡ firstOf 0x50 l → r ≡ requestIn (now (msg .entry)) n l) ⌝ }
 {
     let o = octet(msg, 3);
-    let capability = held(p);
+    let capability = filled(p);
     let uplink = pair(u);
     let sessions = pair(v);
     Request {
@@ -105,32 +113,90 @@ fn said(msg: &[u8], n: usize, p: Part, q: Part, t: Part, u: Part, v: Part) -> Re
     }
 }
 
-fn judged(msg: &[u8], n: usize, p: Part, q: Part, t: Part, u: Part, v: Part) -> Asking
-    ensures { λ r. ⌜ ((l : Elements) → p ≡ firstOf 0x10 l → q ≡ firstOf 0x2E l → t ≡ firstOf 0x52 l → u ≡ firstOf 0x40 l → v ≡ firstOf 0x50 l → r ≡ judgedOf (now (msg .entry)) n l) ⌝ }
+// A request that keeps the layout or does not.
+fn kept(fits: bool, q: Request) -> Asking
+    ensures { λ r. ⌜ r ≡ cond fits (asking.Request q) asking.Unfit ⌝ }
 {
-    if fits(msg, n, p, q) {
-        return Asking::Request(said(msg, n, p, q, t, u, v));
+    if fits {
+        return Asking::Request(q);
     }
     Asking::Unfit
 }
 
-// At most four are gathered at once, so 40 and 50 by themselves: both end alike.
-fn read_parts(msg: &[u8], n: usize) -> Asking
-    requires { ⌜ n < 65536 ⌝ }
-    ensures { λ r. ⌜ r ≡ partsReading (now (msg .entry)) n ⌝ }
+fn judged(msg: &[u8], n: usize, p: Part, q: Part, t: Part, u: Part, v: Part) -> Asking
+    ensures { λ r. ⌜ ((l : Elements) → p ≡ firstOf 0x10 l → q ≡ firstOf 0x2E l → t ≡ firstOf 0x52 l → u ≡ firstOf 0x40 l → v ≡ firstOf 0x50 l → r ≡ judgedOf (now (msg .entry)) n l) ⌝ }
 {
-    if msg.len() < 6 + n {
-        return Asking::Bad(Fault::Cut, msg.len());
+    let fits = fits(msg, n, p, q);
+    let said = said(msg, n, p, q, t, u, v);
+    kept(fits, said)
+}
+
+// The octets of the identity, by its two-octet length.
+fn identity_len(msg: &[u8]) -> usize
+    ensures { λ r. ⌜ (r ≡ identityIn (now (msg .entry))) × (r < 65536) ⌝ }
+{
+    let high = wide(octet(msg, 4));
+    let low = wide(octet(msg, 5));
+    high * 256 + low
+}
+
+// The type, octet 4 and the identity.
+fn fixed(msg: &[u8]) -> Ending
+    ensures { λ r. ⌜ r ≡ fixedReading (now (msg .entry)) ⌝ }
+{
+    if msg.len() <= 2 {
+        return Ending::Broken(Fault::Cut, 2);
     }
-    let g = octets::gather(
+    if msg[2] != 0x41 {
+        return Ending::Broken(Fault::Kind, 2);
+    }
+    let n = identity_len(msg);
+    if msg.len() < 6 + n {
+        return Ending::Broken(Fault::Cut, msg.len());
+    }
+    Ending::Whole
+}
+
+fn head(msg: &[u8]) -> Ending
+    ensures { λ r. ⌜ r ≡ headOf (now (msg .entry)) ⌝ }
+{
+    match messages::opens(msg) {
+        Ending::Broken(f, at) => Ending::Broken(f, at),
+        Ending::Whole => fixed(msg),
+    }
+}
+
+// The first 10, 2E, 52 and 71, and how the elements end.
+fn parts(msg: &[u8]) -> Gathered
+    ensures { λ r. ⌜ r ≡ partsOf (now (msg .entry)) ⌝ }
+{
+    let n = identity_len(msg);
+    octets::gather(
         msg,
         6 + n,
         true,
         Wanted::Id(0x10),
         Wanted::Id(0x2E),
         Wanted::Id(0x52),
-        Wanted::Nothing,
-    );
+        Wanted::Id(0x71),
+    )
+}
+
+// A fault of the elements, or the rest.
+fn ended(end: Ending, rest: Asking) -> Asking
+    ensures { λ r. ⌜ r ≡ endedBy asking.Bad end rest ⌝ }
+{
+    match end {
+        Ending::Broken(f, at) => Asking::Bad(f, at),
+        Ending::Whole => rest,
+    }
+}
+
+// A request with no other one in it. At most four are gathered at once, so 40 and 50 by themselves: both end alike.
+fn alone(msg: &[u8], g: Gathered) -> Asking
+    ensures { λ r. ⌜ (g ≡ partsOf (now (msg .entry)) → r ≡ aloneOf (now (msg .entry))) ⌝ }
+{
+    let n = identity_len(msg);
     let h = octets::gather(
         msg,
         6 + n,
@@ -140,43 +206,115 @@ fn read_parts(msg: &[u8], n: usize) -> Asking
         Wanted::Nothing,
         Wanted::Nothing,
     );
+    let own = judged(msg, n, g.first, g.second, g.third, h.first, h.second);
     let end = g.end;
-    match end {
+    ended(end, own)
+}
+
+// What an inner reading makes of the request around it.
+fn enclosed(end: Ending, fits: bool, inner: Asking) -> Asking
+    ensures { λ r. ⌜ r ≡ aroundOf end fits inner ⌝ }
+{
+    match inner {
+        Asking::Request(q) => ended(end, kept(fits, q)),
+        Asking::Bad(f, at) => Asking::Bad(f, at),
+        Asking::Deep(at) => ended(end, Asking::Deep(at)),
+        Asking::Unfit => ended(end, Asking::Unfit),
+    }
+}
+
+fn around(msg: &[u8], g: Gathered, inner: Asking) -> Asking
+    ensures { λ r. ⌜ (g ≡ partsOf (now (msg .entry)) → r ≡ enclosedOf (now (msg .entry)) inner) ⌝ }
+{
+    let n = identity_len(msg);
+    let fits = fits(msg, n, g.first, g.second);
+    let end = g.end;
+    enclosed(end, fits, inner)
+}
+
+// Offsets in octets that begin at a place of the message, as offsets in the message.
+fn part_at(p: Part, by: usize) -> Part
+    requires { ⌜ PartBelow (18446744073709551615 - by) p ⌝ }
+    ensures { λ r. ⌜ r ≡ shiftedPart by p ⌝ }
+{
+    if p.held {
+        return Part {
+            held: p.held,
+            start: by + p.start,
+            len: p.len,
+        };
+    }
+    p
+}
+
+fn request_at(q: Request, by: usize) -> Request
+    requires { ⌜ RequestBelow (18446744073709551615 - by) q ⌝ }
+    ensures { λ r. ⌜ r ≡ shiftedRequest by q ⌝ }
+{
+    let identity = part_at(q.identity, by);
+    let capability = part_at(q.capability, by);
+    let security = part_at(q.security, by);
+    let last = part_at(q.last, by);
+    let uplink = part_at(q.uplink, by);
+    let sessions = part_at(q.sessions, by);
+    Request {
+        regtype: q.regtype,
+        ksi: q.ksi,
+        identity,
+        capability,
+        security,
+        last,
+        uplink,
+        sessions,
+    }
+}
+
+fn asking_at(a: Asking, by: usize) -> Asking
+    requires { ⌜ Below (18446744073709551615 - by) a ⌝ }
+    ensures { λ r. ⌜ r ≡ shifted by a ⌝ }
+{
+    match a {
+        Asking::Request(q) => Asking::Request(request_at(q, by)),
+        Asking::Bad(f, at) => Asking::Bad(f, by + at),
+        Asking::Deep(at) => Asking::Deep(by + at),
+        Asking::Unfit => Asking::Unfit,
+    }
+}
+
+// The elements of a request whose fixed octets are there. What lies in a 71 is a message again, with one level less and fewer octets.
+fn element(msg: &[u8], levels: u8) -> Asking
+    requires { ⌜ 6 + identityIn (now msg) ≤ length (now msg) ⌝ }
+    ensures { λ r. ⌜ r ≡ elementsReading levels (now (msg .entry)) ⌝ }
+{
+    let g = parts(msg);
+    let c = filled(g.fourth);
+    if !c.held {
+        return alone(msg, g);
+    }
+    let start = c.start;
+    if levels == 0 {
+        return around(msg, g, Asking::Deep(start - 3));
+    }
+    let end = start + c.len;
+    let inner = message(&msg[start..end], levels - 1);
+    let placed = asking_at(inner, start);
+    around(msg, g, placed)
+}
+
+// A request, and so many levels in it.
+fn message(msg: &[u8], levels: u8) -> Asking
+    ensures { λ r. ⌜ r ≡ readTo levels (now (msg .entry)) ⌝ }
+{
+    match head(msg) {
         Ending::Broken(f, at) => Asking::Bad(f, at),
-        Ending::Whole => judged(msg, n, g.first, g.second, g.third, h.first, h.second),
+        Ending::Whole => element(msg, levels),
     }
-}
-
-fn read_rest(msg: &[u8]) -> Asking
-    ensures { λ r. ⌜ r ≡ restReading (now (msg .entry)) ⌝ }
-{
-    if msg.len() < 6 {
-        return Asking::Bad(Fault::Cut, msg.len());
-    }
-    let high = wide(msg[4]);
-    let low = wide(msg[5]);
-    read_parts(msg, high * 256 + low)
-}
-
-fn read_type(msg: &[u8]) -> Asking
-    ensures { λ r. ⌜ r ≡ requestReading (now (msg .entry)) ⌝ }
-{
-    if msg.len() <= 2 {
-        return Asking::Bad(Fault::Cut, 2);
-    }
-    if msg[2] != 0x41 {
-        return Asking::Bad(Fault::Kind, 2);
-    }
-    read_rest(msg)
 }
 
 pub fn read(msg: &[u8]) -> Asking
     ensures { λ r. ⌜ r ≡ askingOf (now (msg .entry)) ⌝ }
 {
-    match messages::opens(msg) {
-        Ending::Broken(f, at) => Asking::Bad(f, at),
-        Ending::Whole => read_type(msg),
-    }
+    message(msg, 1)
 }
 
 // The reply's number for a reading.
@@ -186,17 +324,19 @@ pub fn number(a: Asking) -> u8
     match a {
         Asking::Request(_) => 0,
         Asking::Bad(f, _) => messages::number(f),
+        Asking::Deep(_) => 19,
         Asking::Unfit => 3,
     }
 }
 
-// The offset of the octet at fault, 0 where there is none.
+// The offset of the octet at fault, of a third level its 71, 0 where there is none.
 pub fn offset(a: Asking) -> usize
     ensures { λ r. ⌜ r ≡ askingOffset a ⌝ }
 {
     match a {
         Asking::Request(_) => 0,
         Asking::Bad(_, at) => at,
+        Asking::Deep(at) => at,
         Asking::Unfit => 0,
     }
 }

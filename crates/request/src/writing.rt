@@ -10,16 +10,16 @@ use record::access_of;
 use record::or;
 ghost use mathlib.Core.Path.{_≡_};
 ghost use mathlib.Core.Bool.{cond};
-ghost use mathlib.Core.List.{_++_};
+ghost use mathlib.Core.List.{[], _++_};
 ghost use Prim.Native.Nat.{_+_, _≤_, _<_};
 ghost use lib.Dec.{leb, eqb};
 ghost use lib.ListN.{length, take};
 ghost use Rattle.ranges.specs.Valid.{validOf};
 ghost use Rattle.record.specs.Tests.{both};
-ghost use Rattle.request.specs.Layout.{withLead, itemOctets, openingHead, octetsOf, layout};
+ghost use Rattle.request.specs.Layout.{withLead, itemOctets, openingHead, octetsOf, nested, layout};
 ghost use Rattle.request.specs.Layout.Form.{shortForm, plainForm};
 ghost use Rattle.request.specs.Writing.{gutisOf, octets3, octets2, lastOf, uplinkOf, sessionsOf, sayingOf, saysOf, writtenOf, bufferOf};
-ghost use Rattle.request.specs.Steps.{Put, tailOctets, sizedOf, heldLengths, shownLengths, sentOf, sentOver};
+ghost use Rattle.request.specs.Steps.{Put, tailOctets, sizedOf, heldLengths, sentOf, sentOver};
 
 // How many octets there are of each piece behind the identity.
 struct Lengths {
@@ -157,8 +157,40 @@ fn size(
     6 + (part.len() + (c + (s + (l + (u + v)))))
 }
 
-// The request with these pieces, if the buffer has room for it.
-fn lay(
+// The clear part alone, if the buffer has room for it.
+fn bare(buffer: &mut [u8], regtype: u8, ksi: u8, part: &[u8], security: &[u8]) -> Written
+    requires { ⌜ (regtype ≤ 3) × ((ksi ≤ 7) × ((length (now part) ≤ 64) × (length (now security) < 256))) ⌝ }
+    ensures { λ r. ⌜ r ≡ sentOf (octetsOf (sayingOf regtype ksi (now (part .entry)) [] (now (security .entry)) [] [] [])) (length (now (buffer .entry))) ⌝ }
+    ensures { λ r. ⌜ now (buffer .exit) ≡ sentOver (octetsOf (sayingOf regtype ksi (now (part .entry)) [] (now (security .entry)) [] [] [])) (now (buffer .entry)) ⌝ }
+{
+    let none = &security[..0];
+    let len = size(part, none, security, none, none, none);
+    if buffer.len() < len {
+        return Written {
+            answer: Answer::Short,
+            len: 0,
+        };
+    }
+    fill(
+        buffer,
+        0,
+        regtype,
+        ksi,
+        part,
+        none,
+        security,
+        none,
+        none,
+        none,
+    );
+    Written {
+        answer: Answer::Taken,
+        len,
+    }
+}
+
+// The clear part, then 71 with the whole request in it, if the buffer has room for both.
+fn enclose(
     buffer: &mut [u8],
     regtype: u8,
     ksi: u8,
@@ -170,19 +202,36 @@ fn lay(
     sessions: &[u8],
 ) -> Written
     requires { ⌜ (regtype ≤ 3) × ((ksi ≤ 7) × ((length (now part) ≤ 64) × ((length (now capability) < 256) × ((length (now security) < 256) × ((length (now last) < 256) × ((length (now uplink) < 256) × (length (now sessions) < 256))))))) ⌝ }
-    ensures { λ r. ⌜ r ≡ sentOf (octetsOf (sayingOf regtype ksi (now (part .entry)) (now (capability .entry)) (now (security .entry)) (now (last .entry)) (now (uplink .entry)) (now (sessions .entry)))) (length (now (buffer .entry))) ⌝ }
-    ensures { λ r. ⌜ now (buffer .exit) ≡ sentOver (octetsOf (sayingOf regtype ksi (now (part .entry)) (now (capability .entry)) (now (security .entry)) (now (last .entry)) (now (uplink .entry)) (now (sessions .entry)))) (now (buffer .entry)) ⌝ }
+    ensures { λ r. ⌜ r ≡ sentOf (nested 1 (sayingOf regtype ksi (now (part .entry)) (now (capability .entry)) (now (security .entry)) (now (last .entry)) (now (uplink .entry)) (now (sessions .entry)))) (length (now (buffer .entry))) ⌝ }
+    ensures { λ r. ⌜ now (buffer .exit) ≡ sentOver (nested 1 (sayingOf regtype ksi (now (part .entry)) (now (capability .entry)) (now (security .entry)) (now (last .entry)) (now (uplink .entry)) (now (sessions .entry)))) (now (buffer .entry)) ⌝ }
 {
-    let len = size(part, capability, security, last, uplink, sessions);
+    let none = &security[..0];
+    let clear = size(part, none, security, none, none, none);
+    let whole = size(part, capability, security, last, uplink, sessions);
+    let len = clear + 3 + whole;
     if buffer.len() < len {
         return Written {
             answer: Answer::Short,
             len: 0,
         };
     }
-    fill(
+    let at = fill(
         buffer,
         0,
+        regtype,
+        ksi,
+        part,
+        none,
+        security,
+        none,
+        none,
+        none,
+    );
+    let lead = [0x71, (whole / 256) as u8, (whole % 256) as u8];
+    let from = put(buffer, at, &lead);
+    fill(
+        buffer,
+        from,
         regtype,
         ksi,
         part,
@@ -237,24 +286,7 @@ fn pieces(own: Access, dev: Device) -> Lengths
     }
 }
 
-// How many of them are shown: with ngKSI 7 those of 2E alone.
-fn shown(own: Access, dev: Device) -> Lengths
-    ensures { λ r. ⌜ r ≡ shownLengths own dev ⌝ }
-{
-    let held = pieces(own, dev);
-    if own.ksi == 7 {
-        return Lengths {
-            capability: 0,
-            security: held.security,
-            last: 0,
-            uplink: 0,
-            sessions: 0,
-        };
-    }
-    held
-}
-
-// The request of an access with this identity: what is shown of each piece.
+// The request of an access with this identity: with ngKSI 7 the clear part alone, else the whole request in a container behind it.
 fn send(
     buffer: &mut [u8],
     own: Access,
@@ -267,17 +299,21 @@ fn send(
     ensures { λ r. ⌜ r ≡ sentOf (layout (sayingOf (own .regtype) (own .ksi) (now (part .entry)) (take (dev .capability) (now (capability .entry))) (take (dev .security) (now (security .entry))) (lastOf own) (uplinkOf own) (sessionsOf own))) (length (now (buffer .entry))) ⌝ }
     ensures { λ r. ⌜ now (buffer .exit) ≡ sentOver (layout (sayingOf (own .regtype) (own .ksi) (now (part .entry)) (take (dev .capability) (now (capability .entry))) (take (dev .security) (now (security .entry))) (lastOf own) (uplinkOf own) (sessionsOf own))) (now (buffer .entry)) ⌝ }
 {
-    let n = shown(own, dev);
+    let n = pieces(own, dev);
+    let security = &security[..n.security];
+    if own.ksi == 7 {
+        return bare(buffer, own.regtype, own.ksi, part, security);
+    }
     let area = area(own.lastnet, own.lastcode);
     let uplink = status(own.uplink);
     let sessions = status(own.sessions);
-    lay(
+    enclose(
         buffer,
         own.regtype,
         own.ksi,
         part,
         &capability[..n.capability],
-        &security[..n.security],
+        security,
         &area[..n.last],
         &uplink[..n.uplink],
         &sessions[..n.sessions],

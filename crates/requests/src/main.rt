@@ -146,10 +146,17 @@ fn send(r: Record, access: u8, buffer: &mut [u8]) {
 
 // A buffer of AA with this many octets of room.
 fn sent(r: Record, access: u8, room: usize) {
-    let mut buffer = [0xAAu8; 128];
-    if room <= 128 {
+    let mut buffer = [0xAAu8; 200];
+    if room <= 200 {
         send(r, access, &mut buffer[..room]);
     }
+}
+
+// How many octets the request has, by a first try with room for any.
+fn length(r: Record, access: u8) -> usize {
+    let mut buffer = [0u8; 200];
+    let w = request::write(r, access, &mut buffer);
+    w.len
 }
 
 fn short() -> Shape {
@@ -177,36 +184,41 @@ fn sucis() {
     sent(made(s), 0, 0);
     s.suci = 64;
     sent(made(s), 0, 80);
-    s.capability = 13;
     s.security = 8;
+    sent(made(s), 0, 80);
+    sent(made(s), 0, 79);
+    s.capability = 13;
     s.visited = 1;
     s.ksi = 6;
-    sent(made(s), 0, 102);
-    sent(made(s), 0, 101);
+    sent(made(s), 0, 185);
+    sent(made(s), 0, 184);
 }
 
+// With room for the clear part, or for it and the container's lead, none of it is written.
 fn gutis() {
     let mut s = short();
     s.guti0 = 1;
     s.visited = 1;
     s.ksi = 3;
-    sent(made(s), 0, 31);
-    sent(made(s), 0, 33);
-    sent(made(s), 1, 30);
+    sent(made(s), 0, 55);
+    sent(made(s), 0, 56);
+    sent(made(s), 1, 54);
+    sent(made(s), 0, 21);
+    sent(made(s), 0, 24);
     s.guti1 = 1;
     s.ksi = 0;
     s.visited = 0;
     s.net = 0x00F220;
-    sent(made(s), 0, 24);
-    sent(made(s), 1, 24);
+    sent(made(s), 0, 48);
+    sent(made(s), 1, 48);
     s.net = 0x00F330;
-    sent(made(s), 0, 24);
-    sent(made(s), 1, 24);
+    sent(made(s), 0, 48);
+    sent(made(s), 1, 48);
     s.equivalents = 1;
-    sent(made(s), 0, 24);
-    sent(made(s), 1, 24);
+    sent(made(s), 0, 48);
+    sent(made(s), 1, 48);
     s.guti0 = 0;
-    sent(made(s), 0, 24);
+    sent(made(s), 0, 48);
     s.ksi = 7;
     sent(made(s), 1, 21);
 }
@@ -220,19 +232,19 @@ fn updates() {
     s.regtype = 2;
     s.uplink = 0x0020;
     s.sessions = 0x0020;
-    sent(made(s), 0, 39);
-    sent(made(s), 1, 40);
-    sent(made(s), 0, 38);
+    sent(made(s), 0, 63);
+    sent(made(s), 1, 64);
+    sent(made(s), 0, 62);
     s.uplink = 0;
-    sent(made(s), 0, 36);
+    sent(made(s), 0, 60);
     s.regtype = 3;
     s.visited = 0;
     s.uplink = 0x0100;
     s.sessions = 0x8102;
-    sent(made(s), 0, 32);
+    sent(made(s), 0, 56);
     s.uplink = 0;
     s.sessions = 0;
-    sent(made(s), 0, 28);
+    sent(made(s), 0, 52);
 }
 
 // With ngKSI 7 an update shows neither status, and an initial registration never does; the longest request.
@@ -248,14 +260,15 @@ fn bare() {
     sent(made(s), 0, 22);
     s.regtype = 1;
     s.ksi = 3;
-    sent(made(s), 0, 31);
+    sent(made(s), 0, 55);
     s.guti0 = 0;
     s.suci = 64;
     s.capability = 13;
     s.security = 8;
     s.regtype = 2;
-    sent(made(s), 0, 110);
-    sent(made(s), 0, 109);
+    sent(made(s), 0, 193);
+    sent(made(s), 0, 192);
+    sent(made(s), 0, 200);
 }
 
 // Types 0 and 4, and session 0.
@@ -281,6 +294,48 @@ fn refusals() {
     sent(fresh(), 0, 19);
 }
 
+// No session, or some of 1 to 15.
+fn status(k: u32, n: u32) -> u16 {
+    if k % 3 == 0 {
+        return 0;
+    }
+    (n % 65536 * 4099 % 32767 * 2) as u16
+}
+
+// A shape for each number. Its fields go by powers of 2, powers of 3, 7, 13 and 55, which have no common factor, so that they vary
+// apart from each other. The network is 00 F1 10, 00 F2 20 or 00 F3 30.
+fn varied(i: u32) -> Shape {
+    Shape {
+        suci: 9 + (i % 55) as u8,
+        capability: 1 + (i % 13) as u8,
+        security: 2 + (i % 7) as u8,
+        guti0: (i / 32 % 2) as u8,
+        guti1: (i / 64 % 2) as u8,
+        net: 0x00F110 + i / 3 % 3 * 0x000110,
+        equivalents: (i / 128 % 2) as u8,
+        visited: (i / 2 % 2) as u8,
+        ksi: (i / 4 % 8) as u8,
+        regtype: 1 + (i % 3) as u8,
+        uplink: status(i / 9, i),
+        sessions: status(i / 27, i / 2),
+    }
+}
+
+// In a buffer of just its length.
+fn one(i: u32) {
+    let r = made(varied(i));
+    let access = (i % 2) as u8;
+    sent(r, access, length(r, access));
+}
+
+fn many() {
+    let mut i = 0;
+    while i < 320 {
+        one(i);
+        i += 1;
+    }
+}
+
 fn main() {
     sucis();
     gutis();
@@ -288,4 +343,5 @@ fn main() {
     bare();
     refusals();
     outside();
+    many();
 }

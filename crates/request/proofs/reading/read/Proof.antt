@@ -1,30 +1,15 @@
--- What `messages::opens` ensures, by the two cases of an ending. Assumes nothing.
+-- Two levels: a request, and one inside it. Assumes nothing.
 use borrow.Author.Needs.{needs}
-use Rattle.messages.specs.Message.{endedBy}
-use Rattle.messages.proofs.Readings.{opening}
-use Rattle.request.specs.Reading.{askingOf}
+use Rattle.request.specs.Levels.{askingOf}
 use Rattle.request.proofs.reading.read.Statement.{statement}
 use Rattle.request.proofs.reading.read.Tie as tie
 
-opens-requires : tie.Need-opens-requires
-opens-requires c κs = search needs
-
-enum-known-f : tie.Need-enum-known-f
-enum-known-f c = search needs
-
-enum-told : tie.Need-enum-told
-enum-told c = search needs
-
-read-type-requires : tie.Need-read-type-requires
-read-type-requires c κs = search needs
+message-requires : tie.Need-message-requires
+message-requires c κs = search needs
 
 returns : tie.Need-returns
-unfolding askingOf endedBy
-returns c = rw (opening, ← c .before .before .before .opens .ensures, c .before .f .given .1)
-
-returns-2 : tie.Need-returns-2
-unfolding askingOf endedBy
-returns-2 c = rw (opening, ← c .before .before .before .opens .ensures, c .before .enum-told .given .1) (c .read-type .ensures)
+unfolding askingOf
+returns c = c .message .ensures
 
 pub read-spec : {M : Type 1} → statement M
-read-spec = tie.close (tie.spec opens-requires enum-known-f enum-told read-type-requires returns returns-2)
+read-spec = tie.close (tie.spec message-requires returns)

@@ -7,8 +7,8 @@ use Rattle.request.proofs.reading.said.Tie as tie
 octet-requires : tie.Need-octet-requires
 octet-requires c κs = search needs
 
-held-requires : tie.Need-held-requires
-held-requires c κs = search needs
+filled-requires : tie.Need-filled-requires
+filled-requires c κs = search needs
 
 pair-requires : tie.Need-pair-requires
 pair-requires c κs = search needs
@@ -21,4 +21,4 @@ unfolding requestIn
 returns c = λ l e f g h k. cc
 
 pub said-spec : {M : Type 1} → statement M
-said-spec = tie.close (tie.spec octet-requires held-requires pair-requires pair-requires-2 returns)
+said-spec = tie.close (tie.spec octet-requires filled-requires pair-requires pair-requires-2 returns)
