@@ -54,7 +54,7 @@ struct tjernfaug_device {
  * status: 1 to 3 for 5U1 to 5U3. t3502length: T3502's stored length in seconds. cardcounter: the card counter. net and code: the pending area.
  * guti, visited: whether a GUTI and a last area (lastnet, lastcode) are held. ksi: ngKSI, 7 for none.
  * regtype: the pending registration's type, 1 initial, 2 mobility, 3 periodic. uplink, sessions: its uplink data status and PDU session status,
- * the first octet as sent in the low half: session i is bit i.
+ * the first octet as sent in the low half: session i is bit i. t3346: whether T3346 runs: the network has asked for time.
  */
 struct tjernfaug_access {
     uint32_t net;
@@ -77,6 +77,7 @@ struct tjernfaug_access {
     uint8_t equivalents;
     uint8_t entries;
     uint8_t regtype;
+    uint8_t t3346;
 };
 
 struct tjernfaug_hot {
@@ -124,10 +125,11 @@ struct tjernfaug_timers {
     struct tjernfaug_timer t3510;
     struct tjernfaug_timer t3511;
     struct tjernfaug_timer t3502;
+    struct tjernfaug_timer t3346;
 };
 
 /*
- * What firmware is to do after an event: the timers of access 0 and of access 1, T3247, T3512, and the requests, each 0 for none, else 1 plus the access that it is meant for.
+ * What firmware is to do after an event: the timers of access 0 and 1, T3247, T3512, and the requests, each 0 for none, else 1 plus the access that it is meant for.
  * offset: which octet of a message was bad, counted from 0 in the message and not in the event's body; 0 where the answer is none of 13 to 18.
  * The octets behind update have no meaning and may change at any event.
  */
@@ -145,7 +147,7 @@ struct tjernfaug_notice {
 /* The library's layout on x86-64; tests/c/run holds the library to it. */
 _Static_assert(sizeof(struct tjernfaug_record) == 1224, "the record's size");
 _Static_assert(_Alignof(struct tjernfaug_record) == 8, "the record's alignment");
-_Static_assert(sizeof(struct tjernfaug_notice) == 88, "the notice's size");
+_Static_assert(sizeof(struct tjernfaug_notice) == 104, "the notice's size");
 _Static_assert(_Alignof(struct tjernfaug_notice) == 8, "the notice's alignment");
 
 /*
@@ -159,12 +161,15 @@ uint32_t tjernfaug_new(struct tjernfaug_record *r, uint8_t cardlimit, uint8_t ba
  * An event in the event log's form: a log record is the length of what follows it (two octets, the low one first), the kind (the same) and the body.
  *   1 card     home (3), SUCI (9 to 64)
  *   2 start    access, manual, network (3), area code (3)
- *   3 message  access, protected, draw for T3247 (2, the low one first), the message's octets
- *   4 timer    1 T3510, 2 T3511, 3 T3502, 4 T3247, 5 T3512; access (0 for T3247 and T3512)
+ *   3 message  access, protected, draw for T3247 (2, the low one first), the message's octets; the draw for T3346 is then 900
+ *   4 timer    1 T3510, 2 T3511, 3 T3502, 4 T3247, 5 T3512, 6 T3346; access (0 for T3247 and T3512)
  *   5 power
  *   6 key      access, set
  *   7 update   access, type (2 mobility, 3 periodic), network (3), area code (3), uplink data status (2), PDU session status (2), as sent, session 0 clear
+ *   8 message  access, protected, draw for T3247 (2, the low one first), draw for T3346 (the same), the message's octets
+ * Draw both evenly, for each message anew: 1800 to 3600 s for T3247, 900 to 1800 s for T3346. One outside its range is answer 1, used or not.
  * The answer's number, 0 for taken. Every answer but 0 leaves r as it was; notice is always written.
+ * 20 is a start or an update over an access whose T3346 runs: when it has run out, the notice asks for a restart.
  * A message at fault is answered by its fault, and the notice's offset tells the octet; of several faults the one at the lowest offset, at a tie the lower number:
  *   13  fewer than the fixed octets: the message's length, or 3, the length octet of an accept whose result has length 0
  *   14  octet 1 not 7E: 0

@@ -1,11 +1,11 @@
 // The whole reply and the whole record as a line of text, for `--full`.
 //
-// One line after each event's line, three parts split by ` | `, words split by spaces:
-//   = ANSWER at OFFSET T3510 C C T3511 C C T3502 C C T3247 C T3512 C restart A leave A
-//     update A
+// One line after each event's line, four parts split by ` | `, words split by spaces:
+//   = ANSWER at OFFSET T3510 C C T3511 C C T3502 C C T3346 C C T3247 C T3512 C restart A
+//     leave A update A
 //   | card C home HEX suci HEX limits CARD BAN N1 cap HEX sec HEX T3247 B T3512 B
 //     length SECONDS due B roaming AREAS regional AREAS
-//   | 0 state N status N attempts N T3510 B T3511 B T3502 B length SECONDS
+//   | 0 state N status N attempts N T3510 B T3511 B T3502 B length SECONDS T3346 B
 //     pending HEX type N uplink HEX sessions HEX guti HEX last HEX ksi N
 //     equivalents NETWORKS cards N entries ENTRIES
 //   | 1 ... (the same for access 1)
@@ -70,7 +70,7 @@ fn asked(text: &mut String, name: &str, access: Option<u8>) {
 
 pub fn reply(text: &mut String, reply: &Reply) {
     put!(text, "= {} at {}", reply.answer, reply.offset);
-    for (kind, name) in ["T3510", "T3511", "T3502"].iter().enumerate() {
+    for (kind, name) in ["T3510", "T3511", "T3502", "T3346"].iter().enumerate() {
         put!(text, " {name}");
         change(text, reply.timers[2 * kind]);
         change(text, reply.timers[2 * kind + 1]);
@@ -95,7 +95,7 @@ fn access(text: &mut String, access: &Access) {
     put!(text, " state {} status {} attempts {}", access.state, access.status, access.attempts);
     let running = [access.t3510, access.t3511, access.t3502].map(u8::from);
     put!(text, " T3510 {} T3511 {} T3502 {}", running[0], running[1], running[2]);
-    put!(text, " length {} pending ", access.t3502_length);
+    put!(text, " length {} T3346 {} pending ", access.t3502_length, access.t3346 as u8);
     hex(text, &access.pending);
     put!(text, " type {} uplink ", access.regtype);
     hex(text, &access.uplink);

@@ -32,9 +32,53 @@ pub struct Accept<'a> {
     pub t3512: Option<u32>,
 }
 
+/// What a reject says.
+#[derive(Clone, Copy, PartialEq, Debug)]
+pub struct Reject {
+    pub cause: u8,
+    /// None also where T3346 is zero or deactivated: all three give no time to wait.
+    pub t3346: Option<u16>,
+}
+
 pub enum Message<'a> {
     Accept(Accept<'a>),
-    Reject(u8),
+    Reject(Reject),
+}
+
+/// What a timer octet says.
+#[derive(Clone, Copy, PartialEq, Debug)]
+pub enum Span<T> {
+    Deactivated,
+    Zero,
+    /// Above 0.
+    Seconds(T),
+}
+
+impl<T: Default + PartialEq> Span<T> {
+    fn of(seconds: T) -> Span<T> {
+        if seconds == T::default() {
+            Span::Zero
+        } else {
+            Span::Seconds(seconds)
+        }
+    }
+
+    /// Zero is 0 s; None is deactivated.
+    fn length(self) -> Option<T> {
+        match self {
+            Span::Deactivated => None,
+            Span::Zero => Some(T::default()),
+            Span::Seconds(seconds) => Some(seconds),
+        }
+    }
+
+    /// The seconds of a time to wait; None if there is none.
+    fn above_zero(self) -> Option<T> {
+        match self {
+            Span::Deactivated | Span::Zero => None,
+            Span::Seconds(seconds) => Some(seconds),
+        }
+    }
 }
 
 /// Which message the elements stand in: 52 has seven octets in a request only.
@@ -85,14 +129,14 @@ pub fn element<'a>(
     }
 }
 
-/// GPRS timer 2 in seconds; None is deactivated.
-pub fn seconds(octet: u8) -> Option<u16> {
+/// GPRS timer 2.
+pub fn seconds(octet: u8) -> Span<u16> {
     let count = (octet & 31) as u16;
     match octet >> 5 {
-        0 => Some(count * 2),
-        2 => Some(count * 360),
-        7 => None,
-        _ => Some(count * 60),
+        0 => Span::of(count * 2),
+        2 => Span::of(count * 360),
+        7 => Span::Deactivated,
+        _ => Span::of(count * 60),
     }
 }
 
@@ -108,9 +152,12 @@ const UNITS: [Option<u32>; 8] = [
     None,
 ];
 
-/// GPRS timer 3 in seconds; None is deactivated.
-pub fn long_seconds(octet: u8) -> Option<u32> {
-    UNITS[(octet >> 5) as usize].map(|unit| unit * (octet & 31) as u32)
+/// GPRS timer 3.
+pub fn long_seconds(octet: u8) -> Span<u32> {
+    match UNITS[(octet >> 5) as usize] {
+        Some(unit) => Span::of(unit * (octet & 31) as u32),
+        None => Span::Deactivated,
+    }
 }
 
 /// The fault of a cut message, at its length.
@@ -134,20 +181,25 @@ pub fn head_fault(octets: &[u8], reads: fn(u8) -> bool) -> Fault {
 pub fn read(octets: &[u8]) -> Result<Message<'_>, Fault> {
     match octets {
         [0x7E, 0, 0x42, rest @ ..] => accept(octets, rest).map(Message::Accept),
-        [0x7E, 0, 0x44, cause, rest @ ..] => {
-            reject(octets, rest)?;
-            Ok(Message::Reject(*cause))
-        }
+        [0x7E, 0, 0x44, cause, rest @ ..] => reject(octets, *cause, rest).map(Message::Reject),
         _ => Err(head_fault(octets, |kind| matches!(kind, 0x42 | 0x44))),
     }
 }
 
-/// No element of a reject is known, but all must be in order.
-fn reject(octets: &[u8], mut rest: &[u8]) -> Result<(), Fault> {
+/// Only T3346 is known, but all elements must be in order. The first of a repeat counts, even
+/// where it reads as absent.
+fn reject(octets: &[u8], cause: u8, mut rest: &[u8]) -> Result<Reject, Fault> {
+    let mut t3346 = None;
     while !rest.is_empty() {
-        element(octets, &mut rest, Within::Other)?;
+        if let (0x5F, contents) = element(octets, &mut rest, Within::Other)? {
+            t3346 = t3346.or(Some(contents));
+        }
     }
-    Ok(())
+    let t3346 = match t3346 {
+        Some([octet, ..]) => seconds(*octet).above_zero(),
+        _ => None,
+    };
+    Ok(Reject { cause, t3346 })
 }
 
 /// The elements of an accept, behind its result: a length of at least 1 and so many octets.
@@ -183,11 +235,11 @@ fn accept<'a>(octets: &[u8], rest: &'a [u8]) -> Result<Accept<'a>, Fault> {
         },
         equivalents: equivalents.unwrap_or(&[]),
         t3502: match t3502 {
-            Some([octet, ..]) => seconds(*octet),
+            Some([octet, ..]) => seconds(*octet).length(),
             _ => None,
         },
         t3512: match t3512 {
-            Some([octet, ..]) => Some(long_seconds(*octet).unwrap_or(0)),
+            Some([octet, ..]) => Some(long_seconds(*octet).length().unwrap_or(0)),
             _ => None,
         },
     })

@@ -1,7 +1,7 @@
-// The registration record of document 01 with the updates of request R-5 and the faults of
-// R-1, and its seven events, updated in place.
+// The registration record of document 01 with the updates of request R-5, the faults of R-1 and
+// the waits of R-6, and its seven events, updated in place.
 
-use crate::message::{self, Accept, Message};
+use crate::message::{self, Accept, Message, Reject};
 
 pub type Network = [u8; 3];
 /// A network and a three-octet area code.
@@ -26,6 +26,8 @@ pub const SHORT: u8 = 12;
 // 13 to 18 are the faults of message.rs.
 /// A third level of requests in one another; no event is answered so.
 pub const DEEP: u8 = 19;
+/// T3346 runs on the access.
+pub const WAITING: u8 = 20;
 
 // States.
 pub const NO_SUPI: u8 = 0;
@@ -36,14 +38,15 @@ pub const INITIATED: u8 = 4;
 pub const REGISTERED: u8 = 5;
 pub const SEARCH: u8 = 6;
 
-// Places of the timers in a reply: the access is added to the first three.
+// Places of the timers in a reply: the access is added to the first four.
 pub const T3510: usize = 0;
 pub const T3511: usize = 2;
 pub const T3502: usize = 4;
-pub const T3247: usize = 6;
-pub const T3512: usize = 7;
+pub const T3346: usize = 6;
+pub const T3247: usize = 8;
+pub const T3512: usize = 9;
 /// How many places there are.
-pub const TIMERS: usize = 8;
+pub const TIMERS: usize = 10;
 
 // Types of a registration, as in octet 4 of its request.
 pub const INITIAL: u8 = 1;
@@ -54,6 +57,8 @@ const T3510_SECONDS: u32 = 15;
 const T3511_SECONDS: u32 = 10;
 const T3502_SECONDS: u16 = 720;
 const T3512_SECONDS: u32 = 3240;
+/// The low end of the draw for T3346, in seconds.
+pub const LEAST_WAIT: u16 = 900;
 const MOST_ATTEMPTS: u8 = 5;
 /// The ngKSI of no key set.
 pub const NO_KEY: u8 = 7;
@@ -159,6 +164,7 @@ pub struct Access {
     pub t3511: bool,
     pub t3502: bool,
     pub t3502_length: u16,
+    pub t3346: bool,
     pub pending: Area,
     /// The pending registration's type, of meaning in state 4 only.
     pub regtype: u8,
@@ -190,6 +196,19 @@ pub struct Record {
     pub roaming: Areas,
     pub regional: Areas,
     pub access: [Access; 2],
+}
+
+/// The seconds drawn for T3247 and T3346 with each message, whether it uses them or not.
+#[derive(Clone, Copy)]
+pub struct Drawn {
+    pub t3247: u16,
+    pub t3346: u16,
+}
+
+impl Drawn {
+    fn fits(&self) -> bool {
+        (1800..=3600).contains(&self.t3247) && (LEAST_WAIT..=1800).contains(&self.t3346)
+    }
 }
 
 #[derive(Clone, Copy, PartialEq, Debug)]
@@ -299,6 +318,7 @@ impl Access {
             t3511: false,
             t3502: false,
             t3502_length: T3502_SECONDS,
+            t3346: false,
             pending: [0; 6],
             regtype: INITIAL,
             uplink: [0; 2],
@@ -346,7 +366,7 @@ impl Access {
         self.ksi = NO_KEY;
     }
 
-    /// 5U3, clear identity and the new state: what all rows but the last two share.
+    /// 5U3, clear identity and the new state: what all rows share but 22's and the last two.
     fn barred(&mut self, state: u8) {
         self.status = 3;
         self.clear_identity();
@@ -399,6 +419,14 @@ impl Access {
         }
     }
 
+    /// 22 with a time to wait: the network bars nothing, so what is held stays.
+    fn congested_row(&mut self, a: usize, seconds: u16, reply: &mut Reply) {
+        self.attempts = 0;
+        self.status = 2;
+        self.state = if self.updating() { REGISTERED } else { ATTEMPTING };
+        reply.start(T3346 + a, &mut self.t3346, seconds.into());
+    }
+
     /// State 4 for a registration that passed its checks.
     fn initiate(&mut self, a: usize, area: Area, regtype: u8, statuses: [Sessions; 2]) -> Reply {
         let mut reply = Reply::of(TAKEN);
@@ -437,6 +465,7 @@ impl Record {
             reply.stop(T3510 + a, &mut access.t3510);
             reply.stop(T3511 + a, &mut access.t3511);
             reply.stop(T3502 + a, &mut access.t3502);
+            reply.stop(T3346 + a, &mut access.t3346);
         }
         reply.stop(T3247, &mut self.t3247);
         reply.stop(T3512, &mut self.t3512);
@@ -459,9 +488,12 @@ impl Record {
         reply
     }
 
-    /// Checks 7, 8 and 9, which a start and an update share: an answer, TAKEN if none holds.
+    /// Checks 20, 7, 8 and 9, which a start and an update share: an answer, TAKEN if none holds.
     #[inline]
     fn place(&self, a: usize, manual: bool, area: &Area) -> u8 {
+        if self.access[a].t3346 {
+            return WAITING;
+        }
         let network = network_of(area);
         let other = &self.access[1 - a];
         if other.state == INITIATED && network_of(&other.pending) == network {
@@ -526,8 +558,8 @@ impl Record {
         reply
     }
 
-    pub fn message(&mut self, access: u8, protected: u8, draw: u16, octets: &[u8]) -> Reply {
-        if access > 1 || protected > 1 || !(1800..=3600).contains(&draw) {
+    pub fn message(&mut self, access: u8, protected: u8, drawn: Drawn, octets: &[u8]) -> Reply {
+        if access > 1 || protected > 1 || !drawn.fits() {
             return Reply::of(RANGE);
         }
         let a = access as usize;
@@ -538,7 +570,7 @@ impl Record {
             Err(fault) => Reply { offset: fault.at, ..Reply::of(fault.number) },
             Ok(Message::Accept(_)) if protected == 0 => Reply::of(UNPROTECTED),
             Ok(Message::Accept(accept)) => self.accept(a, &accept),
-            Ok(Message::Reject(cause)) => self.reject(a, cause, protected == 1, draw),
+            Ok(Message::Reject(reject)) => self.reject(a, reject, protected == 1, drawn),
         }
     }
 
@@ -579,7 +611,8 @@ impl Record {
         }
     }
 
-    fn reject(&mut self, a: usize, cause: u8, protected: bool, draw: u16) -> Reply {
+    fn reject(&mut self, a: usize, reject: Reject, protected: bool, drawn: Drawn) -> Reply {
+        let cause = reject.cause;
         if matches!(cause, 3 | 6 | 7) && !protected && self.access[1 - a].registered() {
             let mut reply = Reply::of(IGNORED);
             reply.leave = Some(a as u8);
@@ -587,13 +620,17 @@ impl Record {
             return reply;
         }
         let mut reply = Reply::of(TAKEN);
-        if !self.row(a, cause, protected, &mut reply) {
+        if let Reject { cause: 22, t3346: Some(given) } = reject {
+            // Anyone could have sent a time without protection.
+            let seconds = if protected { given } else { drawn.t3346 };
+            self.access[a].congested_row(a, seconds, &mut reply);
+        } else if !self.row(a, cause, protected, &mut reply) {
             return Reply::of(FULL);
         }
         reply.stop(T3510 + a, &mut self.access[a].t3510);
         let starts = matches!(cause, 3 | 6 | 7 | 11 | 12 | 13 | 15 | 27 | 72 | 73);
         if starts && !protected && !self.t3247 {
-            reply.start(T3247, &mut self.t3247, draw.into());
+            reply.start(T3247, &mut self.t3247, drawn.t3247.into());
         }
         reply
     }
@@ -662,10 +699,11 @@ impl Record {
         list(areas, this.pending, protected);
     }
 
-    /// Timer numbers as in the log: 1 T3510, 2 T3511, 3 T3502; of access 0 alone 4 T3247 and
-    /// 5 T3512.
+    /// Timer numbers as in the log: 1 T3510, 2 T3511, 3 T3502, 6 T3346; of access 0 alone 4 T3247
+    /// and 5 T3512.
     pub fn timer(&mut self, number: u8, access: u8) -> Reply {
-        if !(1..=5).contains(&number) || access > 1 || number >= 4 && access != 0 {
+        let device = matches!(number, 4 | 5);
+        if !(1..=6).contains(&number) || access > 1 || device && access != 0 {
             return Reply::of(RANGE);
         }
         let a = access as usize;
@@ -675,7 +713,8 @@ impl Record {
             2 => (T3511 + a, &mut this.t3511),
             3 => (T3502 + a, &mut this.t3502),
             4 => (T3247, &mut self.t3247),
-            _ => (T3512, &mut self.t3512),
+            5 => (T3512, &mut self.t3512),
+            _ => (T3346 + a, &mut this.t3346),
         };
         if !*running {
             return Reply::of(NOT_RUNNING);
@@ -684,7 +723,7 @@ impl Record {
         reply.stop(timer, running);
         match number {
             1 => this.failed(a, &mut reply),
-            2 => reply.restart = Some(access),
+            2 | 6 => reply.restart = Some(access),
             3 => {
                 reply.restart = Some(access);
                 this.attempts = 0;

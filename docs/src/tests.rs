@@ -1,8 +1,8 @@
-// Scenarios worked out by hand from document 01 and requests R-1, R-3 and R-5: rustc --test
+// Scenarios worked out by hand from document 01 and requests R-1, R-3, R-5 and R-6: rustc --test
 // docs/src/main.rs
 
 use crate::log::{apply, Input, Next};
-use crate::message::{self, Fault, Message};
+use crate::message::{self, Fault, Message, Reject, Span};
 use crate::record::*;
 use crate::request;
 use std::collections::BTreeMap;
@@ -38,12 +38,17 @@ fn start(record: &mut Record, a: u8, network: Network) -> u8 {
     record.start(a, 0, area(network)).answer
 }
 
+/// What a log has with one draw alone.
+fn drawn(t3247: u16) -> Drawn {
+    Drawn { t3247, t3346: 900 }
+}
+
 fn reject(record: &mut Record, a: u8, protected: u8, cause: u8) -> Reply {
-    record.message(a, protected, 1800, &[0x7E, 0x00, 0x44, cause])
+    record.message(a, protected, drawn(1800), &[0x7E, 0x00, 0x44, cause])
 }
 
 fn accept(record: &mut Record, a: u8) -> u8 {
-    record.message(a, 1, 1800, &[0x7E, 0x00, 0x42, 0x01, 0x01]).answer
+    record.message(a, 1, drawn(1800), &[0x7E, 0x00, 0x42, 0x01, 0x01]).answer
 }
 
 fn out(record: &mut Record, number: u8, a: u8) -> Reply {
@@ -420,7 +425,7 @@ fn faulty(number: u8, at: usize) -> Reply {
 
 fn cause(octets: &[u8]) -> Option<u8> {
     match message::read(octets) {
-        Ok(Message::Reject(cause)) => Some(cause),
+        Ok(Message::Reject(reject)) => Some(reject.cause),
         _ => None,
     }
 }
@@ -458,17 +463,22 @@ fn elements() {
     assert_eq!(cause(&[]), None);
 }
 
-/// Fact 10, and the timer octet's other units.
+/// Fact 10, and each unit of GPRS timer 2 with every count.
 #[test]
 fn timer_octets() {
-    assert_eq!(message::seconds(0x3F), Some(1860));
-    assert_eq!(message::seconds(0x5F), Some(11160));
-    assert_eq!(message::seconds(0xE5), None);
-    assert_eq!(message::seconds(0x00), Some(0));
-    assert_eq!(message::seconds(0x20), Some(0));
-    assert_eq!(message::seconds(0x1F), Some(62));
-    for octet in [0x7F, 0x9F, 0xBF, 0xDF] {
-        assert_eq!(message::seconds(octet), Some(1860));
+    assert_eq!(message::seconds(0x3F), Span::Seconds(1860));
+    assert_eq!(message::seconds(0x5F), Span::Seconds(11160));
+    assert_eq!(message::seconds(0xE5), Span::Deactivated);
+    for (top, unit) in [2, 60, 360, 60, 60, 60, 60].into_iter().enumerate() {
+        let octet = (top as u8) << 5;
+        assert_eq!(message::seconds(octet), Span::Zero, "{octet:02X}");
+        for count in 1..32 {
+            let span = Span::Seconds(unit * count as u16);
+            assert_eq!(message::seconds(octet | count), span, "{octet:02X} {count}");
+        }
+    }
+    for octet in 0xE0..=0xFF {
+        assert_eq!(message::seconds(octet), Span::Deactivated, "{octet:02X}");
     }
 }
 
@@ -551,7 +561,7 @@ fn accept_event() {
     let mut expected = Reply::of(0);
     expected.timers[T3510] = Change::Stopped;
     expected.timers[T3512] = Change::Started(3240);
-    assert_eq!(record.message(0, 1, 3600, &octets), expected);
+    assert_eq!(record.message(0, 1, drawn(3600), &octets), expected);
     let this = &record.access[0];
     assert_eq!((this.state, this.status, this.attempts, this.t3510), (5, 1, 0, false));
     assert_eq!((this.guti, this.last, this.ksi), (Some(new), Some(area(AWAY)), 3));
@@ -591,10 +601,10 @@ fn messages_are_checked_in_order() {
         (0, 1, 1800, &[0x7E, 0x00, 0x41, 0x71], faulty(16, 2)),
         (0, 0, 1800, &accept, Reply::of(10)),
     ] {
-        assert_eq!(record.message(access, protected, draw, octets), refused);
+        assert_eq!(record.message(access, protected, drawn(draw), octets), refused);
         assert_eq!(text(&record), before);
     }
-    assert_eq!(record.message(0, 0, 3600, &reject).timers[T3247], Change::Started(3600));
+    assert_eq!(record.message(0, 0, drawn(3600), &reject).timers[T3247], Change::Started(3600));
 }
 
 #[test]
@@ -710,11 +720,12 @@ fn timers_of_a_record_handed_in() {
 fn timer_checks() {
     let mut record = limited(3);
     for (number, access, answer) in
-        [(0, 0, 1), (6, 0, 1), (1, 2, 1), (4, 1, 1), (4, 2, 1), (4, 0, 11), (5, 1, 1), (5, 0, 11)]
+        [(0, 0, 1), (7, 0, 1), (1, 2, 1), (4, 1, 1), (4, 2, 1), (4, 0, 11), (5, 1, 1), (5, 0, 11)]
     {
         assert_eq!(out(&mut record, number, access), Reply::of(answer));
     }
-    for number in 1..=3 {
+    for number in [1, 2, 3, 6] {
+        assert_eq!(out(&mut record, number, 2), Reply::of(1));
         for access in 0..2 {
             assert_eq!(out(&mut record, number, access), Reply::of(11));
         }
@@ -1133,7 +1144,10 @@ fn kinds_and_lengths() {
         (&[4, 0, 2, 0], 11),
         (&[4, 0, 5, 0], 11),
         (&[4, 0, 5, 1], 1),
-        (&[4, 0, 6, 0], 1),
+        (&[4, 0, 6, 0], 11),
+        (&[4, 0, 6, 1], 11),
+        (&[4, 0, 6, 2], 1),
+        (&[4, 0, 7, 0], 1),
         (&[6, 0, 0], 1),
         (&[6, 0, 0, 4, 0], 1),
         (&[6, 0, 0, 4], 0),
@@ -1199,15 +1213,18 @@ impl Draws {
 
     fn message(&mut self, record: &mut Record, a: u8) -> Reply {
         let causes = [3, 6, 7, 11, 12, 13, 15, 22, 27, 72, 73, 95];
+        let drawn = Drawn { t3247: 2000, t3346: 899 + 100 * self.below(10) as u16 };
         if self.below(5) > 1 {
-            let reject = [0x7E, 0, 0x44, causes[self.below(12) as usize]];
-            return record.message(a, self.below(2), 2000, &reject);
+            let cause = causes[self.below(12) as usize];
+            let reject = [0x7E, 0, 0x44, cause, 0x5F, 1, self.below(256)];
+            let length = [4, 7][self.below(2) as usize];
+            return record.message(a, self.below(2), drawn, &reject[..length]);
         }
         if self.below(8) == 0 {
-            return record.message(a, self.below(2), 2000, &self.octets());
+            return record.message(a, self.below(2), drawn, &self.octets());
         }
         let timer = [0x16, 0x5E][self.below(2) as usize];
-        record.message(a, 1, 2000, &[0x7E, 0, 0x42, 1, 1, timer, 1, self.below(256)])
+        record.message(a, 1, drawn, &[0x7E, 0, 0x42, 1, 1, timer, 1, self.below(256)])
     }
 
     fn event(&mut self, record: &mut Record) -> Reply {
@@ -1215,7 +1232,7 @@ impl Draws {
         match self.below(15) {
             0..=4 => record.start(a, self.below(4) / 3, self.area()),
             5..=9 => self.message(record, a),
-            10 => record.timer(1 + self.below(3), a),
+            10 => record.timer([1, 2, 3, 6][self.below(4) as usize], a),
             11 => record.key(a, self.below(8)),
             12 | 13 => self.update(record, a),
             _ => match self.below(40) {
@@ -1228,18 +1245,29 @@ impl Draws {
     }
 }
 
-/// A refusal changes nothing and names no timer; every event keeps the record valid. T3512
-/// runs in state 5 of access 0 alone, since each event that leaves it stops T3512.
+/// What holds beyond `valid` for a record that events have made. T3512 runs in state 5 of access 0
+/// alone, since each event that leaves it stops T3512; and nothing is tried while T3346 runs.
+fn reached(record: &Record) {
+    assert!(!record.t3512 || record.access[0].state == 5);
+    for access in record.access.iter().filter(|access| access.t3346) {
+        assert!(matches!((access.state, access.status, access.attempts), (3 | 5, 2, 0)));
+        assert!(!access.t3510 && !access.t3511 && !access.t3502);
+    }
+}
+
+/// A refusal changes nothing and names no timer; every event keeps the record valid.
 #[test]
 fn events_at_random() {
     let mut draws = Draws(1);
     let mut record = limited(2);
     let mut updates = [0; 2];
+    let mut waits = [0; 2];
     for _ in 0..200_000 {
         let before = record;
         let reply = draws.event(&mut record);
         valid(&record);
-        assert!(!record.t3512 || record.access[0].state == 5);
+        reached(&record);
+        waits[0] += usize::from(reply.answer == WAITING);
         if reply.answer != 0 {
             assert_eq!(reply.timers, [Change::Left; TIMERS]);
             assert_eq!(reply.leave.is_some(), reply.answer == 2);
@@ -1251,9 +1279,11 @@ fn events_at_random() {
             if before.access[a].state == 5 && record.access[a].state == 4 {
                 updates[record.access[a].regtype as usize - 2] += 1;
             }
+            waits[1] += usize::from(record.access[a].t3346 && !before.access[a].t3346);
         }
     }
     assert!(updates.iter().all(|&taken| taken > 100), "{updates:?}");
+    assert!(waits.iter().all(|&times| times > 100), "{waits:?}");
 }
 
 // Request R-5: updates and T3512.
@@ -1269,7 +1299,7 @@ fn update(record: &mut Record, a: u8, regtype: u8, network: Network) -> u8 {
 
 /// A protected accept with elements.
 fn accept_with(record: &mut Record, a: u8, elements: &[u8]) -> Reply {
-    record.message(a, 1, 1800, &[&[0x7E, 0x00, 0x42, 0x01, 0x01], elements].concat())
+    record.message(a, 1, drawn(1800), &[&[0x7E, 0x00, 0x42, 0x01, 0x01], elements].concat())
 }
 
 fn states(record: &Record) -> (u8, u8) {
@@ -1737,16 +1767,17 @@ fn long_timer_octets() {
     for (top, unit) in [600, 3600, 36_000, 2, 30, 60, 1_152_000].into_iter().enumerate() {
         for count in [0, 1, 31] {
             let octet = (top as u8) << 5 | count;
-            assert_eq!(message::long_seconds(octet), Some(unit * count as u32), "{octet:02X}");
+            let span = if count == 0 { Span::Zero } else { Span::Seconds(unit * count as u32) };
+            assert_eq!(message::long_seconds(octet), span, "{octet:02X}");
         }
     }
     for octet in 0xE0..=0xFF {
-        assert_eq!(message::long_seconds(octet), None);
+        assert_eq!(message::long_seconds(octet), Span::Deactivated);
     }
-    assert_eq!(message::long_seconds(0x2A), Some(36_000));
-    assert_eq!(message::long_seconds(0x49), Some(324_000));
-    assert_eq!(message::long_seconds(0x9F), Some(930));
-    assert_eq!(message::long_seconds(0xDF), Some(35_712_000));
+    assert_eq!(message::long_seconds(0x2A), Span::Seconds(36_000));
+    assert_eq!(message::long_seconds(0x49), Span::Seconds(324_000));
+    assert_eq!(message::long_seconds(0x9F), Span::Seconds(930));
+    assert_eq!(message::long_seconds(0xDF), Span::Seconds(35_712_000));
 }
 
 /// What an accept with these elements gives for T3512.
@@ -1776,7 +1807,7 @@ fn t3512_in_accepts() {
     }
     let mut record = pending(0, AWAY);
     let cut = [0x7E, 0x00, 0x42, 0x01, 0x01, 0x5E, 0x02, 0x21];
-    assert_eq!(record.message(0, 1, 1800, &cut), faulty(17, 5));
+    assert_eq!(record.message(0, 1, drawn(1800), &cut), faulty(17, 5));
 }
 
 /// Requests of all types: 40 and 50 stand beside 10 and after 52, in updates alone.
@@ -1917,15 +1948,16 @@ fn full_line() {
     crate::full::reply(&mut line, &reply);
     crate::full::record(&mut line, &record);
     let parts = [
-        "= 0 at 0 T3510 started:15 left T3511 left left T3502 left left T3247 left T3512 stopped \
-         restart - leave - update -",
+        "= 0 at 0 T3510 started:15 left T3511 left left T3502 left left T3346 left left \
+         T3247 left T3512 stopped restart - leave - update -",
         "card 1 home 00f110 suci 0100f110f0ff000007 limits 3 3 3 cap 00 sec f0f0 T3247 0 T3512 0 \
          length 3240 due 0 roaming - regional -",
-        "0 state 4 status 1 attempts 0 T3510 1 T3511 0 T3502 0 length 720 pending 62f22000002a \
-         type 2 uplink 2000 sessions a001 guti - last 00f22000002a ksi 7 equivalents - cards 0 \
-         entries -",
-        "1 state 1 status 2 attempts 0 T3510 0 T3511 0 T3502 0 length 720 pending 000000000000 \
-         type 1 uplink 0000 sessions 0000 guti - last - ksi 7 equivalents - cards 0 entries -",
+        "0 state 4 status 1 attempts 0 T3510 1 T3511 0 T3502 0 length 720 T3346 0 \
+         pending 62f22000002a type 2 uplink 2000 sessions a001 guti - last 00f22000002a ksi 7 \
+         equivalents - cards 0 entries -",
+        "1 state 1 status 2 attempts 0 T3510 0 T3511 0 T3502 0 length 720 T3346 0 \
+         pending 000000000000 type 1 uplink 0000 sessions 0000 guti - last - ksi 7 \
+         equivalents - cards 0 entries -",
     ];
     assert_eq!(line, parts.join(" | "));
 }
@@ -1935,8 +1967,8 @@ fn full_line() {
 fn fault_lines() {
     let mut line = String::new();
     crate::full::reply(&mut line, &faulty(17, 305));
-    let told = "= 17 at 305 T3510 left left T3511 left left T3502 left left T3247 left T3512 left \
-                restart - leave - update -";
+    let told = "= 17 at 305 T3510 left left T3511 left left T3502 left left T3346 left left \
+                T3247 left T3512 left restart - leave - update -";
     assert_eq!(line, told);
     for (octets, told) in [
         (&[][..], "13 at 0"),
@@ -2053,6 +2085,13 @@ const MESSAGES: &[(&str, Option<(u8, usize)>)] = &[
     ("7E 00 44 0B 5F 03 05 00", Some((17, 4))),
     ("7E 00 44 0B 5F 02 05 00", None),
     ("7E 00 44 0B 5F 01 05 00 00", Some((18, 7))),
+    // Cause 22 with T3346, which does not count where another element is at fault.
+    ("7E 00 44 16 5F 01 2F 16 01 3F", None),
+    ("7E 00 44 16 5F 01", Some((17, 4))),
+    ("7E 00 44 16 5F 02 21", Some((17, 4))),
+    ("7E 00 44 16 5F 01 21 5F", Some((17, 7))),
+    ("7E 00 44 16 5F 01 21 05 00", Some((18, 7))),
+    ("7E 00 44 16 05 00 5F 01 21", Some((18, 4))),
 ];
 
 /// Each in state 4, with and without protection: the fault's reply, and nothing changes.
@@ -2065,7 +2104,7 @@ fn faults_of_messages() {
         for (a, protected) in [(0, 0), (0, 1), (1, 0), (1, 1)] {
             let mut record = pending(a, AWAY);
             let before = text(&record);
-            let reply = record.message(a as u8, protected, 1800, &octets);
+            let reply = record.message(a as u8, protected, drawn(1800), &octets);
             if let Some((number, at)) = *fault {
                 assert_eq!(reply, faulty(number, at), "{text_of}");
                 assert_eq!(text(&record), before);
@@ -2096,20 +2135,20 @@ fn faults_in_the_order_of_checks() {
     for &(end, number) in ends {
         let accept = [&[0x7E, 0x00, 0x42, 0x01, 0x01][..], end].concat();
         let mut record = pending(0, AWAY);
-        assert_eq!(record.message(2, 0, 1800, &accept), Reply::of(1));
-        assert_eq!(record.message(0, 0, 1799, &accept), Reply::of(1));
-        assert_eq!(record.message(1, 0, 1800, &accept), Reply::of(6));
-        assert_eq!(record.message(0, 0, 1800, &accept), faulty(number, 5));
+        assert_eq!(record.message(2, 0, drawn(1800), &accept), Reply::of(1));
+        assert_eq!(record.message(0, 0, drawn(1799), &accept), Reply::of(1));
+        assert_eq!(record.message(1, 0, drawn(1800), &accept), Reply::of(6));
+        assert_eq!(record.message(0, 0, drawn(1800), &accept), faulty(number, 5));
         // Cause 3 while the other access is registered: 2. A full table: 4.
         let rejected = |cause| [&[0x7E, 0x00, 0x44, cause][..], end].concat();
         record.access[1].state = REGISTERED;
-        assert_eq!(record.message(0, 0, 1800, &rejected(3)), faulty(number, 4));
-        assert_eq!(record.message(0, 0, 1800, &rejected(3)[..4]).answer, 2);
+        assert_eq!(record.message(0, 0, drawn(1800), &rejected(3)), faulty(number, 4));
+        assert_eq!(record.message(0, 0, drawn(1800), &rejected(3)[..4]).answer, 2);
         for index in 1..=16 {
             record.access[0].entries.push(Entry { network: [index, 0, 0], ..Entry::default() });
         }
-        assert_eq!(record.message(0, 0, 1800, &rejected(11)), faulty(number, 4));
-        assert_eq!(record.message(0, 0, 1800, &rejected(11)[..4]).answer, 4);
+        assert_eq!(record.message(0, 0, drawn(1800), &rejected(11)), faulty(number, 4));
+        assert_eq!(record.message(0, 0, drawn(1800), &rejected(11)[..4]).answer, 4);
     }
 }
 
@@ -2735,4 +2774,553 @@ fn faults_of_messages_at_random() {
         counts.hold(&draws.levels());
     }
     counts.seen_of_requests(0..2, 1000);
+}
+
+// Request R-6: a network that asks for time.
+
+/// Draws that are at no end of their ranges.
+const DRAWN: Drawn = Drawn { t3247: 2000, t3346: 1000 };
+/// T3346 of 60 s.
+const MINUTE: &[u8] = &[0x5F, 0x01, 0x21];
+
+/// Elements of a reject that give a time to wait, and its seconds.
+const TIMES: &[(&[u8], u16)] = &[
+    (MINUTE, 60),
+    (&[0x5F, 0x01, 0x01], 2),
+    (&[0x5F, 0x01, 0x1F], 62),
+    (&[0x5F, 0x01, 0x3F], 1860),
+    (&[0x5F, 0x01, 0x41], 360),
+    (&[0x5F, 0x01, 0x5F], 11160),
+    (&[0x5F, 0x01, 0x61], 60),
+    (&[0x5F, 0x01, 0xDF], 1860),
+    // Of a reject 16 is not known.
+    (&[0x5F, 0x01, 0x2F, 0x16, 0x01, 0x3F], 900),
+    (&[0x16, 0x01, 0x3F, 0x5F, 0x01, 0x2F], 900),
+    (&[0x9F, 0x70, 0x00, 0x01, 0x00, 0x5F, 0x01, 0x22], 120),
+    // Further octets are ignored, and so is a second element.
+    (&[0x5F, 0x02, 0x21, 0xE0], 60),
+    (&[0x5F, 0x04, 0x22, 0x00, 0x00, 0x00], 120),
+    (&[0x5F, 0x01, 0x21, 0x5F, 0x01, 0x22], 60),
+    (&[0x5F, 0x01, 0x21, 0x5F, 0x01, 0xE0], 60),
+    (&[0x5F, 0x01, 0x21, 0x5F, 0x01, 0x00], 60),
+    (&[0x5F, 0x01, 0x21, 0x5F, 0x00], 60),
+];
+
+/// Elements of a reject that give none.
+const NO_TIME: &[&[u8]] = &[
+    &[],
+    &[0x5F, 0x00],
+    // Zero.
+    &[0x5F, 0x01, 0x00],
+    &[0x5F, 0x01, 0x20],
+    &[0x5F, 0x01, 0x40],
+    &[0x5F, 0x01, 0x60],
+    &[0x5F, 0x01, 0xC0],
+    // Deactivated.
+    &[0x5F, 0x01, 0xE0],
+    &[0x5F, 0x01, 0xE5],
+    &[0x5F, 0x01, 0xFF],
+    // The first counts, even where it reads as absent; of its octets the first alone.
+    &[0x5F, 0x00, 0x5F, 0x01, 0x21],
+    &[0x5F, 0x01, 0x00, 0x5F, 0x01, 0x21],
+    &[0x5F, 0x01, 0xE0, 0x5F, 0x01, 0x21],
+    &[0x5F, 0x02, 0x00, 0x21],
+    // Other elements.
+    &[0x16, 0x01, 0x21],
+    &[0x5E, 0x01, 0x21],
+    &[0x16, 0x03, 0x5F, 0x01, 0x21],
+];
+
+fn reject_with(record: &mut Record, a: usize, protected: u8, cause: u8, elements: &[u8]) -> Reply {
+    let octets = [&[0x7E, 0x00, 0x44, cause], elements].concat();
+    record.message(a as u8, protected, DRAWN, &octets)
+}
+
+/// A taken reject's reply that starts T3346.
+fn waits(a: usize, seconds: u16) -> Reply {
+    reply(a, false, Some((T3346, seconds.into())))
+}
+
+/// The reply of T3346 out.
+fn waited(a: usize) -> Reply {
+    let mut reply = Reply::of(0);
+    reply.timers[T3346 + a] = Change::Stopped;
+    reply.restart = Some(a as u8);
+    reply
+}
+
+/// State 4 on each access by a start and by updates of both types, each with and without
+/// protection.
+fn pendings() -> impl Iterator<Item = (usize, u8, Record)> {
+    (0..12).map(|case: usize| {
+        let (a, protected, regtype) = (case % 2, (case / 2 % 2) as u8, (case / 4) as u8 + 1);
+        let mut record = if regtype == 1 { pending(a, AWAY) } else { updating(a, AWAY) };
+        record.access[a].regtype = regtype;
+        (a, protected, record)
+    })
+}
+
+/// The record with more that a reject could change: entries, lists, a fifth attempt, and all
+/// timers but T3346 and T3510 as they may run in a record handed in.
+fn laden(mut record: Record) -> Record {
+    let entry = Entry { network: AWAY, ban: 2, n1: 1, forbidden: true, n1_barred: true };
+    for access in &mut record.access {
+        access.entries.push(entry);
+        (access.t3511, access.t3502, access.attempts, access.status) = (true, true, 5, 3);
+    }
+    record.roaming.push(Listed { area: area(AWAY), protected: true });
+    record.regional.push(Listed { area: area(HOME), protected: false });
+    (record.t3247, record.t3512, record.due) = (true, true, true);
+    record
+}
+
+/// What a reject with these elements says.
+fn rejected(cause: u8, elements: &[u8]) -> Reject {
+    match message::read(&[&[0x7E, 0x00, 0x44, cause], elements].concat()) {
+        Ok(Message::Reject(reject)) => reject,
+        _ => panic!("a reject"),
+    }
+}
+
+#[test]
+fn t3346_in_rejects() {
+    for cause in [22, 11, 0, 255] {
+        for &(elements, seconds) in TIMES {
+            let said = Reject { cause, t3346: Some(seconds) };
+            assert_eq!(rejected(cause, elements), said, "{elements:02X?}");
+        }
+        for elements in NO_TIME {
+            let said = Reject { cause, t3346: None };
+            assert_eq!(rejected(cause, elements), said, "{elements:02X?}");
+        }
+    }
+}
+
+/// Cause 22 with a time: attempt counter 0, 5U2, state 3 or 5, T3510 stops, T3346 runs for the
+/// time given or the one drawn, and nothing else changes.
+#[test]
+fn a_network_that_asks_for_time() {
+    let both = |(a, protected, record)| [(a, protected, record), (a, protected, laden(record))];
+    for (a, protected, record) in pendings().flat_map(both) {
+        let mut after = record;
+        let this = &mut after.access[a];
+        this.state = if this.regtype == 1 { 3 } else { 5 };
+        (this.status, this.attempts, this.t3510, this.t3346) = (2, 0, false, true);
+        for &(elements, given) in TIMES {
+            let mut record = record;
+            let got = reject_with(&mut record, a, protected, 22, elements);
+            let seconds = if protected == 1 { given } else { 1000 };
+            assert_eq!(got, waits(a, seconds), "{elements:02X?}");
+            assert_eq!(text(&record), text(&after));
+            valid(&record);
+        }
+    }
+}
+
+/// Without a time, as T3510 out: also at the last attempt.
+#[test]
+fn a_network_that_asks_for_no_time() {
+    for (a, protected, record) in pendings() {
+        for (case, elements) in NO_TIME.iter().cycle().take(3 * NO_TIME.len()).enumerate() {
+            let mut rejected = record;
+            rejected.access[a].attempts = [2, 4, 5][case / NO_TIME.len()];
+            let mut failed = rejected;
+            let expected = out(&mut failed, 1, a as u8);
+            assert_eq!(reject_with(&mut rejected, a, protected, 22, elements), expected);
+            assert_eq!(text(&rejected), text(&failed), "{elements:02X?}");
+            assert!(!rejected.access[a].t3346);
+        }
+    }
+}
+
+/// Any other cause with a time is as without.
+#[test]
+fn other_causes_do_not_ask_for_time() {
+    for (a, protected, record) in pendings() {
+        for cause in (0..=255).filter(|&cause| cause != 22) {
+            let (mut with, mut without) = (record, record);
+            let reply = reject_with(&mut with, a, protected, cause, MINUTE);
+            assert_eq!(reply, reject_with(&mut without, a, protected, cause, &[]), "{cause}");
+            assert_eq!(reply.answer, 0);
+            assert_eq!(text(&with), text(&without), "{cause}");
+            assert!(!with.access[a].t3346);
+        }
+    }
+}
+
+/// Cause 22 needs no entry, and the two-access rule does not name it.
+#[test]
+fn a_time_to_wait_is_always_taken() {
+    for (a, protected, mut record) in pendings() {
+        for index in 1..=16 {
+            record.access[a].entries.push(Entry { network: [index, 0, 0], ..Entry::default() });
+        }
+        record.access[1 - a].state = 5;
+        assert_eq!(reject_with(&mut record, a, protected, 27, MINUTE).answer, 4);
+        assert_eq!(reject_with(&mut record, a, 0, 3, MINUTE).answer, 2);
+        assert_eq!(reject_with(&mut record, a, protected, 22, MINUTE).answer, 0);
+        assert!(record.access[a].t3346 && !record.access[1 - a].t3346);
+    }
+}
+
+/// Of the range, then 5 and 6, then 20, before 7, 8 and 9; manual or not.
+#[test]
+fn starts_while_t3346_runs() {
+    let mut record = thrice_refused();
+    record.access[0].t3346 = true;
+    let refused = |record: &mut Record, manual: u8, network: Network, answer: u8| {
+        let before = text(record);
+        assert_eq!(record.start(0, manual, area(network)), Reply::of(answer));
+        assert_eq!(text(record), before);
+    };
+    for (state, answer) in [(0, 5), (1, 20), (2, 20), (4, 6), (5, 6), (6, 20), (3, 20)] {
+        record.access[0].state = state;
+        for (manual, network) in [(0, AWAY), (1, AWAY), (0, NEAR), (1, HOME)] {
+            refused(&mut record, manual, network, answer);
+        }
+        refused(&mut record, 2, AWAY, 1);
+        refused(&mut record, 0, [0x0A, 0xF2, 0x20], 1);
+    }
+    record.access[0].t3346 = false;
+    refused(&mut record, 0, AWAY, 7);
+    record.access[1].state = 5;
+    refused(&mut record, 0, AWAY, 8);
+    record.access[0].t3346 = true;
+    refused(&mut record, 0, AWAY, 20);
+    record.access[0].entries.clear();
+    refused(&mut record, 1, AWAY, 20);
+    record.access[0].t3346 = false;
+    refused(&mut record, 1, AWAY, 9);
+    assert_eq!(start(&mut record, 0, NEAR), 0);
+}
+
+/// Of the range, then 6, also where a periodic one is not due, then 20, before 7, 8 and 9.
+#[test]
+fn updates_while_t3346_runs() {
+    let mut record = thrice_refused();
+    record.access[0].t3346 = true;
+    let refused = |record: &mut Record, regtype: u8, answer: u8| {
+        let before = text(record);
+        assert_eq!(record.update(0, regtype, area(AWAY), MOVED), Reply::of(answer));
+        assert_eq!(text(record), before);
+    };
+    refused(&mut record, 1, 1);
+    refused(&mut record, 3, 6);
+    refused(&mut record, 2, 20);
+    record.due = true;
+    refused(&mut record, 3, 20);
+    assert_eq!(record.update(0, 2, area(NEAR), [[0x01, 0x00]; 2]), Reply::of(1));
+    assert_eq!(record.update(0, 2, area(NEAR), MOVED), Reply::of(20));
+    for state in [0, 1, 2, 3, 4, 6] {
+        record.access[0].state = state;
+        refused(&mut record, 2, 6);
+        refused(&mut record, 3, 6);
+    }
+    record.access[0].state = 5;
+    record.access[0].t3346 = false;
+    refused(&mut record, 2, 7);
+    record.access[1].state = 5;
+    refused(&mut record, 3, 8);
+    record.access[0].entries.clear();
+    refused(&mut record, 2, 9);
+    assert_eq!(update(&mut record, 0, 2, NEAR), 0);
+}
+
+/// In an update: 6 comes before 20.
+#[test]
+fn a_wait_in_an_update() {
+    let mut record = registered(0, AWAY);
+    assert_eq!(update(&mut record, 0, 2, AWAY), 0);
+    assert_eq!(reject_with(&mut record, 0, 1, 22, MINUTE), waits(0, 60));
+    assert_eq!(states(&record), (5, 1));
+    assert_eq!(update(&mut record, 0, 3, AWAY), 6);
+    assert_eq!(update(&mut record, 0, 2, AWAY), 20);
+    assert_eq!(start(&mut record, 0, AWAY), 6);
+    // Access 0 is registered all the while.
+    assert_eq!(start(&mut record, 1, AWAY), 0);
+    assert_eq!(reject(&mut record, 1, 0, 3).answer, 2);
+    assert_eq!(out(&mut record, 6, 0), waited(0));
+    assert_eq!(states(&record), (5, 4));
+    assert_eq!(update(&mut record, 0, 2, NEAR), 0);
+    assert_eq!(accept(&mut record, 0), 0);
+}
+
+/// In a start: then nothing but T3346 out lets it be tried again.
+#[test]
+fn a_wait_in_a_start() {
+    let mut record = limited(3);
+    for attempts in 1..=4 {
+        assert_eq!(start(&mut record, 0, AWAY), 0);
+        assert_eq!(out(&mut record, 1, 0).answer, 0);
+        assert_eq!(record.access[0].attempts, attempts);
+    }
+    assert_eq!(start(&mut record, 0, AWAY), 0);
+    assert_eq!(reject_with(&mut record, 0, 0, 22, MINUTE), waits(0, 1000));
+    let before = text(&record);
+    assert_eq!(start(&mut record, 0, AWAY), 20);
+    assert_eq!(record.start(0, 1, area(NEAR)), Reply::of(20));
+    assert_eq!(update(&mut record, 0, 2, AWAY), 6);
+    assert_eq!(record.key(0, 1), Reply::of(6));
+    assert_eq!(reject_with(&mut record, 0, 0, 22, MINUTE), Reply::of(6));
+    for (number, a) in [(1, 0), (2, 0), (3, 0), (6, 1)] {
+        assert_eq!(out(&mut record, number, a), Reply::of(11));
+    }
+    assert_eq!(text(&record), before);
+    assert_eq!(out(&mut record, 6, 0), waited(0));
+    assert_eq!(out(&mut record, 6, 0), Reply::of(11));
+    assert_eq!(start(&mut record, 0, AWAY), 0);
+    assert_eq!(out(&mut record, 1, 0), reply(0, false, RETRY));
+    assert_eq!(record.access[0].attempts, 1);
+}
+
+/// Each access has its own T3346.
+#[test]
+fn a_wait_on_one_access() {
+    for (a, b) in [(0, 1), (1, 0)] {
+        let (this, other) = (a as u8, b as u8);
+        let mut record = limited(3);
+        assert_eq!(start(&mut record, this, AWAY), 0);
+        assert_eq!(reject_with(&mut record, a, 1, 22, MINUTE), waits(a, 60));
+        assert_eq!(start(&mut record, other, AWAY), 0);
+        assert_eq!(reject_with(&mut record, b, 0, 22, MINUTE), waits(b, 1000));
+        assert_eq!(states(&record), (3, 3));
+        assert_eq!(out(&mut record, 6, this), waited(a));
+        assert_eq!(start(&mut record, this, AWAY), 0);
+        assert_eq!(start(&mut record, other, AWAY), 20);
+        assert_eq!(out(&mut record, 6, other), waited(b));
+        assert_eq!(start(&mut record, other, AWAY), 7);
+        register(&mut record, other, NEAR);
+        record.access[a].t3346 = true;
+        assert_eq!(update(&mut record, other, 2, NEAR), 0);
+    }
+}
+
+/// T3346 out in each state: it stops, a restart of its access is asked, nothing else changes.
+#[test]
+fn t3346_out() {
+    for (a, state) in (0..14).map(|case| (case % 2, case as u8 / 2)) {
+        let mut record = laden(limited(3));
+        record.access[a].state = state;
+        record.access[1 - a].t3346 = true;
+        assert_eq!(out(&mut record, 6, a as u8), Reply::of(11));
+        let after = text(&record);
+        record.access[a].t3346 = true;
+        assert_eq!(out(&mut record, 6, a as u8), waited(a));
+        assert_eq!(text(&record), after);
+        assert_eq!((record.access[a].state, record.access[a].attempts), (state, 5));
+    }
+}
+
+#[test]
+fn power_and_card_stop_t3346() {
+    for running in [[true, true], [true, false], [false, true], [false, false]] {
+        let mut record = limited(3);
+        let mut expected = Reply::of(0);
+        for a in (0..2).filter(|&a| running[a]) {
+            record.access[a].t3346 = true;
+            expected.timers[T3346 + a] = Change::Stopped;
+        }
+        let (mut carded, mut bare) = (record, record);
+        bare.card = false;
+        (bare.access[0].state, bare.access[1].state) = (0, 0);
+        for record in [&mut carded, &mut bare] {
+            assert_eq!(record.power(), expected);
+            assert!(record.access.iter().all(|access| !access.t3346));
+            assert_eq!(start(record, 0, AWAY), if record.card { 0 } else { 5 });
+        }
+        assert_eq!(record.card(HOME, &SUCI), expected);
+        assert_eq!(text(&record), text(&limited(3)));
+        assert_eq!((start(&mut record, 0, AWAY), start(&mut record, 1, NEAR)), (0, 0));
+    }
+}
+
+/// Of records handed in, T3346 running in state 4: a time to wait starts it again, and no other
+/// message, nor T3510 out, names it.
+#[test]
+fn a_running_t3346_of_a_record_handed_in() {
+    for (a, protected, mut record) in pendings() {
+        record.access[a].t3346 = true;
+        let [mut again, mut accepted, mut failed, mut rejected, mut barred] = [record; 5];
+        let seconds = if protected == 1 { 60 } else { 1000 };
+        assert_eq!(reject_with(&mut again, a, protected, 22, MINUTE), waits(a, seconds));
+        for reply in [
+            accept_with(&mut accepted, a as u8, &[]),
+            out(&mut failed, 1, a as u8),
+            reject_with(&mut rejected, a, protected, 22, &[]),
+            reject_with(&mut barred, a, protected, 11, MINUTE),
+        ] {
+            assert_eq!((reply.answer, reply.timers[T3346 + a]), (0, Change::Left));
+        }
+        for record in [again, accepted, failed, rejected, barred] {
+            assert!(record.access[a].t3346);
+        }
+    }
+}
+
+/// The second draw, 900 to 1800 s, is checked before the state and the octets, used or not.
+#[test]
+fn second_draws() {
+    let wait = [&[0x7E, 0x00, 0x44, 0x16], MINUTE].concat();
+    let messages: [&[u8]; 6] = [
+        &wait,
+        &wait[..4],
+        &[0x7E, 0x00, 0x44, 0x0B],
+        &[0x7E, 0x00, 0x42, 0x01, 0x01],
+        &wait[..5],
+        &[],
+    ];
+    for (octets, protected) in messages.iter().flat_map(|octets| [(octets, 0), (octets, 1)]) {
+        let mut record = pending(0, AWAY);
+        let before = text(&record);
+        for t3346 in [0, 899, 1801, 65535] {
+            for a in 0..2 {
+                let drawn = Drawn { t3247: 1800, t3346 };
+                assert_eq!(record.message(a, protected, drawn, octets), Reply::of(1));
+            }
+        }
+        assert_eq!(text(&record), before);
+        for t3346 in [900, 1800] {
+            let mut heard = record;
+            let reply = heard.message(0, protected, Drawn { t3247: 3600, t3346 }, octets);
+            assert_ne!(reply.answer, 1);
+            let used = octets.len() == wait.len() && protected == 0;
+            assert_eq!(reply.timers[T3346] == Change::Started(t3346.into()), used);
+            let drawn = Drawn { t3247: 3601, t3346 };
+            assert_eq!(record.message(0, protected, drawn, octets), Reply::of(1));
+        }
+    }
+}
+
+/// Kind 8 of the log: two draws, low octet first, before the message; kind 3 stands for 900.
+#[test]
+fn second_draws_in_logs() {
+    let whole = octets("08 00 00 00 D0 07 E8 03 7E 00 44 16 5F 01 21");
+    for length in 2..8 {
+        assert_eq!(apply(&mut pending(0, AWAY), &whole[..length]), Reply::of(1));
+    }
+    for (text_of, expected) in [
+        ("08 00 00 00 D0 07 E8 03 7E 00 44 16 5F 01 21", waits(0, 1000)),
+        ("08 00 00 00 D0 07 84 03 7E 00 44 16 5F 01 21", waits(0, 900)),
+        ("08 00 00 00 D0 07 08 07 7E 00 44 16 5F 01 21", waits(0, 1800)),
+        ("08 00 00 01 D0 07 08 07 7E 00 44 16 5F 01 21", waits(0, 60)),
+        ("03 00 00 00 D0 07 7E 00 44 16 5F 01 21", waits(0, 900)),
+        ("03 00 00 01 D0 07 7E 00 44 16 5F 01 21", waits(0, 60)),
+        ("08 00 00 00 08 07 E8 03 7E 00 44 0C", reply(0, true, None)),
+        ("08 00 00 00 D0 07 83 03 7E 00 44 16 5F 01 21", Reply::of(1)),
+        ("08 00 00 00 D0 07 09 07 7E 00 44 16 5F 01 21", Reply::of(1)),
+        ("08 00 00 00 E8 03 D0 07 7E 00 44 16 5F 01 21", Reply::of(1)),
+        ("08 00 00 00 D0 07 03 E8 7E 00 44 16 5F 01 21", Reply::of(1)),
+        ("08 00 00 00 07 07 E8 03 7E 00 44 0B", Reply::of(1)),
+        ("08 00 02 00 D0 07 E8 03 7E 00 44 0B", Reply::of(1)),
+        ("08 00 00 02 D0 07 E8 03 7E 00 44 0B", Reply::of(1)),
+        ("08 01 00 00 D0 07 E8 03 7E 00 44 0B", Reply::of(1)),
+        ("08 00 01 00 D0 07 E8 03 7E 00 44 0B", Reply::of(6)),
+        ("08 00 00 00 D0 07 E8 03", faulty(13, 0)),
+        ("08 00 00 00 D0 07 E8 03 7E 00 44 0B 9F 05", faulty(17, 5)),
+        ("08 00 00 00 D0 07 E8 03 7E 00 42 01 01", Reply::of(10)),
+    ] {
+        assert_eq!(apply(&mut pending(0, AWAY), &octets(text_of)), expected, "{text_of}");
+    }
+}
+
+/// Timer 6 of the log, and the answer 20 in it.
+#[test]
+fn waits_in_logs() {
+    let mut record = limited(3);
+    for (text_of, answer, after) in [
+        ("02 00 01 00 00 F2 20 00 00 2A", 0, (1, 4)),
+        ("08 00 01 01 08 07 84 03 7E 00 44 16 5F 01 2F 16 01 3F", 0, (1, 3)),
+        ("02 00 01 01 00 F2 20 00 00 2A", 20, (1, 3)),
+        ("04 00 06 00", 11, (1, 3)),
+        ("02 00 00 00 00 F2 20 00 00 2A", 0, (4, 3)),
+        ("03 00 00 01 08 07 7E 00 42 01 01", 0, (5, 3)),
+        ("07 00 00 02 00 F2 20 00 00 2A 00 00 00 00", 0, (4, 3)),
+        ("03 00 00 00 08 07 7E 00 44 16 5F 01 2F", 0, (5, 3)),
+        ("07 00 00 03 00 F2 20 00 00 2A 00 00 00 00", 6, (5, 3)),
+        ("07 00 00 02 00 F2 20 00 00 2A 00 00 00 00", 20, (5, 3)),
+        ("04 00 06 01", 0, (5, 3)),
+        ("04 00 06 01", 11, (5, 3)),
+        ("02 00 01 00 00 F2 20 00 00 2A", 0, (5, 4)),
+        ("04 00 06 00", 0, (5, 4)),
+        ("07 00 00 02 00 F2 20 00 00 2A 00 00 00 00", 7, (5, 4)),
+    ] {
+        assert_eq!(apply(&mut record, &octets(text_of)).answer, answer, "{text_of}");
+        assert_eq!(states(&record), after, "{text_of}");
+    }
+}
+
+/// T3502: deactivated is as absent, 720 s, and zero is 0 s, which T3502 then runs for.
+#[test]
+fn the_length_of_t3502() {
+    for (elements, length) in [
+        (&[][..], 720),
+        (&[0x16, 0x00], 720),
+        (&[0x16, 0x01, 0xE0], 720),
+        (&[0x16, 0x01, 0xE5], 720),
+        (&[0x16, 0x01, 0xFF], 720),
+        (&[0x16, 0x01, 0xE5, 0x16, 0x01, 0x00], 720),
+        (&[0x16, 0x01, 0x00], 0),
+        (&[0x16, 0x01, 0x20], 0),
+        (&[0x16, 0x01, 0x40], 0),
+        (&[0x16, 0x01, 0xC0], 0),
+        (&[0x16, 0x01, 0x00, 0x16, 0x01, 0x3F], 0),
+        (&[0x16, 0x01, 0x01], 2),
+        // Of an accept 5F is not known.
+        (&[0x5F, 0x01, 0x21, 0x16, 0x01, 0x3F], 1860),
+    ] {
+        let mut record = limited(3);
+        assert_eq!(start(&mut record, 1, AWAY), 0);
+        let reply = accept_with(&mut record, 1, elements);
+        assert_eq!((reply.answer, reply.timers[T3346 + 1]), (0, Change::Left));
+        assert_eq!(record.access[1].t3502_length, length, "{elements:02X?}");
+        assert_eq!(update(&mut record, 1, 2, AWAY), 0);
+        let started = reject(&mut record, 1, 0, 111).timers[T3502 + 1];
+        assert_eq!(started, Change::Started(length.into()), "{elements:02X?}");
+    }
+}
+
+/// The line of `--full` with T3346.
+#[test]
+fn full_line_of_a_wait() {
+    let mut record = limited(3);
+    assert_eq!(start(&mut record, 1, AWAY), 0);
+    let reply = reject_with(&mut record, 1, 0, 22, MINUTE);
+    let mut line = String::new();
+    crate::full::reply(&mut line, &reply);
+    crate::full::record(&mut line, &record);
+    let parts = [
+        "= 0 at 0 T3510 left stopped T3511 left left T3502 left left T3346 left started:1000 \
+         T3247 left T3512 left restart - leave - update -",
+        "card 1 home 00f110 suci 0100f110f0ff000007 limits 3 3 3 cap 00 sec f0f0 T3247 0 T3512 0 \
+         length 3240 due 0 roaming - regional -",
+        "0 state 1 status 2 attempts 0 T3510 0 T3511 0 T3502 0 length 720 T3346 0 \
+         pending 000000000000 type 1 uplink 0000 sessions 0000 guti - last - ksi 7 \
+         equivalents - cards 0 entries -",
+        "1 state 3 status 2 attempts 0 T3510 0 T3511 0 T3502 0 length 720 T3346 1 \
+         pending 00f22000002a type 1 uplink 0000 sessions 0000 guti - last - ksi 7 \
+         equivalents - cards 0 entries -",
+    ];
+    assert_eq!(line, parts.join(" | "));
+    let mut line = String::new();
+    crate::full::reply(&mut line, &out(&mut record, 6, 1));
+    assert!(line.contains(" T3346 left stopped T3247 left ") && line.contains(" restart 1 "));
+}
+
+/// The program's own lines, as many as fill its buffer more than once: answers of one and of two
+/// digits, and the count as it grows.
+#[test]
+fn lines_of_events() {
+    let mut record = pending(1, AWAY);
+    let mut output = crate::Output::new(vec![]);
+    let mut count = crate::Count::new();
+    let mut lines = String::new();
+    for number in 1..=12_000 {
+        let answer = (number % 23) as u8;
+        record.t3247 = number % 2 == 0;
+        count.up();
+        output.event(&count, answer, &record).unwrap();
+        lines.push_str(&format!("{number} {answer} 1 4 {}\n", record.t3247 as u8));
+    }
+    output.flush().unwrap();
+    assert_eq!(String::from_utf8(output.sink).unwrap(), lines);
 }

@@ -1,17 +1,18 @@
 /*
  * A device and a false cell. The cell rejects three registrations with cause 11 and no protection; the device waits for T3247 each time and tries again,
- * until the ban counter is at its limit and it stays quiet. Then its home network takes it, after an accept that lost its last octet, and it moves: a mobility
- * update in the next area, and a periodic one once T3512 has run out. It writes what it was told to a log, from which the lab's program replays the same states.
+ * until the ban counter is at its limit and it stays quiet. At home, in a busy hour, the network asks for ten minutes, and the device waits. Then the network takes
+ * it, after an accept that lost its last octet, and it moves: a mobility update in the next area, and a periodic one once T3512 has run out. It writes what it was told
+ * to a log, from which the lab's program replays the same states.
  * Usage: device LOG; the states go to standard output as the lab's program prints them.
  */
 #include <stdio.h>
 #include <string.h>
 #include "tjernfaug.h"
 
-enum { CARD = 1, START, MESSAGE, TIMER, KEY = 6, UPDATE };
-enum { T3247 = 4, T3512 };
+enum { CARD = 1, START, MESSAGE, TIMER, KEY = 6, UPDATE, DRAWS };
+enum { T3247 = 4, T3512, T3346 };
 enum { MOBILITY = 2, PERIODIC };
-enum { TAKEN = 0, RANGE = 1, STATE = 6, LISTED = 8, SHORT = 12, CUT, PAST = 17, STRANGE, REFUSED = 256 };
+enum { TAKEN = 0, RANGE = 1, STATE = 6, LISTED = 8, SHORT = 12, CUT, PAST = 17, STRANGE, WAITING = 20, REFUSED = 256 };
 
 /* Areas: a network's three octets and an area code's. */
 static const uint8_t away[] = {0x00, 0xF2, 0x20, 0x00, 0x00, 0x2A};
@@ -101,6 +102,13 @@ static uint32_t reject(struct device *d)
     return hand(d, MESSAGE, body, sizeof body);
 }
 
+/* A busy network: cause 22, protected, with T3346 (5F 01 2A, ten minutes). The draws are 1800 s for T3247 and 900 s for T3346. */
+static uint32_t congested(struct device *d)
+{
+    static const uint8_t body[] = {0x00, 0x01, 0x08, 0x07, 0x84, 0x03, 0x7E, 0x00, 0x44, 0x16, 0x5F, 0x01, 0x2A};
+    return hand(d, DRAWS, body, sizeof body);
+}
+
 /* The clock goes on by what the timer was started for; then the event is handed over. */
 static uint32_t wait(struct device *d, uint8_t timer, uint32_t seconds)
 {
@@ -140,6 +148,17 @@ static int quiet(struct device *d)
     return wrong;
 }
 
+/* At home in a busy hour: asked for time, the device may not start again until T3346 has run out, and then is asked to. */
+static int busy(struct device *d)
+{
+    int wrong = start(d, home) != TAKEN || key(d) != TAKEN || congested(d) != TAKEN;
+    const struct tjernfaug_timer t3346 = d->notice.c0.t3346;
+    wrong |= t3346.told != 2 || t3346.seconds != 600 || d->record.hot.a0.t3346 != 1 || start(d, home) != WAITING;
+    wrong |= wait(d, T3346, t3346.seconds) != TAKEN || d->notice.c0.t3346.told != 1 || d->notice.restart != 1 || d->now != 6000;
+    fprintf(stderr, "device: asked for time, free after %lu s\n", d->now);
+    return wrong;
+}
+
 /* An update, its request octet by octet, and its accept. */
 static int moved(struct device *d, uint8_t type, const uint8_t *from, const uint8_t *to)
 {
@@ -154,7 +173,7 @@ static int moves(struct device *d)
     wrong |= accept(d, WHOLE) != TAKEN || d->notice.t3512.seconds != 3600 || d->notice.offset != 0;
     wrong |= update(d, PERIODIC, home) != STATE || !moved(d, MOBILITY, home, next);
     wrong |= wait(d, T3512, d->notice.t3512.seconds) != TAKEN || d->record.hot.dev.due != 1;
-    wrong |= !moved(d, PERIODIC, next, next) || d->record.hot.dev.due != 0 || d->now != 9000;
+    wrong |= !moved(d, PERIODIC, next, next) || d->record.hot.dev.due != 0 || d->now != 9600;
     fprintf(stderr, "device: moved, and updated after %lu s\n", d->now);
     return wrong;
 }
@@ -167,6 +186,7 @@ int main(int argc, char **argv)
         return 2;
     int wrong = tjernfaug_new(&d.record, 3, 3, 3, capability, sizeof capability, security, sizeof security) != TAKEN;
     wrong |= quiet(&d);
+    wrong |= busy(&d);
     wrong |= moves(&d);
     wrong |= fclose(d.log) != 0;
     if (wrong)

@@ -8,6 +8,8 @@ const BUFFER: u32 = 208;
 /// The first differs from each of the next three in one octet alone.
 const NETS: [[u8; 3]; 6] = [[0x00, 0xF1, 0x10], [0x10, 0xF1, 0x10], [0x00, 0x11, 0x10], [0x00, 0xF1, 0x20], [0x12, 0x34, 0x56], [0x99, 0x99, 0x99]];
 const CAUSES: [u8; 16] = [3, 6, 7, 11, 12, 13, 15, 22, 27, 72, 73, 95, 96, 97, 99, 111];
+/// The cause of a network that may ask for time.
+const BUSY: u8 = 22;
 /// T3512's longest time.
 const MOST: u32 = 35_712_000;
 
@@ -66,6 +68,13 @@ impl Draw {
     /// A status of no session, of sessions in either octet alone, or of any; session 0 is clear.
     fn sessions(&mut self) -> u16 {
         [0, 0x00FE, 0xFF00, 0xFFFE][self.below(4) as usize] & self.next() as u16
+    }
+
+    /// A message's draw of seconds: an end of its range, any in it, or, one in thirty-two, the next to an end outside it.
+    fn seconds(&mut self, low: u16, high: u16) -> [u8; 2] {
+        let (any, out) = (low + self.below((high - low) as u32 + 1) as u16, [low - 1, high + 1][self.below(2) as usize]);
+        let right = [low, high, any][self.below(3) as usize];
+        if self.below(32) == 0 { out.to_le_bytes() } else { right.to_le_bytes() }
     }
 
     fn ask(&mut self, call: u8, record: CRecord) -> Ask {
@@ -138,10 +147,10 @@ fn card(last: u8) -> Vec<u8> {
     vec![0x00, 0xF1, 0x10, 0x01, 0x00, 0xF1, 0x10, 0xF0, 0xFF, 0x00, 0x00, last]
 }
 
-/// A message with an accept, mostly protected: an equivalent network, T3502, often a GUTI and T3512.
-fn accept(d: &mut Draw, access: u8, [n1, n2, n3]: [u8; 3]) -> Vec<u8> {
+/// An accept: an equivalent network, T3502, often a GUTI and T3512.
+fn accept(d: &mut Draw, [n1, n2, n3]: [u8; 3]) -> Vec<u8> {
     let (any, long) = (d.octet(256), d.octet(256));
-    let head = [access, (d.below(8) > 0) as u8, 0x08, 0x07, 0x7E, 0x00, 0x42, 0x01, 0x01, 0x4A, 0x03, n1, n2, n3, 0x16, 0x01, any];
+    let head = [0x7E, 0x00, 0x42, 0x01, 0x01, 0x4A, 0x03, n1, n2, n3, 0x16, 0x01, any];
     let guti = [0x77, 0x00, 0x0B, 0xF2, n1, n2, n3, 1, 2, 3, 4, 5, 6, any];
     let t3512 = match d.below(5) {
         0 => vec![],
@@ -151,6 +160,23 @@ fn accept(d: &mut Draw, access: u8, [n1, n2, n3]: [u8; 3]) -> Vec<u8> {
         _ => vec![0x5E, 0x01, long],
     };
     [&head[..], &guti[..guti.len() * d.below(2) as usize], &t3512].concat()
+}
+
+/// A reject, mostly with T3346: of some time, zero, deactivated or with no contents, with an octet more, twice, or behind another element.
+fn reject(d: &mut Draw, cause: u8) -> Vec<u8> {
+    let (any, other) = (d.octet(256), d.octet(256));
+    let t3346 = match d.below(9) {
+        0 => vec![],
+        1 => vec![0x5F, 0x00],
+        2 => vec![0x5F, 0x01, any & 0xE0],
+        3 => vec![0x5F, 0x01, any | 0xE0],
+        4 => vec![0x5F, 0x00, 0x5F, 0x01, any],
+        5 => vec![0x5F, 0x01, any, 0x5F, 0x01, other],
+        6 => vec![0x5F, 0x02, any, other],
+        7 => vec![0x16, 0x01, other, 0x5F, 0x01, any],
+        _ => vec![0x5F, 0x01, any],
+    };
+    [&[0x7E, 0x00, 0x44, cause][..], &t3346].concat()
 }
 
 /// An update, mostly of one of the two types and with session 0 clear.
@@ -188,22 +214,35 @@ fn message(d: &mut Draw) -> Vec<u8> {
     octets
 }
 
-fn heard(access: u8, protected: u8, octets: &[u8]) -> (u32, Vec<u8>) {
-    (3, [&[access, protected, 0x08, 0x07][..], octets].concat())
+/// A message as kind 3, or with the second draw as kind 8.
+fn heard(d: &mut Draw, access: u8, protected: u8, octets: &[u8]) -> (u32, Vec<u8>) {
+    let draws = [d.seconds(1800, 3600), d.seconds(900, 1800)].concat();
+    let (kind, len) = [(3, 2), (8, 4)][d.below(2) as usize];
+    (kind, [&[access, protected][..], &draws[..len], octets].concat())
+}
+
+/// What the network says to a request: an accept, mostly protected, a reject or any message.
+fn reply(d: &mut Draw, access: u8, net: [u8; 3]) -> (u32, Vec<u8>) {
+    let (sure, mostly, any) = (d.octet(2), (d.below(8) > 0) as u8, CAUSES[d.below(16) as usize]);
+    let cause = if d.below(8) == 0 { BUSY } else { any };
+    let (protected, octets) = match d.below(7) {
+        0 => (sure, message(d)),
+        1..=3 => (mostly, accept(d, net)),
+        _ => (sure, reject(d, cause)),
+    };
+    heard(d, access, protected, &octets)
 }
 
 /// An event that is often right: its kind, and the octets that matter from small sets.
 fn event(d: &mut Draw) -> (u32, Vec<u8>) {
     let net = NETS[d.below(6) as usize];
-    let (access, sure, any, cause) = (d.octet(2), d.octet(2), d.octet(256), CAUSES[d.below(16) as usize]);
+    let (access, sure, any) = (d.octet(2), d.octet(2), d.octet(256));
     match d.below(20) {
         0 if d.below(20) == 0 => (1, card(any)),
         0 => (5, vec![]),
         1 => (6, vec![access, any & 7]),
-        2..=4 => (4, vec![[1, 2, 3, 4, 5, d.octet(7)][d.below(6) as usize], access]),
-        5..=7 => (3, accept(d, access, net)),
-        8 => heard(access, sure, &message(d)),
-        9..=11 => (3, vec![access, sure, 0x08, 0x07, 0x7E, 0x00, 0x44, cause]),
+        2..=4 => (4, vec![[1, 2, 3, 4, 5, 6, d.octet(8)][d.below(7) as usize], access]),
+        5..=11 => reply(d, access, net),
         12..=14 => (7, update(d, access, net)),
         _ => (2, [&[access, sure][..], &net, &[0x00, 0x00, any & 15]].concat()),
     }
@@ -218,7 +257,7 @@ fn bent(d: &mut Draw, octet: u8) -> u8 {
 /// Any octets as a body; or a right one whose kind has a high bit too, which has an octet more or less, or another one in an octet's place.
 fn wild(d: &mut Draw) -> (u32, Vec<u8>) {
     if d.below(4) > 0 {
-        let (kind, len) = (d.below(9), d.below(BODY + 1));
+        let (kind, len) = (d.below(10), d.below(BODY + 1));
         return (kind, d.octets(len));
     }
     let (kind, mut body) = event(d);
@@ -257,7 +296,7 @@ fn filled(d: &mut Draw, live: &CRecord) -> CRecord {
 fn fill(d: &mut Draw, [cards, bans, n1s]: [u8; 3], a: &mut CAccess, e: &mut CEntries) {
     a.state = [0, 4, 4, 5, 6, d.octet(7)][d.below(6) as usize];
     (a.status, a.attempts, a.cardcounter, a.t3502length) = (1 + d.upto(2), d.upto(5), d.upto(cards), [0, 720, 11160, d.below(11161) as u16][d.below(4) as usize]);
-    (a.t3510, a.t3511, a.t3502) = ((a.state == 4) as u8 & d.upto(1), d.upto(1), d.upto(1));
+    (a.t3510, a.t3511, a.t3502, a.t3346) = ((a.state == 4) as u8 & d.upto(1), d.upto(1), d.upto(1), (d.below(4) == 0) as u8);
     (a.net, a.code, a.ksi, a.entries) = (d.net(), d.below(16), d.upto(7), d.upto(16));
     (a.guti, a.visited, a.equivalents) = (d.upto(1), d.upto(1), d.upto(15));
     (a.regtype, a.uplink, a.sessions) = (1 + d.upto(2), d.sessions(), d.sessions());
@@ -268,16 +307,17 @@ fn fill(d: &mut Draw, [cards, bans, n1s]: [u8; 3], a: &mut CAccess, e: &mut CEnt
     }
 }
 
-/// The record with one number of an update or of T3512 about the ends of its range, half the time outside it.
+/// The record with one number of an update, of T3512 or of T3346 about the ends of its range, half the time outside it.
 fn strained(d: &mut Draw, full: &CRecord) -> CRecord {
     let (mut r, at) = (*full, d.below(2) as usize);
     let a = &mut r.access[at];
-    match d.below(6) {
+    match d.below(7) {
         0 => a.regtype = d.octet(6),
         1 => a.uplink |= d.below(2) as u16,
         2 => a.sessions |= d.below(2) as u16,
         3 => r.dev.t3512 = d.octet(3),
         4 => r.dev.due = d.octet(3),
+        5 => a.t3346 = [0, 1, 2, d.octet(256)][d.below(4) as usize],
         _ => r.dev.t3512length = [MOST - 1, MOST, MOST + 1, d.below(MOST) | 1 << (26 + d.below(6))][d.below(4) as usize],
     }
     r
@@ -335,11 +375,12 @@ pub fn round(d: &mut Draw, live: &CRecord) -> Vec<Ask> {
     const HOT: usize = std::mem::offset_of!(CRecord, entries);
     const ALL: usize = size_of::<CRecord>();
     let (one, hot, full) = (changed(d, live, ALL), changed(d, live, HOT), filled(d, live));
-    let (access, right, again, any, other) = (d.octet(2), event(d), event(d), wild(d), wild(d));
+    let (access, sure, right, again, any, other) = (d.octet(2), d.octet(2), event(d), event(d), wild(d), wild(d));
     let often = if live.dev.card == 0 && d.below(4) > 0 { (1, card(access)) } else { right };
     let (scattered, end) = (random(d), [HOT, ALL][d.below(2) as usize]);
     let (broken, odd, net) = (changed(d, &full, end), strained(d, &full), NETS[d.below(6) as usize]);
-    let (moving, octets) = ((7, update(d, access, net)), message(d));
+    let (moving, octets, busy) = ((7, update(d, access, net)), message(d), reject(d, BUSY));
+    let (said, asked) = (heard(d, access, 1, &octets), heard(d, access, sure, &busy));
     let over = [*live, full, scattered][d.below(3) as usize];
     vec![
         d.hand(*live, often),
@@ -352,7 +393,8 @@ pub fn round(d: &mut Draw, live: &CRecord) -> Vec<Ask> {
         d.hand(full, again.clone()),
         d.hand(broken, again),
         d.hand(full, moving),
-        d.hand(full, heard(access, 1, &octets)),
+        d.hand(full, said),
+        d.hand(full, asked),
         d.cause(octets),
         d.hand(odd, (5, vec![])),
         d.request(odd, access),

@@ -37,7 +37,9 @@ pub const EVENT: u8 = 2;
 pub const REQUEST: u8 = 3;
 pub const CAUSE: u8 = 4;
 /// Answers that no event has: they are for requests.
-const NEVER: [u32; 2] = [3, 12];
+const NEVER: [u32; 3] = [3, 12, 19];
+/// The place of T3346 among an access's timers in the notice.
+const T3346: usize = 3;
 /// A request's answer where the buffer is too short.
 const SHORT: u32 = 268;
 /// The longest request without a container and with one.
@@ -71,7 +73,7 @@ struct Life {
 #[derive(Default)]
 struct Tally {
     cases: u64,
-    answers: [u64; 19],
+    answers: [u64; 21],
     causes: [u64; 7],
     invalid: u64,
     news: u64,
@@ -79,6 +81,8 @@ struct Tally {
     requests: u64,
     written: u64,
     deeds: [u64; 5],
+    waits: [u64; 6],
+    rest: [u64; 10],
     shapes: [[u64; 4]; 2],
 }
 
@@ -199,7 +203,7 @@ fn judge_event(ask: &Ask, got: &Got) -> Result<(), String> {
     } else {
         equal("the answer to an invalid record", got.answer, 1)?;
     }
-    hold(got.answer <= 18 && !NEVER.contains(&got.answer), "there is no such answer")?;
+    hold(got.answer <= 20 && !NEVER.contains(&got.answer), "there is no such answer")?;
     if got.answer != 0 {
         alike("the refused record", now.octets(), was.octets())?;
     }
@@ -210,10 +214,19 @@ fn judge_event(ask: &Ask, got: &Got) -> Result<(), String> {
     judge_fault(ask, got)
 }
 
+/// The message that an event hands in: of kind 3 behind one draw, of kind 8 behind two.
+fn heard(ask: &Ask) -> Option<&[u8]> {
+    match ask.kind {
+        3 => ask.arrays[0].get(4..),
+        8 => ask.arrays[0].get(6..),
+        _ => None,
+    }
+}
+
 /// A message that came through checks 1 and 6 is answered by its fault, if it has one, and the offset is the fault's; else it is 0.
 fn judge_fault(ask: &Ask, got: &Got) -> Result<(), String> {
-    let read = ask.kind == 3 && ![1, 6].contains(&got.answer);
-    let fault = if read { faults::told(&ask.arrays[0][4..], &[0x42, 0x44]) } else { None };
+    let read = heard(ask).filter(|_| ![1, 6].contains(&got.answer));
+    let fault = read.and_then(|octets| faults::told(octets, &[0x42, 0x44]));
     let (offset, answer) = (got.notice.offset as usize, got.answer as u8);
     let told = (13..=18).contains(&answer).then_some((offset, answer));
     hold(told == fault, &format!("the fault's offset and number are {told:?}, not {fault:?}"))?;
@@ -242,12 +255,54 @@ fn judge_request(ask: &Ask, got: &Got) -> Result<(), String> {
 fn deeds(ask: &Ask, got: &Got) -> [bool; 5] {
     let taken = |kind: u32| ask.call == EVENT && got.answer == 0 && ask.kind == kind;
     let update = |regtype: u8| taken(7) && ask.arrays[0][1] == regtype;
+    let heard = taken(3) || taken(8);
     let fell = |i: usize| {
         let (was, now) = (ask.record.access[i], got.record.access[i]);
-        (was.state, was.regtype > 1, now.state, now.status) == (4, true, 5, 2)
+        (was.state, was.regtype > 1, now.state, now.status) == (4, true, 5, 2) && got.notice.clocks[i][T3346][0] == 0
     };
-    let started = taken(3) && got.notice.t3512[0] == 2;
-    [update(2), update(3), (taken(3) || taken(4)) && (fell(0) || fell(1)), started, taken(4) && ask.arrays[0][0] == 5]
+    let started = heard && got.notice.t3512[0] == 2;
+    [update(2), update(3), (heard || taken(4)) && (fell(0) || fell(1)), started, taken(4) && ask.arrays[0][0] == 5]
+}
+
+/// What R-6 is about, T3346 started: for the time given, for the draw that kind 3 stands for, for a draw at its low end, at its high end; in an update; where it ran.
+fn waits(ask: &Ask, got: &Got) -> [bool; 6] {
+    let [access, protected, ..] = ask.arrays[0][..] else { return [false; 6] };
+    let at = access as usize % 2;
+    let ([told, seconds], was) = (got.notice.clocks[at][T3346], ask.record.access[at]);
+    let started = ask.call == EVENT && got.answer == 0 && told == 2;
+    let drawn = |kind: u32, draw: u32| started && protected == 0 && (ask.kind, seconds) == (kind, draw);
+    [started && protected == 1, drawn(3, 900), drawn(8, 900), drawn(8, 1800), started && was.regtype > 1, started && was.t3346 == 1]
+}
+
+/// Whether T3346 alone makes the record invalid.
+fn odd(r: &CRecord) -> bool {
+    let mut mended = *r;
+    mended.access.iter_mut().for_each(|a| a.t3346 = 0);
+    r.access.iter().any(|a| a.t3346 > 1) && valid(&mended)
+}
+
+/// What else R-6 is about: cause 22 taken with T3346 empty, deactivated and zero; a second draw refused below its range and above it; a bad record;
+/// 20 for a start and for an update; T3346 out, and stopped by a power cycle.
+fn rest(ask: &Ask, got: &Got) -> [bool; 10] {
+    let body = &ask.arrays[0];
+    let answered = |kind: u32, answer: u32| ask.call == EVENT && (ask.kind, got.answer) == (kind, answer);
+    let rejected = heard(ask).filter(|_| answered(3, 0) || answered(8, 0)).and_then(|octets| octets.strip_prefix(&[0x7E, 0x00, 0x44, 22, 0x5F]));
+    let time = |right: fn(u8) -> bool| matches!(rejected, Some([1..=255, octet, ..]) if right(*octet));
+    let second = |draw: u16| matches!(body[..], [0 | 1, 0 | 1, 0x08, 0x07, low, high, ..] if [low, high] == draw.to_le_bytes());
+    let drawn = |draw: u16| answered(8, 1) && second(draw) && valid(&ask.record);
+    let stopped = |i: usize| got.notice.clocks[i][T3346][0] == 1;
+    [
+        matches!(rejected, Some([0, ..])),
+        time(|octet| octet >= 0xE0),
+        time(|octet| octet < 0xE0 && octet & 31 == 0),
+        drawn(899),
+        drawn(1801),
+        ask.call == EVENT && odd(&ask.record),
+        answered(2, 20),
+        answered(7, 20),
+        answered(4, 0) && body[0] == 6,
+        answered(5, 0) && (stopped(0) || stopped(1)),
+    ]
 }
 
 /// What R-3 is about, of a request without a container and of one with it: written, written into a buffer that just fits, written at its longest, refused for one octet.
@@ -281,9 +336,10 @@ fn judge(ask: &Ask, got: &Got, tally: &mut Tally) -> Result<(), String> {
     tally.made += (ask.call == NEW && got.answer == 0) as u64;
     tally.requests += (ask.call == REQUEST) as u64;
     tally.written += (ask.call == REQUEST && got.answer < 256) as u64;
-    let counts = tally.deeds.iter_mut().chain(tally.shapes.as_flattened_mut());
-    for (count, came) in counts.zip(deeds(ask, got).iter().chain(shapes(ask, got).as_flattened())) {
-        *count += *came as u64;
+    let counts = tally.deeds.iter_mut().chain(&mut tally.waits).chain(&mut tally.rest).chain(tally.shapes.as_flattened_mut());
+    let came = [&deeds(ask, got)[..], &waits(ask, got), &rest(ask, got), shapes(ask, got).as_flattened()].concat();
+    for (count, came) in counts.zip(came) {
+        *count += came as u64;
     }
     if ask.call == CAUSE {
         tally.causes[got.answer.saturating_sub(268).min(6) as usize] += 1;
@@ -347,17 +403,22 @@ fn main() {
         group(&mut side, words, first..first + LIVES, &mut tally);
     }
     side.end();
-    let Tally { cases, answers, causes, invalid, news, made, requests, written, deeds, shapes } = tally;
+    let Tally { cases, answers, causes, invalid, news, made, requests, written, deeds, waits, rest, shapes } = tally;
     let [mobility, periodic, fell, started, out] = deeds;
+    let [given, plain, low, high, moved, anew] = waits;
+    let [empty, off, zero, below, above, bad, start, update, ended, power] = rest;
     println!("fuzz: {cases} cases, {} events, {invalid} of them on an invalid record", answers.iter().sum::<u64>());
     println!("fuzz: {made} of {news} new records made, {written} of {requests} requests written");
     for (shape, [written, fitted, longest, lacked]) in ["no container", "a container"].iter().zip(shapes) {
         println!("fuzz: with {shape} {written} requests written, {fitted} of them into a buffer that just fits and {longest} at their longest, {lacked} refused for one octet");
     }
     println!("fuzz: {mobility} mobility and {periodic} periodic updates taken, {fell} failed; T3512 started {started} times, out {out} times");
-    println!("fuzz: answers 0 to 18 came {answers:?} times, a reject's cause and 269 to 274 {causes:?} times");
-    let missing = (0..19).any(|answer| answers[answer] == 0 && !NEVER.contains(&(answer as u32)));
-    let unseen = [&causes[..], &deeds, shapes.as_flattened(), &[invalid, made, news - made]].concat().contains(&0);
+    println!("fuzz: T3346 started {given} times as given, {plain} for kind 3's draw, {low} and {high} for one at its ends; {moved} times in an update, {anew} where it ran");
+    println!("fuzz: T3346 empty {empty} times, deactivated {off}, zero {zero}; its draw refused {below} times below its range, {above} above it; {bad} records invalid by it alone");
+    println!("fuzz: 20 for {start} starts and {update} updates; T3346 out {ended} times, stopped by {power} power cycles");
+    println!("fuzz: answers 0 to 20 came {answers:?} times, a reject's cause and 269 to 274 {causes:?} times");
+    let missing = (0..21).any(|answer| answers[answer] == 0 && !NEVER.contains(&(answer as u32)));
+    let unseen = [&causes[..], &deeds, &waits, &rest, shapes.as_flattened(), &[invalid, made, news - made]].concat().contains(&0);
     if seconds > 0 && (missing || unseen) {
         fail("some answer, deed or shape of a request never came");
     }

@@ -25,11 +25,11 @@ struct head {
 #define PLACE(room, name, field) {room, offsetof(struct name, field), sizeof ((struct name *)0)->field}
 #define AT(field) PLACE(RECORD, tjernfaug_record, field)
 #define ACCESS(a) AT(a.net), AT(a.code), AT(a.lastnet), AT(a.lastcode), AT(a.t3502length), AT(a.uplink), AT(a.sessions), AT(a.state), AT(a.status), AT(a.attempts), \
-    AT(a.cardcounter), AT(a.t3510), AT(a.t3511), AT(a.t3502), AT(a.guti), AT(a.visited), AT(a.ksi), AT(a.equivalents), AT(a.entries), AT(a.regtype)
+    AT(a.cardcounter), AT(a.t3510), AT(a.t3511), AT(a.t3502), AT(a.guti), AT(a.visited), AT(a.ksi), AT(a.equivalents), AT(a.entries), AT(a.regtype), AT(a.t3346)
 #define ENTRIES(e) AT(e.nets), AT(e.bans), AT(e.n1s), AT(e.forbidden), AT(e.barred)
 #define TOLD(field) PLACE(NOTICE, tjernfaug_notice, field)
 #define TIMER(t) TOLD(t.told), TOLD(t.seconds)
-#define TIMERS(c) TIMER(c.t3510), TIMER(c.t3511), TIMER(c.t3502)
+#define TIMERS(c) TIMER(c.t3510), TIMER(c.t3511), TIMER(c.t3502), TIMER(c.t3346)
 
 static const struct { size_t room, at, len; } fields[] = {
     AT(hot.dev.home), AT(hot.dev.t3512length), AT(hot.dev.card), AT(hot.dev.suci), AT(hot.dev.cardlimit), AT(hot.dev.banlimit), AT(hot.dev.n1limit),

@@ -1,6 +1,6 @@
 /*
  * The readings for C firmware, held to document 01 (its marked facts, its sentences on rejects, all 256 timer octets) and to R-1: each message by the reject reader,
- * and as a protected one by the event, with the octet that its notice tells.
+ * and as a protected one by the event, with one draw and with both, and with the octet that its notice tells. By R-6, cause 22 with all 256 octets of T3346.
  */
 #include <stdio.h>
 #include <string.h>
@@ -19,16 +19,27 @@ static void expect(const char *what, size_t got, size_t want)
     }
 }
 
-static void message(const char *what, uint32_t cause, uint32_t answer, size_t offset, const uint8_t *msg, size_t len)
+/* What stands before a message's octets: access 0, protected, the draw of kind 3 or both of kind 8. */
+enum { ONE = 4, BOTH = 6 };
+static const uint8_t before[] = {0x00, 0x01, 0x08, 0x07, 0x84, 0x03};
+
+static void heard(const char *what, uint32_t kind, size_t draws, uint32_t answer, size_t offset, const uint8_t *msg, size_t len)
 {
     struct tjernfaug_record r = waiting;
     struct tjernfaug_notice notice;
-    uint8_t body[16] = {0x00, 0x01, 0x08, 0x07};
+    uint8_t body[16] = {0};
     memset(&notice, 0xA5, sizeof notice);
-    memcpy(body + 4, msg, len);
-    expect(what, reject_cause(msg, len), cause);
-    expect(what, tjernfaug_event(&r, 3, body, 4 + len, &notice), answer);
+    memcpy(body, before, draws);
+    memcpy(body + draws, msg, len);
+    expect(what, tjernfaug_event(&r, kind, body, draws + len, &notice), answer);
     expect(what, notice.offset, offset);
+}
+
+static void message(const char *what, uint32_t cause, uint32_t answer, size_t offset, const uint8_t *msg, size_t len)
+{
+    expect(what, reject_cause(msg, len), cause);
+    heard(what, 3, ONE, answer, offset, msg, len);
+    heard(what, 8, BOTH, answer, offset, msg, len);
 }
 
 #define MESSAGE(what, cause, answer, offset, ...)              \
@@ -113,6 +124,31 @@ static void elements(void)
     MESSAGE("a length past the end, behind 9F", 273, 17, 5, 0x7E, 0x00, 0x44, 0x0B, 0x9F, 0x77, 0x00);
 }
 
+/* Some seconds start T3346, for them in a protected message and else for the second draw, 900 s; zero and deactivated are as T3510 out. */
+static void congested(unsigned octet, uint8_t protected)
+{
+    const uint8_t body[] = {0x00, protected, 0x10, 0x0E, 0x84, 0x03, 0x7E, 0x00, 0x44, 0x16, 0x5F, 0x01, (uint8_t)octet};
+    const uint32_t given = seconds(octet), runs = given != 0 && given != 65535;
+    struct tjernfaug_record r = waiting;
+    struct tjernfaug_notice notice;
+    expect("cause 22", tjernfaug_event(&r, 8, body, sizeof body, &notice), 0);
+    expect("whether T3346 runs", r.hot.a0.t3346, runs);
+    expect("T3346", notice.c0.t3346.told, runs ? 2 : 0);
+    expect("its seconds", notice.c0.t3346.seconds, !runs ? 0 : protected ? given : 900);
+    expect("T3511", notice.c0.t3511.told, runs ? 0 : 2);
+    expect("attempts", r.hot.a0.attempts, !runs);
+}
+
+static void draws(void)
+{
+    heard("the draw cut", 3, ONE - 1, 1, 0, before, 0);
+    heard("the second draw cut", 8, BOTH - 1, 1, 0, before, 0);
+    for (unsigned octet = 0; octet < 256; octet++) {
+        congested(octet, 0);
+        congested(octet, 1);
+    }
+}
+
 int main(void)
 {
     timers();
@@ -121,6 +157,7 @@ int main(void)
     heads();
     accepts();
     elements();
+    draws();
     printf("reader: %d wrong\n", wrong);
     return wrong != 0;
 }

@@ -1,5 +1,5 @@
 // The second program of docs/src on records as the C side sends them. It takes valid records only.
-use crate::record::{Access, Areas, Change, Entry, Limits, List, Listed, Record, Reply, INITIAL, RANGE, T3247, T3502, T3510, T3511, T3512};
+use crate::record::{Access, Areas, Change, Entry, Limits, List, Listed, Record, Reply, INITIAL, RANGE, T3247, T3346, T3502, T3510, T3511, T3512};
 use crate::{log, request};
 
 // The structs of include/tjernfaug.h without their gaps.
@@ -43,6 +43,7 @@ pub struct CAccess {
     pub equivalents: u8,
     pub entries: u8,
     pub regtype: u8,
+    pub t3346: u8,
 }
 
 #[repr(C, packed)]
@@ -74,7 +75,7 @@ pub struct CRecord {
 #[derive(Clone, Copy)]
 pub struct CNotice {
     pub offset: u64,
-    pub clocks: [[[u32; 2]; 3]; 2],
+    pub clocks: [[[u32; 2]; 4]; 2],
     pub t3247: [u32; 2],
     pub t3512: [u32; 2],
     pub requests: [u32; 3],
@@ -152,6 +153,7 @@ fn access_in(r: &CRecord, i: usize) -> Access {
         t3510: a.t3510 == 1,
         t3511: a.t3511 == 1,
         t3502: a.t3502 == 1,
+        t3346: a.t3346 == 1,
         t3502_length: a.t3502length,
         pending: area(a.net, a.code),
         regtype: a.regtype,
@@ -196,6 +198,7 @@ fn access_out(a: &Access) -> CAccess {
         t3510: a.t3510 as u8,
         t3511: a.t3511 as u8,
         t3502: a.t3502 as u8,
+        t3346: a.t3346 as u8,
         t3502length: a.t3502_length,
         net: number(&a.pending[..3]),
         code: number(&a.pending[3..]),
@@ -270,7 +273,7 @@ fn told(change: Change) -> [u32; 2] {
 }
 
 fn notice_out(p: &Reply) -> CNotice {
-    let clocks = |a: usize| [T3510, T3511, T3502].map(|timer| told(p.timers[timer + a]));
+    let clocks = |a: usize| [T3510, T3511, T3502, T3346].map(|timer| told(p.timers[timer + a]));
     let request = |asked: Option<u8>| asked.map_or(0, |access| 1 + access as u32);
     CNotice {
         offset: p.offset as u64,

@@ -1,4 +1,4 @@
-// Whether document 01, with R-5's fields, takes the octets of a record as a valid one.
+// Whether document 01, with the fields of, takes the octets of a record as a valid one.
 use crate::second::{CAccess, CDevice, CEntries, CRecord};
 
 fn network(n: u32) -> bool {
@@ -19,7 +19,7 @@ fn entries(d: &CDevice, e: &CEntries, count: u8) -> bool {
 }
 
 fn access(d: &CDevice, a: &CAccess, equivalents: [u32; 15]) -> bool {
-    let flags = [a.t3510, a.t3511, a.t3502, a.guti, a.visited];
+    let flags = [a.t3510, a.t3511, a.t3502, a.t3346, a.guti, a.visited];
     a.state <= 6
         && (a.state == 0 || d.card == 1)
         && (1..=3).contains(&a.status)

@@ -1,4 +1,4 @@
-// A second reading of messages, written from documents 01 and 02 (R-1, R-3, R-5) alone, by each of the three readers that the
+// A second reading of messages, written from documents 01 and 02 (R-1, R-3, R-5, R-6) alone, by each of the three readers that the
 // program `reading` runs: that of accepts and rejects, that of requests, and the reject reader for C.
 //   reading DIR                     stored messages, to DIR/reading.stdin, and what `reading` has to print, to DIR/reading.stdout
 //   reading random SEED MESSAGES    so many messages by chance, to standard output
@@ -113,7 +113,7 @@ fn held(all: &[Element], id: u8, shortest: usize) -> Option<Range<usize>> {
     Some(first.contents.clone()).filter(|c| c.len() >= shortest)
 }
 
-// "Timer octet": None is absent.
+// "Timer octet": None is deactivated, as absent for T3502.
 fn seconds(octet: u8) -> Option<u32> {
     let unit = match octet >> 5 {
         0 => 2,
@@ -152,11 +152,17 @@ fn accept(msg: &[u8], all: &[Element]) -> String {
     )
 }
 
+// T3346 (R-6): zero and deactivated ask for no time, as one that is absent.
+fn reject(msg: &[u8], all: &[Element]) -> String {
+    let t3346 = held(all, 0x5F, 1).and_then(|c| seconds(msg[c.start]));
+    format!("reject {} T3346 {}", msg[3], t3346.unwrap_or(0))
+}
+
 fn event(msg: &[u8]) -> Result<String, Fault> {
     let all = read(msg, &[0x42, 0x44])?;
     Ok(match msg[2] {
         0x42 => accept(msg, &all),
-        _ => format!("reject {}", msg[3]),
+        _ => reject(msg, &all),
     })
 }
 
@@ -326,7 +332,7 @@ fn sent(all: &mut Vec<Message>) {
 }
 
 // Each refusal at its boundary, and what each reader has to say, by R-1's sentences: octet by octet, then an accept's result,
-// the elements, and a request's identity and layout.
+// the elements, T3346 by R-6's, and a request's identity and layout.
 const BOUNDARIES: &str = "\
 = 13 at 0 | 13 at 0 | 269
 7D = 14 at 0 | 14 at 0 | 270
@@ -349,7 +355,7 @@ const BOUNDARIES: &str = "\
 7E 00 42 01 01 05 = 17 at 5 | 16 at 2 | 272
 7E 00 42 01 01 05 00 = 18 at 5 | 16 at 2 | 272
 7E 00 44 = 13 at 3 | 16 at 2 | 269
-7E 00 44 0B = reject 11 | 16 at 2 | 11
+7E 00 44 0B = reject 11 T3346 0 | 16 at 2 | 11
 7E 00 44 0B 05 = 17 at 4 | 16 at 2 | 273
 7E 00 44 0B 05 01 = 17 at 4 | 16 at 2 | 273
 7E 00 44 0B 05 00 = 18 at 4 | 16 at 2 | 274
@@ -357,6 +363,21 @@ const BOUNDARIES: &str = "\
 7E 00 44 0B 5F 05 = 17 at 4 | 16 at 2 | 273
 7E 00 44 0B 9F 05 00 = 18 at 5 | 16 at 2 | 274
 7E 00 44 0B 9F 77 00 = 17 at 5 | 16 at 2 | 273
+7E 00 44 16 5F = 17 at 4 | 16 at 2 | 273
+7E 00 44 16 5F 00 = reject 22 T3346 0 | 16 at 2 | 22
+7E 00 44 16 5F 01 = 17 at 4 | 16 at 2 | 273
+7E 00 44 16 5F 01 21 = reject 22 T3346 60 | 16 at 2 | 22
+7E 00 44 16 5F 01 20 = reject 22 T3346 0 | 16 at 2 | 22
+7E 00 44 16 5F 01 E1 = reject 22 T3346 0 | 16 at 2 | 22
+7E 00 44 16 5F 02 21 = 17 at 4 | 16 at 2 | 273
+7E 00 44 16 5F 02 21 3F = reject 22 T3346 60 | 16 at 2 | 22
+7E 00 44 16 5F 00 5F 01 21 = reject 22 T3346 0 | 16 at 2 | 22
+7E 00 44 16 5F 01 E1 5F 01 21 = reject 22 T3346 0 | 16 at 2 | 22
+7E 00 44 16 5F 01 21 5F = 17 at 7 | 16 at 2 | 273
+7E 00 44 16 5F 01 21 05 00 = 18 at 7 | 16 at 2 | 274
+7E 00 44 16 9F 5F 01 5F = reject 22 T3346 11160 | 16 at 2 | 22
+7E 00 44 0B 5F 01 21 = reject 11 T3346 60 | 16 at 2 | 11
+7E 00 42 01 01 5F 01 21 = accept 1 guti 0 0 equivalents 0 0 wait 0 0 pace 0 0 | 16 at 2 | 272
 7E 00 41 81 = 16 at 2 | 13 at 4 | 272
 7E 00 41 71 00 = 16 at 2 | 13 at 5 | 272
 7E 00 41 71 00 09 = 16 at 2 | 13 at 6 | 272
@@ -477,7 +498,8 @@ fn opened(all: &mut Vec<Message>) {
 // messages cut at every octet
 fn cut(all: &mut Vec<Message>) {
     let suci = format!("{ASKING} 2E 02 F0 F0");
-    for text in [WHOLE, UPDATE, &suci, "7E 00 44 0B 9F 5F 01 2F"] {
+    let busy = "7E 00 44 16 9F 5F 02 2F 00 75 00 01 05";
+    for text in [WHOLE, UPDATE, &suci, "7E 00 44 0B 9F 5F 01 2F", busy] {
         let whole = hex(text);
         for n in 0..whole.len() {
             all.push(Message(whole[..n].to_vec(), 0));
@@ -541,6 +563,27 @@ fn known(all: &mut Vec<Message>) {
     for text in timers.split(',') {
         accepted(all, text, 0);
     }
+}
+
+// T3346 with cause 22 and with another: its contents at their bounds, the first of a repeat, among other elements and as the
+// contents of one; and in an accept, where it is unknown
+fn asks_time(all: &mut Vec<Message>) {
+    let elements = "5F 00, 5F 01 01, 5F 01 00, 5F 01 E0, 5F 02 3F 00, 5F 02 00 3F, 5F 02 E5 3F, 5F 03 21 21 E5, \
+        5F 01 21 5F 01 3F, 5F 01 21 5F 01 00, 5F 01 21 5F 01 E5, 5F 01 21 5F 00, 5F 01 3F 5F 01, 5F 00 5F 01 3F, 5F 01 00 5F 01 3F, \
+        5F 01 E5 5F 01 3F, 5F 02 E5 3F 5F 01 3F, 9F 5F 01 3F, 20 00 75 00 01 05 5F 01 3F, 5F 01 3F 9F 20 01 05, 5F 01 5F 01 3F, \
+        75 00 03 5F 01 3F, 75 00 03 5F 01 3F 5F 01 21, 20 02 5F 01 3F, 5E 01 21 5F 01 3F, 16 01 5F 5F 01 16, 5F 01 16 16 01 5F, \
+        5F 01 3F 05, 5F 01 3F 0F 00, 0F 00 5F 01 3F";
+    for text in elements.split(',') {
+        plain(all, &format!("7E 00 44 16 {text}"));
+        rejected(all, text, 0);
+        accepted(all, text, 0);
+    }
+    for len in [1, 254, 255] {
+        for head in ["5F FF", "5F FF 21", "5F FF E5"] {
+            all.push(Message(hex(&format!("7E 00 44 16 {head}")), len));
+        }
+    }
+    all.push(Message(hex("7E 00 44 16 5F 01 2F 75 FF FC"), 65532));
 }
 
 // identities at their bounds, and some past the end
@@ -765,11 +808,13 @@ fn orders(all: &mut Vec<Message>) {
     }
 }
 
-// every identifier, every timer octet, and every octet 4 of a request
+// every identifier, every cause and timer octet, and every octet 4 of a request
 fn octets(all: &mut Vec<Message>) {
     for octet in 0..=255 {
         rejected(all, &format!("{octet:02X}"), 0);
         rejected(all, &format!("{octet:02X} 00 00"), 0);
+        plain(all, &format!("7E 00 44 {octet:02X} 5F 01 21"));
+        plain(all, &format!("7E 00 44 16 5F 01 {octet:02X}"));
         accepted(all, &format!("{octet:02X} 01 01 16 01 3F"), 0);
         accepted(all, &format!("16 01 {octet:02X}"), 0);
         accepted(all, &format!("5E 01 {octet:02X}"), 0);
@@ -807,9 +852,12 @@ fn by_hand(all: &mut Vec<Message>) {
 // What comes by chance, the same for the same seed: identifiers, known ones often, and octets of their contents.
 struct Chance(u64);
 
-const ACCEPTS: [u8; 18] = [
+const ACCEPTS: [u8; 19] = [
     0x77, 0x77, 0x77, 0x4A, 0x4A, 0x4A, 0x16, 0x16, 0x16, 0x5E, 0x5E, 0x5E, 0x75, 0x9F, 0xF2, 0x20,
-    0x52, 0x0F,
+    0x52, 0x0F, 0x5F,
+];
+const REJECTS: [u8; 14] = [
+    0x5F, 0x5F, 0x5F, 0x5F, 0x5F, 0x5F, 0x16, 0x5E, 0x77, 0x75, 0x9F, 0x20, 0x52, 0x0F,
 ];
 const ASKS: [u8; 14] = [
     0x10, 0x10, 0x10, 0x2E, 0x52, 0x52, 0x52, 0x40, 0x40, 0x50, 0x50, 0x75, 0x9F, 0x20,
@@ -840,10 +888,14 @@ impl Chance {
         }
     }
 
-    fn element(&mut self, request: bool) -> Vec<u8> {
-        let id = match self.below(8) {
-            0 => self.octet(),
-            _ => self.of(if request { &ASKS[..] } else { &ACCEPTS }),
+    // one for a message of this type
+    fn element(&mut self, kind: u8) -> Vec<u8> {
+        let request = kind == 0x41;
+        let id = match (self.below(8), kind) {
+            (0, _) => self.octet(),
+            (_, 0x41) => self.of(&ASKS),
+            (_, 0x42) => self.of(&ACCEPTS),
+            _ => self.of(&REJECTS),
         };
         let len = match id {
             0x52 if request => 6,
@@ -869,7 +921,7 @@ impl Chance {
         let mut msg = vec![0x7E, 0x00, 0x42, len];
         msg.extend((0..len).map(|_| self.octet()));
         for _ in 0..self.below(6) {
-            msg.extend(self.element(false));
+            msg.extend(self.element(0x42));
         }
         msg
     }
@@ -877,7 +929,7 @@ impl Chance {
     fn reject(&mut self) -> Vec<u8> {
         let mut msg = vec![0x7E, 0x00, 0x44, self.octet()];
         for _ in 0..self.below(4) {
-            msg.extend(self.element(false));
+            msg.extend(self.element(0x44));
         }
         msg
     }
@@ -895,7 +947,7 @@ impl Chance {
         };
         let mut msg = vec![0x7E, 0x00, 0x41, fourth, 0x00, len];
         msg.extend((0..len).map(|i| if i == 0 { lead } else { self.octet() }));
-        let mut elements: Vec<Vec<u8>> = (0..self.below(6)).map(|_| self.element(true)).collect();
+        let mut elements: Vec<Vec<u8>> = (0..self.below(6)).map(|_| self.element(0x41)).collect();
         if self.below(16) > 0 {
             let len = 2 + self.below(7);
             let place = self.below(elements.len() + 1);
@@ -993,6 +1045,7 @@ fn store(dir: &str) {
         cut,
         bounds,
         known,
+        asks_time,
         identities,
         asking,
         repeats,
@@ -1014,11 +1067,14 @@ fn store(dir: &str) {
     fs::write(format!("{dir}/reading.stdout"), output).expect("to write their readings");
 }
 
-// The readings that there are, by reader, and of the requests' those of a request in a container.
+// The readings that there are, by reader, and of the requests' those of a request in a container. "T3346" is a reject with a
+// time to wait.
 const READINGS: [(&str, &[&str]); 4] = [
     (
         "accepts and rejects",
-        &["accept", "reject", "13", "14", "15", "16", "17", "18"],
+        &[
+            "accept", "reject", "T3346", "13", "14", "15", "16", "17", "18",
+        ],
     ),
     (
         "requests",
@@ -1055,6 +1111,7 @@ fn tally(all: &[Message], lines: &[String]) -> bool {
         for (reader, said) in line.split(" | ").enumerate() {
             let word = match said.parse::<u16>() {
                 Ok(cause) if reader == 2 && cause < 256 => "cause",
+                _ if said.starts_with("reject") && !said.ends_with(" T3346 0") => "T3346",
                 _ => said.split(' ').next().unwrap_or(""),
             };
             *counts.entry((reader, word)).or_insert(0) += 1;

@@ -10,20 +10,22 @@
 //   card NETWORK SUCI
 //   start ACCESS NETWORK area CODE [manual]
 //   update ACCESS mobility|periodic NETWORK area CODE [uplink OCTETS] [sessions OCTETS]
-//   reject ACCESS CAUSE protected|unprotected [draw SECONDS]
-//   accept ACCESS protected|unprotected [draw SECONDS] [guti OCTETS]
+//   reject ACCESS CAUSE protected|unprotected [DRAWS] [T3346 OCTET]
+//   accept ACCESS protected|unprotected [DRAWS] [guti OCTETS]
 //          [equivalents NETWORK,NETWORK..] [T3502 OCTET] [T3512 OCTET]
-//   message ACCESS protected|unprotected [draw SECONDS] OCTETS
-//   timer T3510|T3511|T3502 ACCESS
+//   message ACCESS protected|unprotected [DRAWS] OCTETS
+//   timer T3510|T3511|T3502|T3346 ACCESS
 //   timer T3247|T3512
 //   power
 //   key ACCESS SET
 //   raw OCTETS            any other record: kind and body
 //
-// A draw left out is 1800. `uplink` and `sessions` are the two octets of 40 and of 50 as sent,
-// session 0 the lowest bit of the first; left out they are 0000. An accept's elements stand in
-// the order of their words, which is free. Octets of `message` and `raw` may be split by spaces.
-// A log and its text hold the same: to-text and then to-log gives the log back, octet for octet.
+// DRAWS are `draw SECONDS`, that for T3247 alone (log kind 3), or `draws SECONDS SECONDS`, that for
+// T3346 behind it (log kind 8); left out they are `draw 1800`. `uplink` and `sessions` are the two
+// octets of 40 and of 50 as sent, session 0 the lowest bit of the first; left out they are 0000. An
+// accept's elements stand in the order of their words, which is free; a reject's words say one 5F
+// of one octet and no other element. Octets of `message` and `raw` may be split by spaces. A log
+// and its text hold the same: to-text and then to-log gives the log back, octet for octet.
 //
 // Behind a message that is no accept and no reject, to-text adds a comment: the refusal's number,
 // the offset from 0 of the octet at fault, the fault in words, and the octets around that one. It
@@ -44,9 +46,12 @@ use std::process::ExitCode;
 
 type Parsed<T> = Result<T, String>;
 
-/// By their numbers in a log, from 1; those from T3247 on are the device's.
-const TIMERS: [&str; 5] = ["T3510", "T3511", "T3502", "T3247", "T3512"];
-const FIRST_OF_DEVICE: usize = 3;
+/// By their numbers in a log, from 1; T3247 and T3512 are the device's.
+const TIMERS: [&str; 6] = ["T3510", "T3511", "T3502", "T3247", "T3512", "T3346"];
+const OF_DEVICE: std::ops::Range<usize> = 3..5;
+
+/// Kinds of log records with a message, by how many draws they have, from 1.
+const HEARD: [u8; 2] = [3, 8];
 
 /// By their numbers in a log, from 2.
 const UPDATES: [&str; 2] = ["mobility", "periodic"];
@@ -157,12 +162,25 @@ impl<'a> Words<'a> {
         sized(self.next("two octets of sessions")?, 2)
     }
 
-    fn draw(&mut self) -> Parsed<u16> {
-        if !self.takes("draw") {
-            return Ok(1800);
+    /// One draw or two, in seconds.
+    fn draws(&mut self) -> Parsed<Vec<u16>> {
+        let count = match self.0.last() {
+            Some(&"draw") => 1,
+            Some(&"draws") => 2,
+            _ => return Ok(vec![1800]),
+        };
+        self.0.pop();
+        let draw = |_| number(self.next("a draw's seconds")?, "draw: seconds from 0 to 65535");
+        (0..count).map(draw).collect()
+    }
+
+    /// An element of one octet behind its name, if that is the next word.
+    fn timer(&mut self, name: &str, identifier: u8) -> Parsed<Option<[u8; 3]>> {
+        if !self.takes(name) {
+            return Ok(None);
         }
-        let word = self.next("the draw's seconds")?;
-        number(word, "draw: seconds from 0 to 65535")
+        let octet = sized(self.next(&format!("{name}'s octet"))?, 1)?[0];
+        Ok(Some([identifier, 0x01, octet]))
     }
 }
 
@@ -182,19 +200,20 @@ fn accept(words: &mut Words) -> Parsed<Vec<u8>> {
             message.extend(sized(words.next("the GUTI")?, 10)?);
         } else if words.takes("equivalents") {
             message.extend(equivalents(words.next("the equivalent networks")?)?);
-        } else if words.takes("T3502") {
-            message.extend([0x16, 0x01, sized(words.next("T3502's octet")?, 1)?[0]]);
-        } else if words.takes("T3512") {
-            message.extend([0x5E, 0x01, sized(words.next("T3512's octet")?, 1)?[0]]);
+        } else if let Some(element) = words.timer("T3502", 0x16)? {
+            message.extend(element);
+        } else if let Some(element) = words.timer("T3512", 0x5E)? {
+            message.extend(element);
         } else {
             return Ok(message);
         }
     }
 }
 
-fn heard(access: u8, protected: u8, draw: u16, message: &[u8]) -> Vec<u8> {
-    let [low, high] = draw.to_le_bytes();
-    [&[3, 0, access, protected, low, high], message].concat()
+fn heard(access: u8, protected: u8, draws: &[u16], message: &[u8]) -> Vec<u8> {
+    let mut held = vec![HEARD[draws.len() - 1], 0, access, protected];
+    held.extend(draws.iter().flat_map(|draw| draw.to_le_bytes()));
+    [&held[..], message].concat()
 }
 
 fn card(words: &mut Words) -> Parsed<Vec<u8>> {
@@ -222,15 +241,17 @@ fn update(words: &mut Words) -> Parsed<Vec<u8>> {
 fn reject(words: &mut Words) -> Parsed<Vec<u8>> {
     let access = words.access()?;
     let cause = number(words.next("the cause")?, "cause: 0 to 255")?;
-    let protected = words.protection()?;
-    Ok(heard(access, protected, words.draw()?, &[0x7E, 0x00, 0x44, cause]))
+    let (protected, draws) = (words.protection()?, words.draws()?);
+    let mut message = vec![0x7E, 0x00, 0x44, cause];
+    message.extend(words.timer("T3346", 0x5F)?.iter().flatten());
+    Ok(heard(access, protected, &draws, &message))
 }
 
 fn timer(words: &mut Words) -> Parsed<Vec<u8>> {
     let name = words.next("the timer")?;
     let place = TIMERS.iter().position(|timer| *timer == name);
     let place = place.ok_or_else(|| format!("`{name}` is no timer: {}", TIMERS.join(", ")))?;
-    let bare = place >= FIRST_OF_DEVICE && words.0.is_empty();
+    let bare = OF_DEVICE.contains(&place) && words.0.is_empty();
     let access = if bare { 0 } else { words.access()? };
     Ok(vec![4, 0, place as u8 + 1, access])
 }
@@ -252,11 +273,11 @@ fn record(words: &mut Words) -> Parsed<Vec<u8>> {
         "reject" => reject(words),
         "accept" => {
             let (access, protected) = (words.access()?, words.protection()?);
-            Ok(heard(access, protected, words.draw()?, &accept(words)?))
+            Ok(heard(access, protected, &words.draws()?, &accept(words)?))
         }
         "message" => {
             let (access, protected) = (words.access()?, words.protection()?);
-            Ok(heard(access, protected, words.draw()?, &octets(&words.rest())?))
+            Ok(heard(access, protected, &words.draws()?, &octets(&words.rest())?))
         }
         "timer" => timer(words),
         "power" => Ok(vec![5, 0]),
@@ -360,18 +381,37 @@ fn fault_text(message: &[u8]) -> String {
     format!("  # by itself {} at {}, {words}: {shown}", fault.number, fault.at)
 }
 
-fn message_text(access: u8, protected: u8, draw: u16, message: &[u8]) -> String {
+/// The words of a reject with these elements: none, or one 5F of one octet.
+fn reject_text(rest: &[u8]) -> Option<String> {
+    match rest {
+        [] => Some(String::new()),
+        [0x5F, 0x01, octet] => Some(format!(" T3346 {octet:02X}")),
+        _ => None,
+    }
+}
+
+fn message_text(access: u8, protected: u8, draws: &str, message: &[u8]) -> String {
     let way = if protected == 1 { "protected" } else { "unprotected" };
-    if let [0x7E, 0x00, 0x44, cause] = message {
-        return format!("reject {access} {cause} {way} draw {draw}");
+    if let [0x7E, 0x00, 0x44, cause, rest @ ..] = message {
+        if let Some(elements) = reject_text(rest) {
+            return format!("reject {access} {cause} {way} {draws}{elements}");
+        }
     }
     if let [0x7E, 0x00, 0x42, 0x01, 0x01, rest @ ..] = message {
         if let Some(elements) = accept_text(rest) {
-            return format!("accept {access} {way} draw {draw}{elements}");
+            return format!("accept {access} {way} {draws}{elements}");
         }
     }
-    let text = format!("message {access} {way} draw {draw} {}", hex(message));
+    let text = format!("message {access} {way} {draws} {}", hex(message));
     format!("{}{}", text.trim_end(), fault_text(message))
+}
+
+/// A record of kind 8: the second draw behind the first.
+fn drawn_text(access: u8, protected: u8, draws: [u8; 4], message: &[u8]) -> String {
+    let [low, high, second_low, second_high] = draws;
+    let first = u16::from_le_bytes([low, high]);
+    let second = u16::from_le_bytes([second_low, second_high]);
+    message_text(access, protected, &format!("draws {first} {second}"), message)
 }
 
 /// The body is the network, the area code and the octets of 40 and 50.
@@ -391,10 +431,14 @@ fn text_of(held: &[u8]) -> String {
             format!("start {access} {} area {}{manual}", network_text(&[*n1, *n2, *n3]), hex(code))
         }
         [3, 0, access, protected @ (0 | 1), low, high, message @ ..] => {
-            message_text(*access, *protected, u16::from_le_bytes([*low, *high]), message)
+            let draw = format!("draw {}", u16::from_le_bytes([*low, *high]));
+            message_text(*access, *protected, &draw, message)
+        }
+        [8, 0, access, protected @ (0 | 1), a, b, c, d, message @ ..] => {
+            drawn_text(*access, *protected, [*a, *b, *c, *d], message)
         }
         [4, 0, number @ (4 | 5), 0] => format!("timer {}", TIMERS[*number as usize - 1]),
-        [4, 0, number @ 1..=5, access] => {
+        [4, 0, number @ 1..=6, access] => {
             format!("timer {} {access}", TIMERS[*number as usize - 1])
         }
         [5, 0] => "power".into(),

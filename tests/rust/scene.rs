@@ -12,7 +12,7 @@ use std::io::Write;
 /// `told.T3247`, `told0.T3510`, `restart`, `home`, `0.state`.
 type Fields = BTreeMap<String, String>;
 
-const TIMERS: [&str; 3] = ["T3510", "T3511", "T3502"];
+const TIMERS: [&str; 4] = ["T3510", "T3511", "T3502", "T3346"];
 /// The device's own, told once and not for each access.
 const CLOCKS: [&str; 2] = ["T3247", "T3512"];
 /// `T3512length` is `length` in the device's part of a line; a bare `length` is an access's T3502.
@@ -108,9 +108,13 @@ fn put_in(
     out
 }
 
-fn message(access: &str, protected: u8, draw: u16, octets: &[u8]) -> Vec<u8> {
-    let mut body = vec![3, 0, decimal(access) as u8, protected];
-    body.extend(draw.to_le_bytes());
+/// The draws are one number, kind 3, or two with a comma between, kind 8.
+fn message(access: &str, protected: u8, draws: &str, octets: &[u8]) -> Vec<u8> {
+    let kind = if draws.contains(',') { 8 } else { 3 };
+    let mut body = vec![kind, 0, decimal(access) as u8, protected];
+    for draw in draws.splitn(2, ',') {
+        body.extend(decimal(draw).to_le_bytes());
+    }
     body.extend(octets);
     body
 }
@@ -122,23 +126,26 @@ fn number_of(timer: &str) -> u8 {
         "T3502" => 3,
         "T3247" => 4,
         "T3512" => 5,
+        "T3346" => 6,
         other => decimal(other) as u8,
     }
 }
 
-/// `reject ACCESS CAUSE [protected] [draw=SECONDS] [HEX]`
+/// `reject ACCESS CAUSE [protected] [draw=SECONDS] [draws=FIRST,SECOND] [HEX]..`
 fn reject(words: &[&str]) -> Vec<u8> {
     let mut octets_of = vec![0x7E, 0, 0x44, decimal(words[2]) as u8];
     let mut protected = 0;
-    let mut draw = 1800;
+    let mut draws = "1800";
     for word in &words[3..] {
-        match word.strip_prefix("draw=") {
-            Some(text) => draw = decimal(text),
+        match word.split_once('=') {
+            Some(("draw", text)) if !text.contains(',') => draws = text,
+            Some(("draws", text)) if text.contains(',') => draws = text,
+            Some(_) => panic!("no draw: {word}"),
             None if *word == "protected" => protected = 1,
             None => octets_of.extend(octets(word)),
         }
     }
-    message(words[1], protected, draw, &octets_of)
+    message(words[1], protected, draws, &octets_of)
 }
 
 /// `accept ACCESS [unprotected] [HEX]..`: the result is one octet, 01.
@@ -152,7 +159,7 @@ fn accept(words: &[&str]) -> Vec<u8> {
             octets_of.extend(octets(word));
         }
     }
-    message(words[1], protected, 1800, &octets_of)
+    message(words[1], protected, "1800", &octets_of)
 }
 
 fn record(words: &[&str]) -> Vec<u8> {
@@ -167,7 +174,7 @@ fn record(words: &[&str]) -> Vec<u8> {
         "update" => [vec![7, 0, decimal(words[1]) as u8, decimal(words[2]) as u8], hex(3)].concat(),
         "reject" => reject(words),
         "accept" => accept(words),
-        "message" => message(words[1], decimal(words[2]) as u8, decimal(words[3]), &hex(4)),
+        "message" => message(words[1], decimal(words[2]) as u8, words[3], &hex(4)),
         "timer" => vec![4, 0, number_of(words[1]), decimal(words[2]) as u8],
         "power" => vec![5, 0],
         "key" => vec![6, 0, decimal(words[1]) as u8, decimal(words[2]) as u8],
@@ -251,9 +258,9 @@ fn fresh() -> Fields {
     let mut fields = Fields::new();
     let device = "limits=3_3_3 cap=00 sec=f0f0 T3247=0 T3512=0 T3512length=3240 due=0 roaming=- \
                   regional=-";
-    let access = "status=2 attempts=0 T3510=0 T3511=0 T3502=0 length=720 pending=000000000000 \
-                  type=1 uplink=0000 sessions=0000 guti=- last=- ksi=7 equivalents=- cards=0 \
-                  entries=-";
+    let access = "status=2 attempts=0 T3510=0 T3511=0 T3502=0 length=720 T3346=0 \
+                  pending=000000000000 type=1 uplink=0000 sessions=0000 guti=- last=- ksi=7 \
+                  equivalents=- cards=0 entries=-";
     let mut put = |front: &str, words: &str| {
         for word in words.split_whitespace() {
             let (name, value) = word.split_once('=').expect("a value");
@@ -268,7 +275,7 @@ fn fresh() -> Fields {
 
 fn read_reply(part: &str, fields: &mut Fields) {
     let words: Vec<&str> = part.split(' ').collect();
-    assert!(words.len() == 23 && words[0] == "=", "a reply of {} words", words.len());
+    assert!(words.len() == 26 && words[0] == "=", "a reply of {} words", words.len());
     fields.insert("answer".to_string(), words[1].to_string());
     assert!(words[2] == "at");
     fields.insert("offset".to_string(), words[3].to_string());
@@ -278,12 +285,12 @@ fn read_reply(part: &str, fields: &mut Fields) {
         fields.insert(format!("told1.{timer}"), words[6 + 3 * i].to_string());
     }
     for (i, timer) in CLOCKS.iter().enumerate() {
-        assert!(words[13 + 2 * i] == *timer);
-        fields.insert(format!("told.{timer}"), words[14 + 2 * i].to_string());
+        assert!(words[16 + 2 * i] == *timer);
+        fields.insert(format!("told.{timer}"), words[17 + 2 * i].to_string());
     }
     for (i, name) in ASKED.iter().enumerate() {
-        assert!(words[17 + 2 * i] == *name);
-        fields.insert(name.to_string(), words[18 + 2 * i].to_string());
+        assert!(words[20 + 2 * i] == *name);
+        fields.insert(name.to_string(), words[21 + 2 * i].to_string());
     }
 }
 

@@ -6,8 +6,8 @@
 // of text for each event, as `scenario to-text` writes it. Columns: the event and its answer, of
 // a message that cannot be read with the octet at fault in brackets; the state of access 0 and of
 // access 1 with the attempt counter; T3247; T3512 and whether a periodic update is due, if it ever
-// ran; and for each network that an access ever held an entry of, its counters against their limits
-// and its marks.
+// ran; T3346 of each access where it ever ran; and for each network that an access ever held an
+// entry of, its counters against their limits and its marks.
 
 use std::collections::BTreeMap;
 use std::fmt::Write as _;
@@ -30,8 +30,8 @@ const STATES: [(&str, &str); 7] = [
 const UPDATES: [&str; 2] = ["update", "periodic update"];
 const UPDATING: &str = "#b4d7c8";
 
-/// By their numbers; 3 and 12 answer no event.
-const ANSWERS: [(usize, &str); 17] = [
+/// By their numbers; 3, 12 and 19 answer no event.
+const ANSWERS: [(usize, &str); 18] = [
     (0, "taken"),
     (1, "out of range"),
     (2, "ignored"),
@@ -49,9 +49,14 @@ const ANSWERS: [(usize, &str); 17] = [
     (16, "type not one this call reads"),
     (17, "an element past the end"),
     (18, "unknown, must be understood"),
+    (20, "asked to wait"),
 ];
 /// Those that tell an octet at fault.
 const FAULTS: std::ops::RangeInclusive<usize> = 13..=18;
+
+/// The timers of a reply, and of how many accesses each is told.
+const TIMERS: [(&str, usize); 6] =
+    [("T3510", 2), ("T3511", 2), ("T3502", 2), ("T3346", 2), ("T3247", 1), ("T3512", 1)];
 
 const ROW: usize = 26;
 const TOP: usize = 96;
@@ -71,6 +76,7 @@ struct Access {
     /// The pending registration's type, 1 to 3.
     kind: usize,
     attempts: String,
+    t3346: bool,
     cards: String,
     entries: BTreeMap<String, Entry>,
 }
@@ -130,6 +136,7 @@ fn access(part: &[&str]) -> Parsed<Access> {
         state: number(part, "state", 0..STATES.len())?,
         kind: number(part, "type", 1..2 + UPDATES.len())?,
         attempts: after(part, "attempts")?.into(),
+        t3346: after(part, "T3346")? == "1",
         cards: after(part, "cards")?.into(),
         entries: listed(after(part, "entries")?).map(entry).collect::<Parsed<_>>()?,
     })
@@ -145,7 +152,7 @@ fn answer(part: &[&str]) -> Parsed<(usize, &'static str)> {
 /// Timers started and stopped, and what is asked, in words.
 fn told(part: &[&str]) -> Parsed<String> {
     let mut text = Vec::new();
-    for (name, count) in [("T3510", 2), ("T3511", 2), ("T3502", 2), ("T3247", 1), ("T3512", 1)] {
+    for (name, count) in TIMERS {
         let at = part.iter().position(|word| *word == name).ok_or(format!("no `{name}`"))?;
         for change in part.iter().skip(at + 1).take(count).filter(|change| **change != "left") {
             let seconds =
@@ -272,6 +279,13 @@ fn period_lane(picture: &mut Picture, x: usize, steps: &[Step]) {
     }
 }
 
+fn wait_lane(picture: &mut Picture, x: usize, which: usize, steps: &[Step]) {
+    head(picture, x, "T3346", &format!("on access {which}"));
+    for (row, _) in steps.iter().enumerate().filter(|(_, step)| step.access[which].t3346) {
+        picture.bar(x, TOP + row * ROW, 14, "#a0522d");
+    }
+}
+
 fn entry_lane(picture: &mut Picture, x: usize, which: usize, network: &str, steps: &[Step]) {
     head(picture, x, network, &format!("on access {which}"));
     for (row, step) in steps.iter().enumerate() {
@@ -325,12 +339,14 @@ fn events(picture: &mut Picture, labels: &[&str], steps: &[Step]) {
     }
 }
 
-fn legend(picture: &mut Picture, y: usize) {
-    let lines = [
-        "Counters stand against their limits. A row shows the record after its event; rows are events, not times.",
-        "Red: forbidden. Orange: N1 not allowed. Dark red: both. Grey: entry without a mark. Violet: T3247 runs. Teal: T3512 runs. Yellow: due.",
-    ];
-    for (place, text) in lines.iter().enumerate() {
+/// T3346's colour is named where it has a lane.
+fn legend(picture: &mut Picture, y: usize, waits: bool) {
+    let rows = "Counters stand against their limits. A row shows the record after its event; rows are events, not times.";
+    let mut colours = String::from("Red: forbidden. Orange: N1 not allowed. Dark red: both. Grey: entry without a mark. Violet: T3247 runs. Teal: T3512 runs. Yellow: due.");
+    if waits {
+        colours.push_str(" Brown: T3346 runs.");
+    }
+    for (place, text) in [rows, &colours].iter().enumerate() {
         picture.text(6, y + 20 + place * 16, r##"font-size="11" fill="#333""##, text);
     }
 }
@@ -351,7 +367,10 @@ fn held(steps: &[Step]) -> Vec<(usize, &String)> {
 fn draw(labels: &[&str], steps: &[Step]) -> String {
     let lanes = held(steps);
     let period = steps.iter().any(|step| step.t3512 || step.due);
-    let first = EVENT + (3 + period as usize) * LANE;
+    let waits: Vec<usize> =
+        (0..2).filter(|which| steps.iter().any(|step| step.access[*which].t3346)).collect();
+    let clocks = 3 + period as usize;
+    let first = EVENT + (clocks + waits.len()) * LANE;
     let width = (first + lanes.len() * LANE + 8).max(780);
     let bottom = TOP + steps.len() * ROW;
     let mut picture = Picture(String::from("<svg xmlns=\"http://www.w3.org/2000/svg\" "));
@@ -366,6 +385,9 @@ fn draw(labels: &[&str], steps: &[Step]) -> String {
     if period {
         period_lane(&mut picture, EVENT + 3 * LANE, steps);
     }
+    for (place, which) in waits.iter().enumerate() {
+        wait_lane(&mut picture, EVENT + (clocks + place) * LANE, *which, steps);
+    }
     for (place, (which, name)) in lanes.iter().enumerate() {
         entry_lane(&mut picture, first + place * LANE, *which, name, steps);
     }
@@ -374,7 +396,7 @@ fn draw(labels: &[&str], steps: &[Step]) -> String {
         let _ = writeln!(picture.0, r##"<path d="M0 {y}H{width}" stroke="#dddddd"/>"##);
     }
     events(&mut picture, labels, steps);
-    legend(&mut picture, bottom);
+    legend(&mut picture, bottom, !waits.is_empty());
     picture.0.push_str("</svg>\n");
     picture.0
 }

@@ -1,6 +1,7 @@
 -- Answers: "Checks go 1, 5, 6, 7, 8, 9 for a start; 1, 6, 3, 10, 2, 4 for a message; 1, 11 for a timer; 1, 6 for a key set; 1 for a card or a power cycle";
 -- where a message had 3, it has "13 to 18 .. at 3's place" (document 02, R-1);
--- and for an update (document 02, R-5) 1, 6, "the other checks as for a start not manual".
+-- and for an update (document 02, R-5) 1, 6, "the other checks as for a start not manual";
+-- for both "20 .. while T3346 runs, after 6" (document 02, R-6).
 -- Each check passes on to the next; the last one is taken. The record itself is tested before. An event's `protected` is 1 or 0. Assumes nothing.
 use Prim.Native.Nat.{ℕ}
 use mathlib.Core.Bool.{Bool, cond}
@@ -14,9 +15,11 @@ use Rattle.record.specs.declared.Hot.{Hot}
 use Rattle.record.specs.declared.Answer.{Answer}
 use Rattle.record.specs.declared.Answer.the-variants as answer
 use Rattle.entries.specs.declared.Seen.{Seen}
+use Rattle.messages.specs.declared.Reject.{Reject}
 use Rattle.messages.specs.declared.Reading.{Reading}
 use Rattle.messages.specs.declared.Reading.the-variants as reading
 use Rattle.turns.specs.declared.Row.{Row}
+use Rattle.turns.specs.declared.Draws.{Draws}
 use Rattle.turns.specs.Timers.{isDeviceTimer, runsIn, runsOn}
 use Rattle.turns.specs.Rejects.{isIgnored, rowOf, needsEntry}
 use Rattle.record.specs.Sides.{accessOf, otherOf}
@@ -40,21 +43,22 @@ isFree manual s = both (eqb (s .barred) 0) (either (eqb (s .forbidden) 0) (eqb m
 unfoldable pub startRange : ℕ → ℕ → ℕ → ℕ → Bool
 startRange w manual net code = both (isFlag w) (both (isFlag manual) (both (isNetwork net) (isShort code)))
 
--- 7, 8, 9: a place to register at; listed says whether its area stands, over access 0, in one of the two lists
-unfoldable pub placeAnswer : Access → ℕ → ℕ → Seen → Bool → Answer
-placeAnswer other manual net s listed =
-    check (flip (isSame other net)) answer.Same
+-- 20, 7, 8, 9: a place to register at, and whether T3346 runs; listed says whether its area stands, over access 0, in one of the two lists
+unfoldable pub placeAnswer : ℕ → Access → ℕ → ℕ → Seen → Bool → Answer
+placeAnswer t3346 other manual net s listed =
+    check (eqb t3346 0) answer.Waiting
+    (check (flip (isSame other net)) answer.Same
     (check (isFree manual s) answer.Listed
     (check (flip listed) answer.Area
-    answer.Taken))
+    answer.Taken)))
 
--- Start: 1, 5, 6, 7, 8, 9
+-- Start: 1, 5, 6, 20, 7, 8, 9
 unfoldable pub startAnswer : Hot → ℕ → ℕ → ℕ → ℕ → Seen → Bool → Answer
 startAnswer h w manual net code s listed =
     check (startRange w manual net code) answer.Range
     (check (flip (eqb (accessOf h w .state) 0)) answer.StateZero
     (check (mayStart (accessOf h w .state)) answer.State
-    (placeAnswer (otherOf h w) manual net s listed)))
+    (placeAnswer (accessOf h w .t3346) (otherOf h w) manual net s listed)))
 
 -- Update (access, type 2 mobility or 3 periodic, network, area code, 40 and 50 with session 0 clear)
 unfoldable pub updateRange : ℕ → ℕ → ℕ → ℕ → ℕ → ℕ → Bool
@@ -65,49 +69,49 @@ updateRange w regtype net code uplink sessions =
 unfoldable pub mayUpdate : Hot → ℕ → ℕ → Bool
 mayUpdate h w regtype = both (eqb (accessOf h w .state) 5) (either (eqb regtype 2) (both (eqb w 0) (eqb (h .dev .due) 1)))
 
--- Update: 1, 6, 7, 8, 9
+-- Update: 1, 6, 20, 7, 8, 9
 unfoldable pub updateAnswer : Hot → ℕ → ℕ → ℕ → ℕ → ℕ → ℕ → Seen → Bool → Answer
 updateAnswer h w regtype net code uplink sessions s listed =
     check (updateRange w regtype net code uplink sessions) answer.Range
     (check (mayUpdate h w regtype) answer.State
-    (placeAnswer (otherOf h w) 0 net s listed))
+    (placeAnswer (accessOf h w .t3346) (otherOf h w) 0 net s listed))
 
 -- the row of a reject that comes over access w now
-unfoldable pub rowNow : Hot → ℕ → ℕ → ℕ → Row
-rowNow h w protected cause =
-    rowOf w (eqb protected 0) (eqb (accessOf h w .net) (h .dev .home)) (ltb (accessOf h w .cardcounter) (h .dev .cardlimit)) cause
+unfoldable pub rowNow : Hot → ℕ → ℕ → Reject → Row
+rowNow h w protected g =
+    rowOf w (eqb protected 0) (eqb (accessOf h w .net) (h .dev .home)) (ltb (accessOf h w .cardcounter) (h .dev .cardlimit)) (ltb 0 (g .t3346length)) (g .cause)
 
 -- "entry needed, network not in the access's table, all 16 entries held"
 unfoldable pub isFull : Row → Seen → Access → Bool
 isFull row s a = both (needsEntry row) (both (flip (s .found)) (leb 16 (a .entries)))
 
 -- a reject: 2, 4
-unfoldable pub rejectAnswer : Hot → ℕ → ℕ → ℕ → Seen → Answer
-rejectAnswer h w protected cause s =
-    check (flip (isIgnored protected cause (otherOf h w))) answer.Ignored
-    (check (flip (isFull (rowNow h w protected cause) s (accessOf h w))) answer.Full
+unfoldable pub rejectAnswer : Hot → ℕ → ℕ → Reject → Seen → Answer
+rejectAnswer h w protected g s =
+    check (flip (isIgnored protected (g .cause) (otherOf h w))) answer.Ignored
+    (check (flip (isFull (rowNow h w protected g) s (accessOf h w))) answer.Full
     answer.Taken)
 
 -- what was read: 13 to 18 of a fault; 10 of an accept; 2, 4 of a reject
 unfoldable pub readAnswer : Hot → ℕ → ℕ → Reading → Seen → Answer
 readAnswer h w protected (reading.Bad f at) s = answer.Malformed f at
 readAnswer h w protected (reading.Accept g) s = check (flip (eqb protected 0)) answer.Unprotected answer.Taken
-readAnswer h w protected (reading.Reject cause) s = rejectAnswer h w protected cause s
+readAnswer h w protected (reading.Reject g) s = rejectAnswer h w protected g s
 
--- "a draw for T3247, 1800 to 3600 s, checked even if unused"
-unfoldable pub messageRange : ℕ → ℕ → ℕ → Bool
-messageRange w protected draw = both (isFlag w) (both (isFlag protected) (within 1800 3600 draw))
+-- "a draw for T3247, 1800 to 3600 s, checked even if unused"; "a second draw, 900 to 1800 s", the same (document 02, R-6)
+unfoldable pub messageRange : ℕ → ℕ → Draws → Bool
+messageRange w protected draws = both (isFlag w) (both (isFlag protected) (both (within 1800 3600 (draws .t3247)) (within 900 1800 (draws .t3346))))
 
 -- Message: 1, 6, 13 to 18, 10, 2, 4
-unfoldable pub messageAnswer : Hot → ℕ → ℕ → ℕ → Reading → Seen → Answer
-messageAnswer h w protected draw m s =
-    check (messageRange w protected draw) answer.Range
+unfoldable pub messageAnswer : Hot → ℕ → ℕ → Draws → Reading → Seen → Answer
+messageAnswer h w protected draws m s =
+    check (messageRange w protected draws) answer.Range
     (check (eqb (accessOf h w .state) 4) answer.State
     (readAnswer h w protected m s))
 
--- timers 1 to 5; access 0 for T3247 and T3512
+-- timers 1 to 6; access 0 for T3247 and T3512
 unfoldable pub timerRange : ℕ → ℕ → Bool
-timerRange number w = both (within 1 5 number) (both (isFlag w) (either (flip (isDeviceTimer number)) (eqb w 0)))
+timerRange number w = both (within 1 6 number) (both (isFlag w) (either (flip (isDeviceTimer number)) (eqb w 0)))
 
 unfoldable pub runs : Hot → ℕ → ℕ → ℕ
 runs h number w = cond (isDeviceTimer number) (runsIn number (h .dev)) (runsOn number (accessOf h w))

@@ -1,6 +1,7 @@
 // Answers: each event's checks, in document 01's order.
 use entries::Seen;
 use messages::Reading;
+use messages::Reject;
 use messages::octet;
 use record::Access;
 use record::Answer;
@@ -12,6 +13,7 @@ use record::not;
 use record::or;
 use record::other_of;
 use record::pick;
+use turns::Draws;
 use turns::Row;
 use turns::is_device_timer;
 use turns::is_registered;
@@ -64,21 +66,22 @@ fn start_range(w: u8, manual: u8, net: u32, code: u32) -> bool
     and(w <= 1, and(manual <= 1, and(network(net), code < 16777216)))
 }
 
-// 7, 8, 9
-fn place_answer(other: Access, manual: u8, net: u32, s: Seen, listed: bool) -> Answer
-    ensures { λ r. ⌜ r ≡ rules.placeAnswer other manual net s listed ⌝ }
+// 20, 7, 8, 9
+fn place_answer(t3346: u8, other: Access, manual: u8, net: u32, s: Seen, listed: bool) -> Answer
+    ensures { λ r. ⌜ r ≡ rules.placeAnswer t3346 other manual net s listed ⌝ }
 {
     let area = check(not(listed), Answer::Area, Answer::Taken);
     let apart = not(is_same(other, net));
     let free = is_free(manual, s);
-    checks(apart, Answer::Same, free, Answer::Listed, area)
+    let place = checks(apart, Answer::Same, free, Answer::Listed, area);
+    check(t3346 == 0, Answer::Waiting, place)
 }
 
 pub fn start_answer(h: Hot, w: u8, manual: u8, net: u32, code: u32, s: Seen, listed: bool) -> Answer
     ensures { λ r. ⌜ r ≡ rules.startAnswer h w manual net code s listed ⌝ }
 {
     let a = access_of(h, w);
-    let place = place_answer(other_of(h, w), manual, net, s, listed);
+    let place = place_answer(a.t3346, other_of(h, w), manual, net, s, listed);
     let some = not(a.state == 0);
     let may = may_start(a.state);
     let state = checks(some, Answer::StateZero, may, Answer::State, place);
@@ -114,14 +117,15 @@ pub fn update_answer(
 ) -> Answer
     ensures { λ r. ⌜ r ≡ rules.updateAnswer h w regtype net code uplink sessions s listed ⌝ }
 {
-    let place = place_answer(other_of(h, w), 0, net, s, listed);
+    let a = access_of(h, w);
+    let place = place_answer(a.t3346, other_of(h, w), 0, net, s, listed);
     let range = update_range(w, regtype, net, code, uplink, sessions);
     let may = may_update(h, w, regtype);
     checks(range, Answer::Range, may, Answer::State, place)
 }
 
-pub fn row_now(h: Hot, w: u8, protected: u8, cause: u8) -> Row
-    ensures { λ r. ⌜ r ≡ rules.rowNow h w protected cause ⌝ }
+pub fn row_now(h: Hot, w: u8, protected: u8, g: Reject) -> Row
+    ensures { λ r. ⌜ r ≡ rules.rowNow h w protected g ⌝ }
 {
     let a = access_of(h, w);
     row_of(
@@ -129,7 +133,8 @@ pub fn row_now(h: Hot, w: u8, protected: u8, cause: u8) -> Row
         protected == 0,
         a.net == h.dev.home,
         a.cardcounter < h.dev.cardlimit,
-        cause,
+        0 < g.t3346length,
+        g.cause,
     )
 }
 
@@ -148,11 +153,11 @@ fn is_full(row: Row, s: Seen, a: Access) -> bool
     and(needs_entry(row), and(not(s.found), 16 <= a.entries))
 }
 
-fn reject_answer(h: Hot, w: u8, protected: u8, cause: u8, s: Seen) -> Answer
-    ensures { λ r. ⌜ r ≡ rules.rejectAnswer h w protected cause s ⌝ }
+fn reject_answer(h: Hot, w: u8, protected: u8, g: Reject, s: Seen) -> Answer
+    ensures { λ r. ⌜ r ≡ rules.rejectAnswer h w protected g s ⌝ }
 {
-    let heeded = not(is_ignored(protected, cause, other_of(h, w)));
-    let row = row_now(h, w, protected, cause);
+    let heeded = not(is_ignored(protected, g.cause, other_of(h, w)));
+    let row = row_now(h, w, protected, g);
     let room = not(is_full(row, s, access_of(h, w)));
     checks(heeded, Answer::Ignored, room, Answer::Full, Answer::Taken)
 }
@@ -162,23 +167,25 @@ fn read_answer(h: Hot, w: u8, protected: u8, m: Reading, s: Seen) -> Answer
 {
     match m {
         Reading::Accept(_) => check(not(protected == 0), Answer::Unprotected, Answer::Taken),
-        Reading::Reject(cause) => reject_answer(h, w, protected, cause, s),
+        Reading::Reject(g) => reject_answer(h, w, protected, g, s),
         Reading::Bad(f, at) => Answer::Malformed(f, at),
     }
 }
 
-fn message_range(w: u8, protected: u8, draw: u16) -> bool
-    ensures { λ r. ⌜ r ≡ rules.messageRange w protected draw ⌝ }
+fn message_range(w: u8, protected: u8, draws: Draws) -> bool
+    ensures { λ r. ⌜ r ≡ rules.messageRange w protected draws ⌝ }
 {
-    and(w <= 1, and(protected <= 1, and(1800 <= draw, draw <= 3600)))
+    let first = and(1800 <= draws.t3247, draws.t3247 <= 3600);
+    let second = and(900 <= draws.t3346, draws.t3346 <= 1800);
+    and(w <= 1, and(protected <= 1, and(first, second)))
 }
 
-pub fn message_answer(h: Hot, w: u8, protected: u8, draw: u16, m: Reading, s: Seen) -> Answer
-    ensures { λ r. ⌜ r ≡ rules.messageAnswer h w protected draw m s ⌝ }
+pub fn message_answer(h: Hot, w: u8, protected: u8, draws: Draws, m: Reading, s: Seen) -> Answer
+    ensures { λ r. ⌜ r ≡ rules.messageAnswer h w protected draws m s ⌝ }
 {
     let a = access_of(h, w);
     let read = read_answer(h, w, protected, m, s);
-    let range = message_range(w, protected, draw);
+    let range = message_range(w, protected, draws);
     let four = a.state == 4;
     checks(range, Answer::Range, four, Answer::State, read)
 }
@@ -187,7 +194,7 @@ fn timer_range(number: u8, w: u8) -> bool
     ensures { λ r. ⌜ r ≡ rules.timerRange number w ⌝ }
 {
     let access = and(w <= 1, or(not(is_device_timer(number)), w == 0));
-    and(and(1 <= number, number <= 5), access)
+    and(and(1 <= number, number <= 6), access)
 }
 
 fn runs(h: Hot, number: u8, w: u8) -> u8

@@ -2,10 +2,12 @@
 use Prim.Native.Nat.{ℕ}
 use mathlib.Core.Bool.{Bool, true, false, cond}
 use lib.Dec.{eqb}
+use Rattle.record.specs.Tests.{flip}
 use Rattle.record.specs.declared.Access.{Access}
 use Rattle.record.specs.declared.Device.{Device}
 use Rattle.record.specs.declared.Hot.{Hot}
 use Rattle.messages.specs.declared.Accept.{Accept}
+use Rattle.messages.specs.declared.Reject.{Reject}
 use Rattle.entries.specs.declared.Seen.{Seen}
 use Rattle.entries.specs.declared.Seat.{Seat}
 use Rattle.entries.specs.Entries.{seatOf}
@@ -17,10 +19,11 @@ use Rattle.turns.specs.declared.Order.{Order}
 use Rattle.turns.specs.declared.Order.the-variants.{Leave, Stop, Run}
 use Rattle.turns.specs.declared.Turn.{Turn}
 use Rattle.turns.specs.declared.Row.{Row}
+use Rattle.turns.specs.declared.Draws.{Draws}
 use Rattle.turns.specs.Timers.{isDeviceTimer}
 use Rattle.turns.specs.Words.{Mark, noMark, forbiddenAndCounted, n1NotAllowedAndCounted, markIn}
-use Rattle.turns.specs.Rejects.{rejectT3247, rowText, toRoaming, toRegional}
-use Rattle.turns.specs.Turns.{still, started, updated, keySet, accepted, t3510Out, t3511Out, t3502Out, cycled, renewed, rowTurn, otherTurn}
+use Rattle.turns.specs.Rejects.{rejectT3247, t3346Time, rowText, toRoaming, toRegional}
+use Rattle.turns.specs.Turns.{still, started, updated, keySet, accepted, clockTurn, cycled, renewed, rowTurn, otherTurn}
 use Rattle.effects.specs.declared.Work.{Work}
 use Rattle.effects.specs.declared.Sides.{Sides}
 use Rattle.effects.specs.declared.Keep.{Keep}
@@ -155,12 +158,9 @@ acceptEffect h w g s = record {
   restart = false;
 }
 
--- T3510 out; T3511 out and T3502 out ask for a restart
+-- T3510 out; T3511 out and T3502 out ask for a restart, and so does T3346 out (document 02, R-6)
 unfoldable pub clockEffect : Hot → ℕ → ℕ → Effect
-clockEffect h number w =
-    cond (eqb number 1) (plain h w (t3510Out (accessOf h w)) false)
-    (cond (eqb number 2) (plain h w (t3511Out (accessOf h w)) true)
-    (plain h w (t3502Out (accessOf h w)) true))
+clockEffect h number w = plain h w (clockTurn number (accessOf h w)) (flip (eqb number 1))
 
 -- T3247 out: stops; both accesses' entries and both lists are gone through
 unfoldable pub t3247Effect : Hot → ℕ → Effect
@@ -216,14 +216,14 @@ rowWork r w protected cause a s = record {
 }
 
 -- Reject, by its row
-unfoldable pub rejectEffect : Hot → ℕ → ℕ → ℕ → Seen → ℕ → Row → Effect
-rejectEffect h w protected draw s cause r = record {
+unfoldable pub rejectEffect : Hot → ℕ → ℕ → Draws → Seen → Reject → Row → Effect
+rejectEffect h w protected draws s g r = record {
   dev = h .dev;
-  mine = rowTurn r w (h .dev .cardlimit) cause (s .found) (accessOf h w);
+  mine = rowTurn r w (h .dev .cardlimit) (g .cause) (s .found) (t3346Time protected (g .t3346length) (draws .t3346)) (accessOf h w);
   theirs = otherTurn r (h .dev .cardlimit) (otherOf h w);
-  t3247 = rejectT3247 (h .dev .t3247) protected cause draw;
+  t3247 = rejectT3247 (h .dev .t3247) protected (g .cause) (draws .t3247);
   t3512 = Leave;
-  work = rowWork r w protected cause (accessOf h w) s;
+  work = rowWork r w protected (g .cause) (accessOf h w) s;
   restart = false;
 }
 

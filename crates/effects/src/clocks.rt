@@ -11,15 +11,14 @@ use entries::Deed;
 use record::Device;
 use record::Hot;
 use record::access_of;
+use record::not;
 use record::other_of;
 use turns::Order;
+use turns::clock_turn;
 use turns::cycled;
 use turns::is_device_timer;
 use turns::renewed;
 use turns::still;
-use turns::t3502_out;
-use turns::t3510_out;
-use turns::t3511_out;
 ghost use mathlib.Core.Path.{_≡_};
 ghost use Rattle.effects.specs.Effects as rules;
 ghost use Rattle.effects.specs.Effects.{sidesOf};
@@ -53,17 +52,13 @@ pub fn card_effect(h: Hot, home: u32, suci: u8) -> Sides
     }
 }
 
+// Every timer of an access but T3510 asks for a restart. The effect is put together once for all four: put together four times it is too
+// much code for the compiler to inline, and goes through memory.
 fn clock_effect(h: Hot, number: u8, w: u8) -> Sides
     ensures { λ r. ⌜ r ≡ sidesOf w (rules.clockEffect h number w) ⌝ }
 {
-    let a = access_of(h, w);
-    if number == 1 {
-        return plain(h, w, t3510_out(a), false);
-    }
-    if number == 2 {
-        return plain(h, w, t3511_out(a), true);
-    }
-    plain(h, w, t3502_out(a), true)
+    let t = clock_turn(number, access_of(h, w));
+    plain(h, w, t, not(number == 1))
 }
 
 fn t3512_effect(h: Hot, w: u8) -> Sides

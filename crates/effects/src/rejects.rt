@@ -8,11 +8,13 @@ use areas::Task;
 use entries::Deed;
 use entries::Seat;
 use entries::Seen;
+use messages::Reject;
 use record::Access;
 use record::Hot;
 use record::access_of;
 use record::and;
 use record::other_of;
+use turns::Draws;
 use turns::Order;
 use turns::Row;
 use turns::other_turn;
@@ -24,7 +26,7 @@ ghost use mathlib.Core.Path.{_≡_};
 ghost use mathlib.Core.Bool.{cond};
 ghost use Rattle.areas.specs.declared.Task.the-variants.{Nothing, Put};
 ghost use Rattle.turns.specs.declared.Order.the-variants.{Leave, Run};
-ghost use Rattle.turns.specs.Rejects.{rejectT3247};
+ghost use Rattle.turns.specs.Rejects.{rejectT3247, t3346Time};
 ghost use Rattle.effects.specs.Effects as rules;
 ghost use Rattle.effects.specs.Effects.{sidesOf};
 
@@ -58,6 +60,7 @@ fn row_deed(row: Row, s: Seat) -> Deed
         Row::Home => Deed::Nothing,
         Row::Area => Deed::Nothing,
         Row::N1 => Deed::Bar(s),
+        Row::Congested => Deed::Nothing,
         Row::Protocol => Deed::Nothing,
         Row::Other => Deed::Nothing,
     }
@@ -91,13 +94,35 @@ fn row_work(row: Row, w: u8, protected: u8, cause: u8, a: Access, s: Seen) -> Wo
     }
 }
 
-pub fn reject_effect(h: Hot, w: u8, protected: u8, draw: u16, s: Seen, cause: u8, row: Row) -> Sides
-    ensures { λ r. ⌜ r ≡ sidesOf w (rules.rejectEffect h w protected draw s cause row) ⌝ }
+// The given time if protected, else the draw.
+fn t3346_time(protected: u8, given: u16, draw: u16) -> u32
+    ensures { λ r. ⌜ r ≡ t3346Time protected given draw ⌝ }
+{
+    if protected == 0 {
+        draw as u32
+    } else {
+        given as u32
+    }
+}
+
+pub fn reject_effect(
+    h: Hot,
+    w: u8,
+    protected: u8,
+    draws: Draws,
+    s: Seen,
+    g: Reject,
+    row: Row,
+) -> Sides
+    ensures { λ r. ⌜ r ≡ sidesOf w (rules.rejectEffect h w protected draws s g row) ⌝ }
 {
     let dev = h.dev;
-    let mine = row_turn(row, w, dev.cardlimit, cause, s.found, access_of(h, w));
-    let theirs = other_turn(row, dev.cardlimit, other_of(h, w));
-    let t3247 = reject_t3247(dev.t3247, protected, cause, draw);
+    let cause = g.cause;
+    let time = t3346_time(protected, g.t3346length, draws.t3346);
+    let limit = dev.cardlimit;
+    let mine = row_turn(row, w, limit, cause, s.found, time, access_of(h, w));
+    let theirs = other_turn(row, limit, other_of(h, w));
+    let t3247 = reject_t3247(dev.t3247, protected, cause, draws.t3247);
     let work = row_work(row, w, protected, cause, access_of(h, w), s);
     let t0 = side(w, mine, theirs);
     let t1 = side(w, theirs, mine);

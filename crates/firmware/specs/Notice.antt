@@ -21,6 +21,7 @@ timersOf c = record {
   t3510 = timerNotice (c .t3510);
   t3511 = timerNotice (c .t3511);
   t3502 = timerNotice (c .t3502);
+  t3346 = timerNotice (c .t3346);
 }
 
 -- none, or 1 plus the access

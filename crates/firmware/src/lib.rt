@@ -22,6 +22,7 @@ pub struct Timers {
     pub t3510: Timer,
     pub t3511: Timer,
     pub t3502: Timer,
+    pub t3346: Timer,
 }
 
 // A reply but for its answer, as numbers. The offset is of the octet at fault in a message, 0 where the answer is none of 13 to 18.

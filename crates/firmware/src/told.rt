@@ -31,13 +31,16 @@ fn timers_of(c: Clocks) -> Timers
     let x = c.t3510;
     let y = c.t3511;
     let z = c.t3502;
+    let u = c.t3346;
     let t3510 = timer_of(x);
     let t3511 = timer_of(y);
     let t3502 = timer_of(z);
+    let t3346 = timer_of(u);
     Timers {
         t3510,
         t3511,
         t3502,
+        t3346,
     }
 }
 

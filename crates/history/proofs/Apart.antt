@@ -18,10 +18,11 @@ use Rattle.entries.specs.Entries.{entriesAfter}
 use Rattle.messages.specs.declared.Reading.{Reading}
 use Rattle.messages.specs.declared.Reading.the-variants as reading
 use Rattle.messages.specs.Message.{readingOf}
-use Rattle.turns.specs.declared.Row.the-variants.{CardBelow, CardLimit, CardProtected, Away, Home, Area, N1, Protocol, Other}
+use Rattle.turns.specs.declared.Row.the-variants.{CardBelow, CardLimit, CardProtected, Away, Home, Area, N1, Congested, Protocol, Other}
 use Rattle.turns.specs.declared.Turn.{Turn}
+use Rattle.turns.specs.declared.Draws.{Draws}
 use Rattle.turns.specs.Timers.{isDeviceTimer, flagAfter, clocked}
-use Rattle.turns.specs.Rejects.{isCard, isNetworkNo, isAreaNo, isN1No, isProtocol, rowOf, rowText}
+use Rattle.turns.specs.Rejects.{isCard, isNetworkNo, isAreaNo, isN1No, isCongested, isProtocol, rowOf, rowText}
 use Rattle.turns.specs.Words.{acrossOf}
 use Rattle.turns.specs.Turns.{still, otherTurned, otherTurn}
 use Rattle.effects.specs.declared.Keep.{Keep}
@@ -45,20 +46,22 @@ use Rattle.history.proofs.Next.{other-of, next, plan, carry-guti, carry
 use Rattle.history.proofs.Stays.{small}
 
 -- the rows leave the other access, but for the protected one of 3, 6 and 7
-across-rows : (b c d e f bare at-home below : Bool) (limit : ℕ) (a : Access)
-    → otherTurn (cond b (cond bare (cond below CardBelow CardLimit) CardProtected) (cond c (cond at-home (cond bare Home Other) Away) (cond d Area (cond e N1 (cond f Protocol Other))))) limit a
+across-rows : (b c d e x f bare at-home below : Bool) (limit : ℕ) (a : Access)
+    → otherTurn (cond b (cond bare (cond below CardBelow CardLimit) CardProtected)
+    (cond c (cond at-home (cond bare Home Other) Away) (cond d Area (cond e N1 (cond x Congested (cond f Protocol Other)))))) limit a
     ≡ still (cond (both b (flip bare)) (counted limit a) a)
 unfolding otherTurn otherTurned rowText acrossOf
-across-rows true c d e f true at-home true limit a = refl
-across-rows true c d e f true at-home false limit a = refl
-across-rows true c d e f false at-home below limit a = refl
-across-rows false true d e f true true below limit a = refl
-across-rows false true d e f false true below limit a = refl
-across-rows false true d e f bare false below limit a = refl
-across-rows false false true e f bare at-home below limit a = refl
-across-rows false false false true f bare at-home below limit a = refl
-across-rows false false false false true bare at-home below limit a = refl
-across-rows false false false false false bare at-home below limit a = refl
+across-rows true c d e x f true at-home true limit a = refl
+across-rows true c d e x f true at-home false limit a = refl
+across-rows true c d e x f false at-home below limit a = refl
+across-rows false true d e x f true true below limit a = refl
+across-rows false true d e x f false true below limit a = refl
+across-rows false true d e x f bare false below limit a = refl
+across-rows false false true e x f bare at-home below limit a = refl
+across-rows false false false true x f bare at-home below limit a = refl
+across-rows false false false false true f bare at-home below limit a = refl
+across-rows false false false false false true bare at-home below limit a = refl
+across-rows false false false false false false bare at-home below limit a = refl
 
 still-is : (a : Access) → clocked (still a .orders) (still a .access) ≡ a
 unfolding clocked flagAfter
@@ -96,41 +99,33 @@ module _ (r : Record) where
     deed : x .work .theirs ≡ deed.Nothing
     kept : NoCard (x .work .keep)
 
-  message-own : (b protected draw : ℕ) (m : Reading) (s : Seen) → Own b (crosses (Message b protected draw) m) (messageEffect (r .hot) b protected draw m s)
+  message-own : (b protected : ℕ) (draws : Draws) (m : Reading) (s : Seen) → Own b (crosses (Message b protected draws) m) (messageEffect (r .hot) b protected draws m s)
   unfolding crosses refusesCard messageEffect acceptEffect rejectEffect rowWork rowNow rowOf isCard
-  message-own b protected draw (reading.Accept g) s = record { theirs = refl; deed = refl; kept = tt }
-  message-own b protected draw (reading.Reject cause) s = record {
+  message-own b protected draws (reading.Accept g) s = record { theirs = refl; deed = refl; kept = tt }
+  message-own b protected draws (reading.Reject k) s = record {
     theirs =
-        across-rows (isCard cause) (isNetworkNo cause) (both (isAreaNo cause) (eqb b 0)) (isN1No b cause) (isProtocol cause) (eqb protected 0)
+        across-rows (isCard (k .cause)) (isNetworkNo (k .cause)) (both (isAreaNo (k .cause)) (eqb b 0)) (isN1No b (k .cause)) (isCongested (k .cause) (ltb 0 (k .t3346length)))
+        (isProtocol (k .cause)) (eqb protected 0)
         (eqb (accessOf (r .hot) b .net) (r .hot .dev .home)) (ltb (accessOf (r .hot) b .cardcounter) limit) limit (otherOf (r .hot) b);
     deed = refl;
     kept = tt;
   }
-  message-own b protected draw (reading.Bad f at) s = record { theirs = refl; deed = refl; kept = tt }
+  message-own b protected draws (reading.Bad f at) s = record { theirs = refl; deed = refl; kept = tt }
 
-  clock-own : (number b : ℕ) → Own b false (clockEffect (r .hot) number b)
-  unfolding clockEffect
-  clock-own number b = go (eqb number 1) refl (eqb number 2) refl
-    where
-      go : (s : Bool) → eqb number 1 ≡ s → (s′ : Bool) → eqb number 2 ≡ s′ → Own b false (clockEffect (r .hot) number b)
-      go true q s′ q′ = rw q (record { theirs = refl; deed = refl; kept = tt })
-      go false q true q′ = rw (q, q′) (record { theirs = refl; deed = refl; kept = tt })
-      go false q false q′ = rw (q, q′) (record { theirs = refl; deed = refl; kept = tt })
-
-  -- T3512 out changes numbers of the device alone
+  -- T3512 out changes numbers of the device alone, the timers of an access those of their own
   timer-own : (number b : ℕ) → eqb number 4 ≡ false → Own b false (timerEffect (r .hot) number b)
-  unfolding timerEffect isDeviceTimer deviceEffect t3512Effect
+  unfolding timerEffect isDeviceTimer deviceEffect t3512Effect clockEffect
   timer-own number b q = go (eqb number 5) refl
     where
       go : (s : Bool) → eqb number 5 ≡ s → Own b false (timerEffect (r .hot) number b)
       go true q′ = rw (q, q′) (record { theirs = refl; deed = refl; kept = tt })
-      go false q′ = rw (q, q′) (clock-own number b)
+      go false q′ = rw (q, q′) (record { theirs = refl; deed = refl; kept = tt })
 
   event-own : (e : Event) (s : Seen) (octets : List ℕ) → isOwn e ≡ true → Own (accessIn e) (crosses e (readingOf octets)) (effectOf (r .hot) e s octets)
   unfolding isOwn crosses accessIn effectOf startEffect updateEffect keyEffect
   event-own (Card home) s octets o = absurd (false≢true o)
   event-own (Start b manual net code) s octets o = record { theirs = refl; deed = refl; kept = tt }
-  event-own (Message b protected draw) s octets o = message-own b protected draw (readingOf octets) s
+  event-own (Message b protected draws) s octets o = message-own b protected draws (readingOf octets) s
   event-own (Timer number b) s octets o = timer-own number b (flip-true (eqb number 4) o)
   event-own Power s octets o = absurd (false≢true o)
   event-own (Key b set) s octets o = record { theirs = refl; deed = refl; kept = tt }
@@ -191,8 +186,8 @@ bare-half true true limit x = refl
 bare-half true false limit x = refl
 bare-half false c limit x = refl
 
-pub apart : (r : Record) (b draw : ℕ) (octets : List ℕ) (w : ℕ) → w < 2 → eqb b w ≡ false → halfOf (stepOf r (Message b 0 draw) octets .next) w ≡ halfOf r w
+pub apart : (r : Record) (b : ℕ) (draws : Draws) (octets : List ℕ) (w : ℕ) → w < 2 → eqb b w ≡ false → halfOf (stepOf r (Message b 0 draws) octets .next) w ≡ halfOf r w
 unfolding isOwn crosses accessIn
-apart r b draw octets w hw q =
-    own-apart r (Message b 0 draw) octets w hw q refl
-    ∙ bare-half (isTaken (stepOf r (Message b 0 draw) octets .reply .answer)) (refusesCard (readingOf octets)) (r .hot .dev .cardlimit) (halfOf r w)
+apart r b draws octets w hw q =
+    own-apart r (Message b 0 draws) octets w hw q refl
+    ∙ bare-half (isTaken (stepOf r (Message b 0 draws) octets .reply .answer)) (refusesCard (readingOf octets)) (r .hot .dev .cardlimit) (halfOf r w)

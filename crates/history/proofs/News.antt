@@ -14,11 +14,13 @@ use Rattle.entries.specs.declared.Deed.the-variants as deed
 use Rattle.entries.specs.declared.Seen.{Seen}
 use Rattle.entries.specs.declared.Seat.{Seat}
 use Rattle.entries.specs.Entries.{seatOf, entriesAfter}
+use Rattle.messages.specs.declared.Reject.{Reject}
 use Rattle.messages.specs.declared.Reading.{Reading}
 use Rattle.messages.specs.declared.Reading.the-variants as reading
 use Rattle.messages.specs.Message.{readingOf}
 use Rattle.turns.specs.Timers.{isDeviceTimer}
 use Rattle.turns.specs.declared.Row.{Row}
+use Rattle.turns.specs.declared.Draws.{Draws}
 use Rattle.checks.specs.Answers.{rowNow, readAnswer}
 use Rattle.effects.specs.Effects.{cardEffect, startEffect, updateEffect, keyEffect, acceptEffect, clockEffect, t3247Effect, t3512Effect, deviceEffect, timerEffect, powerEffect, rowWork, rejectEffect}
 use Rattle.rules.specs.declared.Event.{Event}
@@ -46,9 +48,9 @@ either-fits : (s : Bool) (k k′ : Deed) (count : ℕ) (nets : List ℕ) → (s 
 either-fits true k k′ count nets f f′ = f refl
 either-fits false k k′ count nets f f′ = f′ refl
 
-module _ (r : Record) (b protected draw : ℕ) where
+module _ (r : Record) (b protected : ℕ) (draws : Draws) where
   abbrev sight : Seen
-  sight = seenAt r (Message b protected draw)
+  sight = seenAt r (Message b protected draws)
 
   abbrev net : ℕ
   net = accessOf (r .hot) b .net
@@ -56,95 +58,85 @@ module _ (r : Record) (b protected draw : ℕ) where
   abbrev is-protected : Bool
   is-protected = not (eqb protected 0)
 
-  abbrev here : ℕ → Row
-  here cause = rowNow (r .hot) b protected cause
+  abbrev here : Reject → Row
+  here k = rowNow (r .hot) b protected k
 
   -- the row's word for the network is the history's
-  said-same : (cause n : ℕ) → cond (eqb net n) (rowNews (here cause) is-protected) quiet ≡ cond (eqb net n) (causeNews (eqb n (r .hot .dev .home)) b is-protected cause) quiet
+  said-same : (k : Reject) (n : ℕ) → cond (eqb net n) (rowNews (here k) is-protected) quiet ≡ cond (eqb net n) (causeNews (eqb n (r .hot .dev .home)) b is-protected (k .cause)) quiet
   unfolding rowNow
-  said-same cause n = go (eqb net n) refl
+  said-same k n = go (eqb net n) refl
     where
       go : (s : Bool) → eqb net n ≡ s
-          → cond (eqb net n) (rowNews (here cause) is-protected) quiet ≡ cond (eqb net n) (causeNews (eqb n (r .hot .dev .home)) b is-protected cause) quiet
+          → cond (eqb net n) (rowNews (here k) is-protected) quiet ≡ cond (eqb net n) (causeNews (eqb n (r .hot .dev .home)) b is-protected (k .cause)) quiet
       go true q =
-          rw q (row-news b (eqb protected 0) (eqb net (r .hot .dev .home)) (ltb (accessOf (r .hot) b .cardcounter) (r .hot .dev .cardlimit)) is-protected cause
-          ∙ ap (λ (k : ℕ). causeNews (eqb k (r .hot .dev .home)) b is-protected cause) (eqb-true net n q))
+          rw q (row-news b (eqb protected 0) (eqb net (r .hot .dev .home)) (ltb (accessOf (r .hot) b .cardcounter) (r .hot .dev .cardlimit)) (ltb 0 (k .t3346length)) is-protected (k .cause)
+          ∙ ap (λ (x : ℕ). causeNews (eqb x (r .hot .dev .home)) b is-protected (k .cause)) (eqb-true net n q))
       go false q = rw q
 
   -- the message's own access: by what was read
   own-news : (m : Reading) → isRead m ≡ true → (n : ℕ)
-      → deedNews (messageEffect (r .hot) b protected draw m sight .work .mine) n ≡ cond (eqb net n) (readNews (eqb n (r .hot .dev .home)) b is-protected m) quiet
+      → deedNews (messageEffect (r .hot) b protected draws m sight .work .mine) n ≡ cond (eqb net n) (readNews (eqb n (r .hot .dev .home)) b is-protected m) quiet
   unfolding messageEffect acceptEffect rejectEffect rowWork readNews isRead
   own-news (reading.Accept g) t n = refl
-  own-news (reading.Reject cause) t n = row-deed (here cause) (seatOf sight net protected) n ∙ said-same cause n
+  own-news (reading.Reject k) t n = row-deed (here k) (seatOf sight net protected) n ∙ said-same k n
   own-news (reading.Bad f at) t n = absurd (false≢true t)
 
   own-fits : b < 2 → (m : Reading) → isTaken (readAnswer (r .hot) b protected m sight) ≡ true
-      → Fits (messageEffect (r .hot) b protected draw m sight .work .mine) (accessOf (r .hot) b .entries) (entriesIn r b .nets)
+      → Fits (messageEffect (r .hot) b protected draws m sight .work .mine) (accessOf (r .hot) b .entries) (entriesIn r b .nets)
   unfolding messageEffect acceptEffect rejectEffect rowWork readAnswer isTaken
-  own-fits hb (reading.Accept g) t = seen-seat r b protected draw hb 1
-  own-fits hb (reading.Reject cause) t =
-      row-fits (here cause) (seatOf sight net protected) (accessOf (r .hot) b .entries) (entriesIn r b .nets) (seen-seat r b protected draw hb protected)
-      (λ need none. reject-passed (r .hot) b protected cause sight t need (ap (λ (s : Seat). s .found) (seen-seat r b protected draw hb protected) ∙ none))
+  own-fits hb (reading.Accept g) t = seen-seat r b protected draws hb 1
+  own-fits hb (reading.Reject k) t =
+      row-fits (here k) (seatOf sight net protected) (accessOf (r .hot) b .entries) (entriesIn r b .nets) (seen-seat r b protected draws hb protected)
+      (λ need none. reject-passed (r .hot) b protected k sight t need (ap (λ (s : Seat). s .found) (seen-seat r b protected draws hb protected) ∙ none))
   own-fits hb (reading.Bad f at) t = absurd (false≢true t)
 
   -- the other one: no message reaches its entries
-  others : (m : Reading) → messageEffect (r .hot) b protected draw m sight .work .theirs ≡ deed.Nothing
+  others : (m : Reading) → messageEffect (r .hot) b protected draws m sight .work .theirs ≡ deed.Nothing
   unfolding messageEffect acceptEffect rejectEffect rowWork
   others (reading.Accept g) = refl
-  others (reading.Reject cause) = refl
+  others (reading.Reject k) = refl
   others (reading.Bad f at) = refl
 
   read-of : (m : Reading) → isTaken (readAnswer (r .hot) b protected m sight) ≡ true → isRead m ≡ true
   unfolding readAnswer isRead isTaken
   read-of (reading.Accept g) t = refl
-  read-of (reading.Reject cause) t = refl
+  read-of (reading.Reject k) t = refl
   read-of (reading.Bad f at) t = t
 
-  module _ (octets : List ℕ) (t : isTaken (answeredBy r (Message b protected draw) octets) ≡ true) where
+  module _ (octets : List ℕ) (t : isTaken (answeredBy r (Message b protected draws) octets) ≡ true) where
     read-taken : isTaken (readAnswer (r .hot) b protected (readingOf octets) sight) ≡ true
     unfolding answeredBy answerOf
-    read-taken = message-passed (r .hot) b protected draw (readingOf octets) sight t .2
+    read-taken = message-passed (r .hot) b protected draws (readingOf octets) sight t .2
 
     message-news : (w n : ℕ)
-        → deedNews (deedIn r (Message b protected draw) octets w) n
+        → deedNews (deedIn r (Message b protected draws) octets w) n
         ≡ cond (eqb b w && eqb (accessOf (r .hot) w .net) n) (messageNews (eqb n (r .hot .dev .home)) w is-protected octets) quiet
     unfolding accessIn effectOf
     message-news w n = either-news (eqb b w) _ _ n _ own other
       where
-        own : eqb b w ≡ true → deedNews (messageEffect (r .hot) b protected draw (readingOf octets) sight .work .mine) n
+        own : eqb b w ≡ true → deedNews (messageEffect (r .hot) b protected draws (readingOf octets) sight .work .mine) n
             ≡ cond (eqb b w && eqb (accessOf (r .hot) w .net) n) (messageNews (eqb n (r .hot .dev .home)) w is-protected octets) quiet
         own q =
             own-news (readingOf octets) (read-of (readingOf octets) read-taken) n
             ∙ ap (λ (d : News). cond (eqb net n) d quiet) (sym (octets-news (eqb n (r .hot .dev .home)) b is-protected octets (read-of (readingOf octets) read-taken)))
             ∙ ap (λ (v : ℕ). cond (eqb (accessOf (r .hot) v .net) n) (messageNews (eqb n (r .hot .dev .home)) v is-protected octets) quiet) (eqb-true b w q) ∙ rw q
 
-        other : eqb b w ≡ false → deedNews (messageEffect (r .hot) b protected draw (readingOf octets) sight .work .theirs) n
+        other : eqb b w ≡ false → deedNews (messageEffect (r .hot) b protected draws (readingOf octets) sight .work .theirs) n
             ≡ cond (eqb b w && eqb (accessOf (r .hot) w .net) n) (messageNews (eqb n (r .hot .dev .home)) w is-protected octets) quiet
         other q = rw (q, others (readingOf octets))
 
-    message-fits : (w : ℕ) → Fits (deedIn r (Message b protected draw) octets w) (accessOf (r .hot) w .entries) (entriesIn r w .nets)
+    message-fits : (w : ℕ) → Fits (deedIn r (Message b protected draws) octets w) (accessOf (r .hot) w .entries) (entriesIn r w .nets)
     unfolding accessIn effectOf
     message-fits w =
         either-fits (eqb b w) _ _ (accessOf (r .hot) w .entries) (entriesIn r w .nets)
-        (λ q. rw (sym (eqb-true b w q)) (own-fits (small r (Message b protected draw) octets t) (readingOf octets) read-taken))
+        (λ q. rw (sym (eqb-true b w q)) (own-fits (small r (Message b protected draws) octets t) (readingOf octets) read-taken))
         (λ q. rw (others (readingOf octets)) tt)
 
 module _ (r : Record) where
-  clock-deeds : (number b : ℕ) → (clockEffect (r .hot) number b .work .mine ≡ deed.Nothing) × (clockEffect (r .hot) number b .work .theirs ≡ deed.Nothing)
-  unfolding clockEffect
-  clock-deeds number b = go (eqb number 1) refl (eqb number 2) refl
-    where
-      go : (s : Bool) → eqb number 1 ≡ s → (s′ : Bool) → eqb number 2 ≡ s′
-          → (clockEffect (r .hot) number b .work .mine ≡ deed.Nothing) × (clockEffect (r .hot) number b .work .theirs ≡ deed.Nothing)
-      go true q s′ q′ = rw q (refl, refl)
-      go false q true q′ = rw (q, q′) (refl, refl)
-      go false q false q′ = rw (q, q′) (refl, refl)
-
   -- T3247 sweeps both accesses, T3512 and the timers of an access do nothing
   timer-deeds : (number b : ℕ) → (timerEffect (r .hot) number b .work .mine ≡ cond (eqb number 4) deed.Sweep deed.Nothing)
       × (timerEffect (r .hot) number b .work .theirs ≡ cond (eqb number 4) deed.Sweep deed.Nothing)
-  unfolding timerEffect isDeviceTimer deviceEffect t3247Effect t3512Effect
+  unfolding timerEffect isDeviceTimer deviceEffect t3247Effect t3512Effect clockEffect
   timer-deeds number b = go (eqb number 4) refl (eqb number 5) refl
     where
       go : (s : Bool) → eqb number 4 ≡ s → (s′ : Bool) → eqb number 5 ≡ s′
@@ -152,7 +144,7 @@ module _ (r : Record) where
           × (timerEffect (r .hot) number b .work .theirs ≡ cond (eqb number 4) deed.Sweep deed.Nothing)
       go true q s′ q′ = rw q (refl, refl)
       go false q true q′ = rw (q, q′) (refl, refl)
-      go false q false q′ = rw (q, q′) (clock-deeds number b)
+      go false q false q′ = rw (q, q′) (refl, refl)
 
   timer-news : (s : Bool) (n : ℕ) → deedNews (cond s deed.Sweep deed.Nothing) n ≡ cond s ended quiet
   timer-news true n = refl
@@ -167,7 +159,7 @@ module _ (r : Record) where
   unfolding accessIn effectOf startEffect updateEffect keyEffect powerEffect isCardChange eventNews
   event-news (Card home) octets t k w n = absurd (true≢false k)
   event-news (Start b manual net code) octets t k w n = either-news (eqb b w) deed.Nothing deed.Nothing n quiet (λ q. refl) (λ q. refl)
-  event-news (Message b protected draw) octets t k w n = message-news r b protected draw octets t w n
+  event-news (Message b protected draws) octets t k w n = message-news r b protected draws octets t w n
   event-news (Timer number b) octets t k w n =
       either-news (eqb b w) _ _ n _ (λ q. rw (timer-deeds number b .0) (timer-news (eqb number 4) n)) (λ q. rw (timer-deeds number b .1) (timer-news (eqb number 4) n))
   event-news Power octets t k w n = either-news (eqb 0 w) deed.Power deed.Power n _ (λ q. refl) (λ q. refl)
@@ -180,7 +172,7 @@ module _ (r : Record) where
   unfolding accessIn effectOf startEffect updateEffect keyEffect powerEffect isCardChange
   event-fits (Card home) octets t k w = absurd (true≢false k)
   event-fits (Start b manual net code) octets t k w = either-fits (eqb b w) deed.Nothing deed.Nothing _ _ (λ q. tt) (λ q. tt)
-  event-fits (Message b protected draw) octets t k w = message-fits r b protected draw octets t w
+  event-fits (Message b protected draws) octets t k w = message-fits r b protected draws octets t w
   event-fits (Timer number b) octets t k w =
       either-fits (eqb b w) _ _ _ _ (λ q. rw (timer-deeds number b .0) (timer-fits (eqb number 4) _ _)) (λ q. rw (timer-deeds number b .1) (timer-fits (eqb number 4) _ _))
   event-fits Power octets t k w = either-fits (eqb 0 w) deed.Power deed.Power _ _ (λ q. tt) (λ q. tt)

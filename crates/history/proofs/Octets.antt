@@ -11,19 +11,19 @@ use Rattle.octets.specs.declared.Ending.{Ending}
 use Rattle.octets.specs.declared.Ending.the-variants.{Broken, Whole}
 use Rattle.messages.specs.declared.Reading.{Reading}
 use Rattle.messages.specs.declared.Reading.the-variants as reading
-use Rattle.messages.specs.Message.{endedBy, acceptedOf, acceptReading, rejectReading, typeReading, openedBy, readingOf}
+use Rattle.messages.specs.Message.{endedBy, acceptedOf, acceptReading, rejectOf, rejectedOf, rejectReading, typeReading, openedBy, readingOf}
 use Rattle.history.specs.History.{News, causeNews, messageNews}
 use Rattle.history.proofs.Said.{accepted, quiet}
 
 -- what a reading is for the network
 unfoldable pub readNews : Bool → ℕ → Bool → Reading → News
 readNews home w protected (reading.Accept g) = accepted
-readNews home w protected (reading.Reject cause) = causeNews home w protected cause
+readNews home w protected (reading.Reject k) = causeNews home w protected (k .cause)
 readNews home w protected (reading.Bad f at) = quiet
 
 unfoldable pub isRead : Reading → Bool
 isRead (reading.Accept g) = true
-isRead (reading.Reject cause) = true
+isRead (reading.Reject k) = true
 isRead (reading.Bad f at) = false
 
 module _ (home : Bool) (w : ℕ) (p : Bool) where
@@ -56,7 +56,7 @@ module _ (home : Bool) (w : ℕ) (p : Bool) where
         (λ e. bad accepted Cut 3)
 
     reject-is : Is (causeNews home w p (getD s 3 0)) (rejectReading s)
-    unfolding rejectReading readNews
+    unfolding rejectReading rejectedOf rejectOf readNews
     reject-is = either-is (causeNews home w p (getD s 3 0)) (ltb 3 (length s)) _ _ (λ e. ended-is (causeNews home w p (getD s 3 0)) _ _ refl) (λ e. bad (causeNews home w p (getD s 3 0)) Cut 3)
 
     abbrev heard : News

@@ -1,18 +1,25 @@
 -- The round trip with no condition: a record run from a new one has its arrays' lengths, whatever the events, so what is written of it reads back; and in
--- state 4 it is written. Three requests octet by octet, computed from the events. Assumes nothing.
+-- state 4 it is written, and never while the network has asked for time. Three requests octet by octet, computed from the events. Assumes nothing.
 use Prim.Native.Nat.{ℕ, _≤_}
 use mathlib.Core.Path.{_≡_, refl}
+use mathlib.Core.Bool.{Bool, true, false}
 use mathlib.Core.List.{List, [], _∷_}
 use native.Mathlib.Omega.{arith}
+use lib.Dec.{leb, eqb}
 use lib.ListN.{length, take}
 use borrow.Author.Tests.{le-leb}
 use Rattle.record.specs.declared.Record.{Record}
 use Rattle.record.specs.declared.Answer.the-variants.{Taken}
+use Rattle.record.specs.Answers.{isTaken}
 use Rattle.record.specs.Sides.{accessOf}
+use Rattle.record.specs.Tests.{both}
+use Rattle.ranges.specs.Valid.{validOf}
 use Rattle.validity.specs.Sized.{Sized}
 use Rattle.validity.specs.Run.{Heard, AllOctets, runOf}
 use Rattle.validity.proofs.Sizes.{made-sized}
+use Rattle.validity.proofs.Bools.{flip-true, either-second}
 use Rattle.validity.proofs.Runs.{ran, ran-valid, run-sized}
+use Rattle.validity.proofs.Wait.{own-waits, t3346-waits}
 use Rattle.request.specs.Layout.{shown}
 use Rattle.request.specs.Levels.{askingOf}
 use Rattle.request.specs.Reading.{toldBy}
@@ -22,6 +29,7 @@ use Rattle.request.proofs.Recorded.{Whole, read-back}
 use Rattle.request.proofs.Short.{request-short}
 use Rattle.rules.specs.declared.Event.{Event}
 use Rattle.rules.specs.declared.Event.the-variants.{Card, Start, Message, Power, Key, Update}
+use Rattle.log.specs.Log.{drawsOf}
 use Rattle.laws.specs.Upto as upto
 use Rattle.octets.specs.Element as octets
 use Rattle.timers.specs.Timer as timers
@@ -73,6 +81,18 @@ module _ (cardlimit banlimit n1limit : ℕ) (capability security : List ℕ) (xs
       let short : length (requestOf reached access) ≤ length b = omega (arith, request-short reached access valid state) in
       rw (le-leb access 1 a, valid, state, le-leb (length (requestOf reached access)) (length b) short)
 
+  -- while the network has asked for time nothing is written
+  pub waits-unwritten : eqb (accessOf (reached .hot) access .t3346) 0 ≡ false → (isTaken (writtenOf reached access (length b) .answer) ≡ false) × (bufferOf reached access b ≡ b)
+  unfolding writtenOf bufferOf writingAnswer isTaken
+  waits-unwritten waits = go (both (leb access 1) (validOf reached)) refl
+    where
+      idle : eqb (accessOf (reached .hot) access .state) 4 ≡ false
+      idle = flip-true _ (either-second _ _ (own-waits reached (t3346-waits cardlimit banlimit n1limit capability security xs) access) waits)
+
+      go : (v : Bool) → both (leb access 1) (validOf reached) ≡ v → (isTaken (writtenOf reached access (length b) .answer) ≡ false) × (bufferOf reached access b ≡ b)
+      go true v = rw (v, idle) (refl, refl)
+      go false v = rw v (refl, refl)
+
 -- Three requests: ngKSI 7 and a SUCI; ngKSI 3 and a GUTI, all three elements in a 71, both as another decoder reads them; and an update's, with 40 and 50
 
 abbrev heard : Event → List ℕ → Heard
@@ -86,7 +106,7 @@ begun xs = heard (Card 0x00F110) (0x01 ∷ 0x00 ∷ 0xF1 ∷ 0x10 ∷ 0xF0 ∷ 0
 abbrev taught : List Heard → List Heard
 taught xs =
     heard (Key 0 3) []
-    ∷ heard (Message 0 1 1800) (0x7E ∷ 0x00 ∷ 0x42 ∷ 0x01 ∷ 0x01 ∷ 0x77 ∷ 0x00 ∷ 0x0B ∷ 0xF2 ∷ 0x00 ∷ 0xF1 ∷ 0x10 ∷ 0x80 ∷ 0x01 ∷ 0xC5 ∷ 0xD1 ∷ 0xC2 ∷ 0xB3 ∷ 0xA4 ∷ [])
+    ∷ heard (Message 0 1 (drawsOf 1800 900)) (0x7E ∷ 0x00 ∷ 0x42 ∷ 0x01 ∷ 0x01 ∷ 0x77 ∷ 0x00 ∷ 0x0B ∷ 0xF2 ∷ 0x00 ∷ 0xF1 ∷ 0x10 ∷ 0x80 ∷ 0x01 ∷ 0xC5 ∷ 0xD1 ∷ 0xC2 ∷ 0xB3 ∷ 0xA4 ∷ [])
     ∷ xs
 
 -- a power cycle, and the start again
@@ -107,5 +127,5 @@ pub rows-sent : (sent [] ≡ 0x7E ∷ 0x00 ∷ 0x41 ∷ 0x71 ∷ 0x00 ∷ 0x09 �
     × (sent moved ≡ 0x7E ∷ 0x00 ∷ 0x41 ∷ 0x32 ∷ 0x00 ∷ 0x0B ∷ 0xF2 ∷ 0x00 ∷ 0xF1 ∷ 0x10 ∷ 0x80 ∷ 0x01 ∷ 0xC5 ∷ 0xD1 ∷ 0xC2 ∷ 0xB3 ∷ 0xA4 ∷ 0x2E ∷ 0x02 ∷ 0xF0 ∷ 0xF0 ∷ 0x71 ∷ 0x00 ∷ 0x27
     ∷ 0x7E ∷ 0x00 ∷ 0x41 ∷ 0x32 ∷ 0x00 ∷ 0x0B ∷ 0xF2 ∷ 0x00 ∷ 0xF1 ∷ 0x10 ∷ 0x80 ∷ 0x01 ∷ 0xC5 ∷ 0xD1 ∷ 0xC2 ∷ 0xB3 ∷ 0xA4
     ∷ 0x10 ∷ 0x01 ∷ 0x00 ∷ 0x2E ∷ 0x02 ∷ 0xF0 ∷ 0xF0 ∷ 0x52 ∷ 0x00 ∷ 0xF2 ∷ 0x20 ∷ 0x00 ∷ 0x00 ∷ 0x2A ∷ 0x40 ∷ 0x02 ∷ 0x02 ∷ 0x04 ∷ 0x50 ∷ 0x02 ∷ 0x20 ∷ 0x80 ∷ [])
-unfolding upto.upto upto.copied upto.seekTo upto.allTo upto.distinctTo octets.formatOf octets.leadBy octets.contentsBy octets.readAs octets.leadOf octets.contentsOf octets.sizeOf octets.elementOf octets.joined octets.elementsOf octets.elementsFrom octets.firstOf octets.endOf messages.gutiOf messages.countOf messages.tripletsOf messages.t3502Of messages.t3512Of messages.acceptOf messages.endedBy messages.acceptedOf messages.acceptReading messages.rejectReading messages.typeReading messages.openedBy messages.readingOf entries.entriesHeld entries.placeIn entries.hasEntry entries.peekAt entries.seenIn entries.liftMark entries.bumped entries.putAt entries.clearUnless entries.raised entries.banned entries.barredBy entries.unforbidden entries.swept entries.powered entries.none entries.entriesAfter areas.areasHeld areas.areaPlace areas.listedIn areas.placed areas.placedCount areas.kept areas.stayed areas.sweptList areas.listAfter areas.countAfter network.isNetwork new.newDevice new.newAccess new.emptyRecord new.newRecord valid.deviceRanges valid.periodicRanges valid.deviceNumbers valid.modeRanges valid.pendingRanges valid.identityRanges valid.heldRanges valid.accessRanges valid.rangesOf valid.countersOf valid.cardOf valid.suciOf valid.codesOf valid.clockOf valid.onceOf valid.validOf answers.numberOf answers.isTaken clocks.flagAfter clocks.isDeviceTimer clocks.runsIn clocks.runsOn clocks.toldOf clocks.clocksOf setters.forgotten setters.inState setters.withStatus setters.withAttempts setters.emptied setters.counted setters.pending setters.keyed setters.taught setters.entered clocks.clocked rows.isCard rows.isNetworkNo rows.isAreaNo rows.isN1No rows.isProtocol rows.isUpdating words.isMark words.listOf words.markIn words.acrossOf words.applied turns.started turns.updated turns.keySet turns.accepted turns.startFailed turns.updateFailed turns.failed turns.t3510Out turns.t3511Out turns.t3502Out turns.cycled turns.renewed turns.turned turns.rowTurn turns.otherTurned turns.otherTurn hot.accessOf hot.otherOf hot.hotOf checks.mayStart checks.isSame checks.isFree checks.placeAnswer checks.startRange checks.startAnswer checks.updateRange checks.mayUpdate checks.updateAnswer checks.rowNow checks.isFull checks.rejectAnswer checks.readAnswer checks.messageRange checks.messageAnswer checks.timerRange checks.runs checks.timerAnswer checks.keyAnswer checks.cardAnswer effects.ticked effects.scheduled effects.carded effects.cardEffect effects.startEffect effects.updateEffect effects.keyEffect effects.t3512Time effects.acceptT3512 effects.acceptDevice effects.acceptEffect effects.clockEffect effects.t3247Effect effects.t3512Effect effects.deviceEffect effects.timerEffect effects.powerEffect effects.markDeed effects.rowDeed effects.rowWork effects.rejectEffect plan.askOf plan.siteAt plan.siteOf plan.accessIn plan.answerOf plan.messageEffect plan.effectOf plan.hotAfter plan.takenReply plan.isIgnoring plan.refusedReply plan.takenPlan plan.refusedPlan plan.decidedBy plan.planOf parts.seenBy parts.sightOf parts.seenOf parts.listedOf parts.plannedOf plan.deedOn plan.deedOf parts.tableAfter parts.withCounts parts.doneOf parts.carriedOut parts.partsAfter parts.networksOf parts.gutiAfter parts.equivalentsAfter parts.suciAfter parts.keptAfter step.together step.joinedOf step.advanceOf step.stepOf runOf layout.layout layout.levelsOf layout.shown layout.nested layout.clear layout.octetsOf layout.opening layout.openingHead layout.itemsOf layout.laid layout.itemOctets layout.withLead layout.lengthIn writing.gutisOf writing.lastOf writing.uplinkOf writing.sessionsOf writing.sayingOf writing.saysOf writing.fieldsOf writing.requestOf identity.isPending identity.equivalentsHeld identity.isAmong identity.isEquivalent identity.ownFirst identity.orderOf identity.slotOf identity.partOf identity.identityOf timers.timer2Rows timers.timer3Rows timers.span2Of timers.span3Of
+unfolding upto.upto upto.copied upto.seekTo upto.allTo upto.distinctTo octets.formatOf octets.leadBy octets.contentsBy octets.readAs octets.leadOf octets.contentsOf octets.sizeOf octets.elementOf octets.joined octets.elementsOf octets.elementsFrom octets.firstOf octets.endOf messages.gutiOf messages.countOf messages.tripletsOf messages.timer2In messages.t3512Of messages.acceptOf messages.endedBy messages.acceptedOf messages.acceptReading messages.rejectOf messages.rejectedOf messages.rejectReading messages.typeReading messages.openedBy messages.readingOf entries.entriesHeld entries.placeIn entries.hasEntry entries.peekAt entries.seenIn entries.liftMark entries.bumped entries.putAt entries.clearUnless entries.raised entries.banned entries.barredBy entries.unforbidden entries.swept entries.powered entries.none entries.entriesAfter areas.areasHeld areas.areaPlace areas.listedIn areas.placed areas.placedCount areas.kept areas.stayed areas.sweptList areas.listAfter areas.countAfter network.isNetwork new.newDevice new.newAccess new.emptyRecord new.newRecord valid.deviceRanges valid.periodicRanges valid.deviceNumbers valid.modeRanges valid.pendingRanges valid.identityRanges valid.heldRanges valid.accessRanges valid.rangesOf valid.countersOf valid.cardOf valid.suciOf valid.codesOf valid.clockOf valid.onceOf valid.validOf answers.numberOf answers.isTaken clocks.flagAfter clocks.isDeviceTimer clocks.runsIn clocks.runsOn clocks.toldOf clocks.clocksOf setters.forgotten setters.inState setters.withStatus setters.withAttempts setters.emptied setters.counted setters.pending setters.keyed setters.taught setters.entered clocks.clocked rows.isCard rows.isNetworkNo rows.isAreaNo rows.isN1No rows.isCongested rows.isProtocol words.isUpdating words.isMark words.listOf words.markIn words.acrossOf words.applied turns.started turns.updated turns.keySet turns.accepted turns.startFailed turns.updateFailed turns.failed turns.t3510Out turns.t3511Out turns.t3502Out turns.t3346Out turns.clockTurn turns.cycled turns.renewed turns.turned turns.rowTurn turns.otherTurned turns.otherTurn hot.accessOf hot.otherOf hot.hotOf checks.mayStart checks.isSame checks.isFree checks.placeAnswer checks.startRange checks.startAnswer checks.updateRange checks.mayUpdate checks.updateAnswer checks.rowNow checks.isFull checks.rejectAnswer checks.readAnswer checks.messageRange checks.messageAnswer checks.timerRange checks.runs checks.timerAnswer checks.keyAnswer checks.cardAnswer effects.ticked effects.scheduled effects.carded effects.cardEffect effects.startEffect effects.updateEffect effects.keyEffect effects.t3512Time effects.acceptT3512 effects.acceptDevice effects.acceptEffect effects.clockEffect effects.t3247Effect effects.t3512Effect effects.deviceEffect effects.timerEffect effects.powerEffect effects.markDeed effects.rowDeed effects.rowWork effects.rejectEffect plan.askOf plan.siteAt plan.siteOf plan.accessIn plan.answerOf plan.messageEffect plan.effectOf plan.hotAfter plan.takenReply plan.isIgnoring plan.refusedReply plan.takenPlan plan.refusedPlan plan.decidedBy plan.planOf parts.seenBy parts.sightOf parts.seenOf parts.listedOf parts.plannedOf plan.deedOn plan.deedOf parts.tableAfter parts.withCounts parts.doneOf parts.carriedOut parts.partsAfter parts.networksOf parts.gutiAfter parts.equivalentsAfter parts.suciAfter parts.keptAfter step.together step.joinedOf step.advanceOf step.stepOf runOf layout.layout layout.levelsOf layout.shown layout.nested layout.clear layout.octetsOf layout.opening layout.openingHead layout.itemsOf layout.laid layout.itemOctets layout.withLead layout.lengthIn writing.gutisOf writing.lastOf writing.uplinkOf writing.sessionsOf writing.sayingOf writing.saysOf writing.fieldsOf writing.requestOf identity.isPending identity.equivalentsHeld identity.isAmong identity.isEquivalent identity.ownFirst identity.orderOf identity.slotOf identity.partOf identity.identityOf timers.timer2Rows timers.timer3Rows timers.span2Of timers.span3Of
 rows-sent = (refl, refl, refl)

@@ -8,9 +8,9 @@ use borrow.Author.Tests.{eqb-true}
 use Rattle.record.specs.Tests.{both}
 use Rattle.entries.specs.declared.Seat.{Seat}
 use Rattle.turns.specs.declared.Row.{Row}
-use Rattle.turns.specs.declared.Row.the-variants.{CardBelow, CardLimit, CardProtected, Away, Home, Area, N1, Protocol, Other}
+use Rattle.turns.specs.declared.Row.the-variants.{CardBelow, CardLimit, CardProtected, Away, Home, Area, N1, Congested, Protocol, Other}
 use Rattle.turns.specs.Words.{Mark, noMark, forbiddenAndCounted, n1NotAllowedAndCounted, isMark, markIn}
-use Rattle.turns.specs.Rejects.{isCard, isNetworkNo, isAreaNo, isN1No, isProtocol, rowOf, rowText, needsEntry}
+use Rattle.turns.specs.Rejects.{isCard, isNetworkNo, isAreaNo, isN1No, isCongested, isProtocol, rowOf, rowText, needsEntry}
 use Rattle.effects.specs.Effects.{markDeed, rowDeed}
 use Rattle.history.specs.History.{struck, nothing, News, news, causeNews}
 use Rattle.history.proofs.Said.{banned, barred, quiet}
@@ -25,6 +25,7 @@ rowNews Away p = banned p
 rowNews Home p = quiet
 rowNews Area p = quiet
 rowNews N1 p = barred p
+rowNews Congested p = quiet
 rowNews Protocol p = quiet
 rowNews Other p = quiet
 
@@ -35,41 +36,43 @@ network-row false true p = refl
 network-row bare false p = refl
 
 -- 72: over access 1
-n1-row : (b c p : Bool) → rowNews (cond b N1 (cond c Protocol Other)) p ≡ cond b (barred p) quiet
-n1-row true c p = refl
-n1-row false true p = refl
-n1-row false false p = refl
+n1-row : (b d c p : Bool) → rowNews (cond b N1 (cond d Congested (cond c Protocol Other))) p ≡ cond b (barred p) quiet
+n1-row true d c p = refl
+n1-row false true c p = refl
+n1-row false false true p = refl
+n1-row false false false p = refl
 
 -- no other row concerns a network
-other-row : (a b c bare below p : Bool) → rowNews (cond a (cond bare (cond below CardBelow CardLimit) CardProtected) (cond b Area (cond c Protocol Other))) p ≡ quiet
-other-row true b c true true p = refl
-other-row true b c true false p = refl
-other-row true b c false below p = refl
-other-row false true c bare below p = refl
-other-row false false true bare below p = refl
-other-row false false false bare below p = refl
+other-row : (a b d c bare below p : Bool) → rowNews (cond a (cond bare (cond below CardBelow CardLimit) CardProtected) (cond b Area (cond d Congested (cond c Protocol Other)))) p ≡ quiet
+other-row true b d c true true p = refl
+other-row true b d c true false p = refl
+other-row true b d c false below p = refl
+other-row false true d c bare below p = refl
+other-row false false true c bare below p = refl
+other-row false false false true bare below p = refl
+other-row false false false false bare below p = refl
 
-module _ (w : ℕ) (bare at-home below p : Bool) where
-  pub row-news : (c : ℕ) → rowNews (rowOf w bare at-home below c) p ≡ causeNews at-home w p c
+module _ (w : ℕ) (bare at-home below timed p : Bool) where
+  pub row-news : (c : ℕ) → rowNews (rowOf w bare at-home below timed c) p ≡ causeNews at-home w p c
   unfolding rowOf causeNews isCard isNetworkNo isAreaNo isN1No isProtocol
   row-news c = by-11 (eqb c 11) refl
     where
-      rest : eqb c 11 ≡ false → eqb c 73 ≡ false → eqb c 27 ≡ false → eqb c 72 ≡ false → rowNews (rowOf w bare at-home below c) p ≡ causeNews at-home w p c
-      rest q11 q73 q27 q72 = rw (q11, q73, q27, q72) (other-row (isCard c) (both (isAreaNo c) (eqb w 0)) (isProtocol c) bare below p)
+      rest : eqb c 11 ≡ false → eqb c 73 ≡ false → eqb c 27 ≡ false → eqb c 72 ≡ false → rowNews (rowOf w bare at-home below timed c) p ≡ causeNews at-home w p c
+      rest q11 q73 q27 q72 = rw (q11, q73, q27, q72) (other-row (isCard c) (both (isAreaNo c) (eqb w 0)) (isCongested c timed) (isProtocol c) bare below p)
 
-      by-72 : (b : Bool) → eqb c 72 ≡ b → eqb c 11 ≡ false → eqb c 73 ≡ false → eqb c 27 ≡ false → rowNews (rowOf w bare at-home below c) p ≡ causeNews at-home w p c
-      by-72 true q q11 q73 q27 = rw (eqb-true c 72 q) (n1-row (eqb w 1) false p)
+      by-72 : (b : Bool) → eqb c 72 ≡ b → eqb c 11 ≡ false → eqb c 73 ≡ false → eqb c 27 ≡ false → rowNews (rowOf w bare at-home below timed c) p ≡ causeNews at-home w p c
+      by-72 true q q11 q73 q27 = rw (eqb-true c 72 q) (n1-row (eqb w 1) (isCongested 72 timed) false p)
       by-72 false q q11 q73 q27 = rest q11 q73 q27 q
 
-      by-27 : (b : Bool) → eqb c 27 ≡ b → eqb c 11 ≡ false → eqb c 73 ≡ false → rowNews (rowOf w bare at-home below c) p ≡ causeNews at-home w p c
+      by-27 : (b : Bool) → eqb c 27 ≡ b → eqb c 11 ≡ false → eqb c 73 ≡ false → rowNews (rowOf w bare at-home below timed c) p ≡ causeNews at-home w p c
       by-27 true q q11 q73 = rw (eqb-true c 27 q)
       by-27 false q q11 q73 = by-72 (eqb c 72) refl q11 q73 q
 
-      by-73 : (b : Bool) → eqb c 73 ≡ b → eqb c 11 ≡ false → rowNews (rowOf w bare at-home below c) p ≡ causeNews at-home w p c
+      by-73 : (b : Bool) → eqb c 73 ≡ b → eqb c 11 ≡ false → rowNews (rowOf w bare at-home below timed c) p ≡ causeNews at-home w p c
       by-73 true q q11 = rw (eqb-true c 73 q) (network-row bare at-home p)
       by-73 false q q11 = by-27 (eqb c 27) refl q11 q
 
-      by-11 : (b : Bool) → eqb c 11 ≡ b → rowNews (rowOf w bare at-home below c) p ≡ causeNews at-home w p c
+      by-11 : (b : Bool) → eqb c 11 ≡ b → rowNews (rowOf w bare at-home below timed c) p ≡ causeNews at-home w p c
       by-11 true q = rw (eqb-true c 11 q) (network-row bare at-home p)
       by-11 false q = by-73 (eqb c 73) refl q
 
@@ -87,6 +90,7 @@ row-deed Away s n = refl
 row-deed Home s n = still-quiet (eqb (s .net) n)
 row-deed Area s n = still-quiet (eqb (s .net) n)
 row-deed N1 s n = refl
+row-deed Congested s n = still-quiet (eqb (s .net) n)
 row-deed Protocol s n = still-quiet (eqb (s .net) n)
 row-deed Other s n = still-quiet (eqb (s .net) n)
 

@@ -23,9 +23,10 @@ use Rattle.messages.specs.declared.Reading.{Reading}
 use Rattle.messages.specs.declared.Reading.the-variants as reading
 use Rattle.messages.specs.Message.{readingOf}
 use Rattle.turns.specs.Timers.{isDeviceTimer}
-use Rattle.turns.specs.Words.{Text, says, asT3510Out, Mark, noMark, forbiddenAndCounted, n1NotAllowedAndCounted, Across, untouched, cardCounterToLimit, counterAfter, isMark, markIn, acrossOf, applied}
-use Rattle.turns.specs.Rejects.{isUpdating, rowText}
-use Rattle.turns.specs.Turns.{started, updated, keySet, renewed, startFailed, updateFailed, failed, t3510Out, t3511Out, t3502Out, turned, rowTurn, otherTurned, otherTurn}
+use Rattle.turns.specs.Words.{isUpdating, Text, says, asT3510Out, Mark, noMark, forbiddenAndCounted, n1NotAllowedAndCounted, Across, untouched, cardCounterToLimit, counterAfter, isMark, markIn, acrossOf, applied}
+use Rattle.turns.specs.declared.Draws.{Draws}
+use Rattle.turns.specs.Rejects.{t3346Time, rowText}
+use Rattle.turns.specs.Turns.{started, updated, keySet, renewed, startFailed, updateFailed, failed, t3510Out, t3511Out, t3502Out, t3346Out, clockTurn, turned, rowTurn, otherTurned, otherTurn}
 use Rattle.turns.specs.Turns as turns
 use Rattle.checks.specs.Answers.{rowNow}
 use Rattle.effects.specs.Effects.{Effect, scheduled, cardEffect, startEffect, updateEffect, keyEffect, t3512Time, acceptDevice, acceptEffect, clockEffect, t3247Effect, t3512Effect, deviceEffect, timerEffect, powerEffect, markDeed, rowDeed, rowWork, rejectEffect}
@@ -50,7 +51,7 @@ pub small : (r : Record) (e : Event) (octets : List ℕ) → isTaken (answeredBy
 unfolding accessIn answeredBy answerOf
 small r (Card home) octets t = omega arith
 small r (Start w manual net code) octets t = flag-small w (start-passed (r .hot) w manual net code _ _ t .0)
-small r (Message w protected draw) octets t = flag-small w (message-passed (r .hot) w protected draw _ _ t .0)
+small r (Message w protected draws) octets t = flag-small w (message-passed (r .hot) w protected draws _ _ t .0)
 small r (Timer number w) octets t = flag-small w (timer-passed (r .hot) number w t .0)
 small r Power octets t = omega arith
 small r (Key w set) octets t = flag-small w (key-passed (r .hot) w set t .0)
@@ -79,10 +80,10 @@ failed-left n a = go (isUpdating a) refl (ltb n 5) refl
     go false p true q = rw (p, q) (refl, refl)
     go false p false q = rw (p, q) (refl, refl)
 
-text-left : (t : Text) (w limit cause : ℕ) (found : Bool) (a : Access) → Left (a .net) (cond (isMark (markIn t)) (grown found (a .entries)) (a .entries)) (turned t w limit cause found a .access)
+text-left : (t : Text) (w limit cause : ℕ) (found : Bool) (time : ℕ) (a : Access) → Left (a .net) (cond (isMark (markIn t)) (grown found (a .entries)) (a .entries)) (turned t w limit cause found time a .access)
 unfolding turned applied markIn isMark
-text-left (says t) w limit cause found a = (refl, refl)
-text-left (asT3510Out n) w limit cause found a = failed-left (counterAfter n w cause 5 (a .attempts)) a
+text-left (says t) w limit cause found time a = (refl, refl)
+text-left (asT3510Out n) w limit cause found time a = failed-left (counterAfter n w cause 5 (a .attempts)) a
 
 across-left : (o : Across) (limit : ℕ) (a : Access) → Left (a .net) (a .entries) (otherTurned o limit a .access)
 unfolding otherTurned counted
@@ -114,17 +115,22 @@ module _ (r : Record) where
   abbrev h : Hot
   h = r .hot
 
-  -- T3510 out, T3511 out, T3502 out
-  clock-stays : (number b : ℕ) → Keeps h b (clockEffect h number b) × Counts h b (clockEffect h number b)
-  unfolding clockEffect t3510Out t3511Out t3502Out withAttempts
-  clock-stays number b = go (eqb number 1) refl (eqb number 2) refl
+  -- T3510 out, T3511 out, T3502 out, T3346 out
+  clock-left : (number : ℕ) (a : Access) → Left (a .net) (a .entries) (clockTurn number a .access)
+  unfolding clockTurn t3510Out t3511Out t3502Out t3346Out withAttempts
+  clock-left number a = go (eqb number 1) refl (eqb number 2) refl (eqb number 3) refl
     where
-      go : (s : Bool) → eqb number 1 ≡ s → (s′ : Bool) → eqb number 2 ≡ s′ → Keeps h b (clockEffect h number b) × Counts h b (clockEffect h number b)
-      go true q s′ q′ =
-          let l = failed-left (oneMore 5 (accessOf h b .attempts)) (accessOf h b) in
-          rw q (record { dev = λ f k. refl; net = l .0; others = refl }, record { mine = l .1; theirs = refl })
-      go false q true q′ = rw (q, q′) (record { dev = λ f k. refl; net = refl; others = refl }, record { mine = refl; theirs = refl })
-      go false q false q′ = rw (q, q′) (record { dev = λ f k. refl; net = refl; others = refl }, record { mine = refl; theirs = refl })
+      go : (s : Bool) → eqb number 1 ≡ s → (s′ : Bool) → eqb number 2 ≡ s′ → (s″ : Bool) → eqb number 3 ≡ s″ → Left (a .net) (a .entries) (clockTurn number a .access)
+      go true q s′ q′ s″ q″ = rw q (failed-left (oneMore 5 (a .attempts)) a)
+      go false q true q′ s″ q″ = rw (q, q′) (refl, refl)
+      go false q false q′ true q″ = rw (q, q′, q″) (refl, refl)
+      go false q false q′ false q″ = rw (q, q′, q″) (refl, refl)
+
+  clock-stays : (number b : ℕ) → Keeps h b (clockEffect h number b) × Counts h b (clockEffect h number b)
+  unfolding clockEffect
+  clock-stays number b =
+      let l = clock-left number (accessOf h b) in
+      (record { dev = λ f k. refl; net = l .0; others = refl }, record { mine = l .1; theirs = refl })
 
   -- T3247 out, T3512 out
   device-stays : (number b : ℕ) → Keeps h b (deviceEffect h number b) × Counts h b (deviceEffect h number b)
@@ -150,40 +156,40 @@ module _ (r : Record) where
   unfolding acceptDevice
   accept-keeps b time f k = elim (eqb b 0) as (λ s. f (cond s (scheduled time 0 (h .dev)) (h .dev)) ≡ f (h .dev)) [ true ↦ k time 0 | false ↦ refl ]
 
-  pub message-keeps : (b protected draw : ℕ) (m : Reading) (s : Seen) → Keeps h b (messageEffect h b protected draw m s)
+  pub message-keeps : (b protected : ℕ) (draws : Draws) (m : Reading) (s : Seen) → Keeps h b (messageEffect h b protected draws m s)
   unfolding messageEffect acceptEffect rejectEffect turns.accepted taught inState withStatus withAttempts rowTurn otherTurn
-  message-keeps b protected draw (reading.Accept g) s = record { dev = accept-keeps b (t3512Time g (h .dev)); net = refl; others = refl }
-  message-keeps b protected draw (reading.Reject cause) s = record {
+  message-keeps b protected draws (reading.Accept g) s = record { dev = accept-keeps b (t3512Time g (h .dev)); net = refl; others = refl }
+  message-keeps b protected draws (reading.Reject k) s = record {
     dev = λ f k. refl;
-    net = text-left (rowText (rowNow h b protected cause)) b (h .dev .cardlimit) cause (s .found) (accessOf h b) .0;
-    others = across-left (acrossOf (rowText (rowNow h b protected cause))) (h .dev .cardlimit) (otherOf h b) .0;
+    net = text-left (rowText (rowNow h b protected k)) b (h .dev .cardlimit) (k .cause) (s .found) (t3346Time protected (k .t3346length) (draws .t3346)) (accessOf h b) .0;
+    others = across-left (acrossOf (rowText (rowNow h b protected k))) (h .dev .cardlimit) (otherOf h b) .0;
   }
-  message-keeps b protected draw (reading.Bad f at) s = record { dev = λ f′ k. refl; net = refl; others = refl }
+  message-keeps b protected draws (reading.Bad f at) s = record { dev = λ f′ k. refl; net = refl; others = refl }
 
   -- what is seen of the pending network is its seat on the message's access
-  pub seen-seat : (b protected draw : ℕ) → b < 2 → (p : ℕ)
-      → seatOf (seenAt r (Message b protected draw)) (accessOf h b .net) p ≡ seatIn (accessOf h b .entries) (accessOf h b .net) p (entriesIn r b .nets)
+  pub seen-seat : (b protected : ℕ) (draws : Draws) → b < 2 → (p : ℕ)
+      → seatOf (seenAt r (Message b protected draws)) (accessOf h b .net) p ≡ seatIn (accessOf h b .entries) (accessOf h b .net) p (entriesIn r b .nets)
   unfolding askOf seenOf seenBy sightOf seenIn accessOf entriesIn
-  seen-seat zero protected draw hb p = refl
-  seen-seat (suc zero) protected draw hb p = refl
-  seen-seat (suc (suc b)) protected draw hb p = absurd (omega arith)
+  seen-seat zero protected draws hb p = refl
+  seen-seat (suc zero) protected draws hb p = refl
+  seen-seat (suc (suc b)) protected draws hb p = absurd (omega arith)
 
-  message-counts : (b protected draw : ℕ) (m : Reading) → Counts h b (messageEffect h b protected draw m (seenAt r (Message b protected draw)))
+  message-counts : (b protected : ℕ) (draws : Draws) (m : Reading) → Counts h b (messageEffect h b protected draws m (seenAt r (Message b protected draws)))
   unfolding messageEffect acceptEffect rejectEffect turns.accepted taught inState withStatus withAttempts rowTurn otherTurn rowWork rowDeed
-  message-counts b protected draw (reading.Accept g) = record { mine = refl; theirs = refl }
-  message-counts b protected draw (reading.Reject cause) = record {
+  message-counts b protected draws (reading.Accept g) = record { mine = refl; theirs = refl }
+  message-counts b protected draws (reading.Reject k) = record {
     mine =
-        text-left (rowText (rowNow h b protected cause)) b (h .dev .cardlimit) cause (seenAt r (Message b protected draw) .found) (accessOf h b) .1
-        ∙ mark-count (markIn (rowText (rowNow h b protected cause))) (seatOf (seenAt r (Message b protected draw)) (accessOf h b .net) protected) (accessOf h b .entries);
-    theirs = across-left (acrossOf (rowText (rowNow h b protected cause))) (h .dev .cardlimit) (otherOf h b) .1;
+        text-left (rowText (rowNow h b protected k)) b (h .dev .cardlimit) (k .cause) (seenAt r (Message b protected draws) .found) (t3346Time protected (k .t3346length) (draws .t3346)) (accessOf h b) .1
+        ∙ mark-count (markIn (rowText (rowNow h b protected k))) (seatOf (seenAt r (Message b protected draws)) (accessOf h b .net) protected) (accessOf h b .entries);
+    theirs = across-left (acrossOf (rowText (rowNow h b protected k))) (h .dev .cardlimit) (otherOf h b) .1;
   }
-  message-counts b protected draw (reading.Bad f at) = record { mine = refl; theirs = refl }
+  message-counts b protected draws (reading.Bad f at) = record { mine = refl; theirs = refl }
 
   pub event-counts : (e : Event) (octets : List ℕ) → isTaken (answeredBy r e octets) ≡ true → Counts h (accessIn e) (effectIn r e octets)
   unfolding accessIn effectOf cardEffect renewed newAccess startEffect started updateEffect updated pending inState keyEffect keySet keyed powerEffect turns.cycled withAttempts accessOf otherOf
   event-counts (Card home) octets t = record { mine = refl; theirs = refl }
   event-counts (Start b manual net code) octets t = record { mine = refl; theirs = refl }
-  event-counts (Message b protected draw) octets t = message-counts b protected draw (readingOf octets)
+  event-counts (Message b protected draws) octets t = message-counts b protected draws (readingOf octets)
   event-counts (Timer number b) octets t = timer-stays number b .1
   event-counts Power octets t = record { mine = refl; theirs = refl }
   event-counts (Key b set) octets t = record { mine = refl; theirs = refl }

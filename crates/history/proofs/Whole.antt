@@ -11,7 +11,7 @@ use Rattle.octets.specs.declared.Fault.the-variants.{Cut, First, Second, Kind, 
 use Rattle.record.specs.Answers.{numberOf}
 use Rattle.record.specs.New.{madeOf, mayMake}
 use Rattle.record.specs.declared.Answer.{Answer}
-use Rattle.record.specs.declared.Answer.the-variants.{Taken, Range, Ignored, Malformed, Full, StateZero, State, Same, Listed, Area, Unprotected, Idle, Short}
+use Rattle.record.specs.declared.Answer.the-variants.{Taken, Range, Ignored, Malformed, Full, StateZero, State, Same, Listed, Area, Unprotected, Idle, Short, Waiting}
 use Rattle.record.specs.declared.Record.{Record}
 use Rattle.ranges.specs.Valid.{validOf}
 use Rattle.ranges.proofs.MadeValid.{made-valid}
@@ -57,6 +57,7 @@ numbered Area = omega arith
 numbered Unprotected = omega arith
 numbered Idle = omega arith
 numbered Short = omega arith
+numbered Waiting = omega arith
 
 -- a record as the replay holds it, of one that is valid
 record Fine (h : Record) : Type 0 where

@@ -10,7 +10,7 @@ use Rattle.rules.specs.declared.Event.{Event}
 use Rattle.rules.specs.declared.Event.the-variants.{Card, Start, Message, Timer, Power, Key, Update, Unknown}
 use Rattle.history.specs.Apart.{Half}
 
--- an event of one access: a start or an update, a message, T3510, T3511 or T3502 out, a key set; and T3512 out, which goes as access 0's
+-- an event of one access: a start or an update, a message, T3510, T3511, T3502 or T3346 out, a key set; and T3512 out, which goes as access 0's
 unfoldable pub isOwn : Event → Bool
 isOwn (Card home) = false
 isOwn (Start w manual net code) = true
@@ -24,7 +24,7 @@ isOwn Unknown = false
 -- a reject with cause 3, 6 or 7
 unfoldable pub refusesCard : Reading → Bool
 refusesCard (reading.Accept g) = false
-refusesCard (reading.Reject cause) = either (eqb cause 3) (either (eqb cause 6) (eqb cause 7))
+refusesCard (reading.Reject k) = either (eqb (k .cause) 3) (either (eqb (k .cause) 6) (eqb (k .cause) 7))
 refusesCard (reading.Bad f at) = false
 
 -- "3, 6, 7 protected: .. both accesses' card counters to the limit"

@@ -11,7 +11,7 @@ use borrow.Author.Tests.{ltb-true, ltb-false, eqb-true, eqb-false, ne-eqb}
 use Rattle.octets.specs.declared.Fault.{Fault}
 use Rattle.octets.specs.declared.Fault.the-variants.{Kind}
 use Rattle.octets.specs.declared.Ending.the-variants.{Broken}
-use Rattle.messages.specs.Message.{acceptedOf, acceptReading, rejectReading, typeReading, readingOf, rejectAlone, causeReading}
+use Rattle.messages.specs.Message.{acceptedOf, acceptReading, rejectedOf, rejectReading, typeReading, readingOf, rejectAlone, causeReading}
 use Rattle.messages.specs.Faults.{fixedOf, Faulty, Lowest, isAnswer, isReject, faultTold}
 use Rattle.messages.specs.declared.Reading.{Reading}
 use Rattle.messages.specs.declared.Reading.the-variants as reading
@@ -28,7 +28,7 @@ module _ (reads : ℕ → Bool) (s : List ℕ) where
   tells f at x = x
 
   from-reject : getD s 2 0 ≡ 0x44 → 2 < length s → Clear reads s 3 → Tells (rejectReading s)
-  unfolding rejectReading faultTold fixedOf
+  unfolding rejectReading rejectedOf faultTold fixedOf
   from-reject e h c =
       choice Tells _ _ (ltb 3 (length s))
       (λ t. ended-told Tells reading.Bad reads s tells false 4 _ (rw e) (rw e) (rw e (ltb-true 3 (length s) t)) c other (λ x. x))

@@ -13,7 +13,7 @@ use Rattle.octets.specs.declared.Fault.{Fault}
 use Rattle.octets.specs.declared.Fault.the-variants.{First, Second}
 use Rattle.octets.specs.declared.Part.{Part}
 use Rattle.octets.proofs.Inside.{Sound, from-place, found-inside}
-use Rattle.messages.specs.Message.{gutiOf, countOf, tripletsOf, acceptOf, acceptedOf, acceptReading, rejectReading, typeReading, readingOf}
+use Rattle.messages.specs.Message.{gutiOf, countOf, tripletsOf, acceptOf, acceptedOf, acceptReading, rejectedOf, rejectReading, typeReading, readingOf}
 use Rattle.messages.specs.declared.Reading.{Reading}
 use Rattle.messages.specs.declared.Reading.the-variants as reading
 use Rattle.messages.proofs.Readings.{choice, opened-so, ended-so}
@@ -63,7 +63,7 @@ taken n p f = triplets n p (p .held) f refl
 -- a GUTI's ten octets and all triplets lie in the message; a fault is told at an octet of it or at its end
 unfoldable pub Inside : List ℕ → Reading → Type 0
 Inside s (reading.Accept a) = (a .given ≡ true → a .guti + 10 ≤ length s) × (a .triplets + a .count * 3 ≤ length s)
-Inside s (reading.Reject cause) = Unit
+Inside s (reading.Reject r) = Unit
 Inside s (reading.Bad f at) = at ≤ length s
 
 fault-told : (s : List ℕ) (f : Fault) (at : ℕ) → at ≤ length s → Inside s (reading.Bad f at)
@@ -84,7 +84,7 @@ from-accept s h =
     (λ e. h)
 
 from-reject : (s : List ℕ) → 3 ≤ length s → Inside s (rejectReading s)
-unfolding rejectReading Inside
+unfolding rejectReading rejectedOf Inside
 from-reject s h =
     choice (Inside s) _ _ (ltb 3 (length s)) (λ e. ended-so (Inside s) reading.Bad s (fault-told s) false _ _ (from-place false s 4 (ltb-true 3 (length s) e)) tt) (λ e. h)
 

@@ -81,5 +81,5 @@ isReject type = eqb type 0x44
 -- what a reading tells of faults
 unfoldable pub faultTold : Reading → Ending
 faultTold (reading.Accept a) = Whole
-faultTold (reading.Reject cause) = Whole
+faultTold (reading.Reject r) = Whole
 faultTold (reading.Bad f at) = Broken f at

@@ -11,9 +11,10 @@ use Rattle.octets.specs.declared.Ending.{Ending}
 use Rattle.octets.specs.declared.Ending.the-variants.{Broken, Whole}
 use Rattle.octets.specs.Element.{Elements, elementsFrom, absent, firstOf, endOf}
 use Rattle.timers.specs.declared.Span.{Span}
-use Rattle.timers.specs.declared.Span.the-variants.{Off, Seconds}
+use Rattle.timers.specs.declared.Span.the-variants.{Off, Zero, Seconds}
 use Rattle.timers.specs.Timer.{span2Of, span3Of}
 use Rattle.messages.specs.declared.Accept.{Accept}
+use Rattle.messages.specs.declared.Reject.{Reject}
 use Rattle.messages.specs.declared.Reading.{Reading}
 use Rattle.messages.specs.declared.Reading.the-variants as reading
 
@@ -31,9 +32,9 @@ countOf p = cond (p .held) (cond (ltb (p .len / 3) 15) (p .len / 3) 15) 0
 unfoldable pub tripletsOf : Part → ℕ
 tripletsOf p = cond (eqb (countOf p) 0) 0 (p .start)
 
--- 16 T3502: its first octet is a timer octet; one too short is absent, as a deactivated one is
-unfoldable pub t3502Of : List ℕ → Part → Span
-t3502Of s p = cond (p .held) (cond (eqb (p .len) 0) Off (span2Of (getD s (p .start) 0))) Off
+-- 16 T3502, and in a reject 5F T3346: its first octet is a timer octet, read by the rows of timer 2; one too short is absent, as a deactivated one is
+unfoldable pub timer2In : List ℕ → Part → Span
+timer2In s p = cond (p .held) (cond (eqb (p .len) 0) Off (span2Of (getD s (p .start) 0))) Off
 
 -- 5E T3512: its first octet is a timer octet; one too short is absent
 abbrev pub pacedOf : Part → Bool
@@ -43,14 +44,16 @@ pacedOf p = p .held && leb 1 (p .len)
 unfoldable pub t3512Of : List ℕ → Part → Span
 t3512Of s p = cond (pacedOf p) (span3Of (getD s (p .start) 0)) Off
 
--- "deactivated, read as absent"
+-- of T3502 "deactivated is as absent, zero is 0 s" (document 02, R-6)
 abbrev pub timedOf : Span → Bool
 timedOf Off = false
+timedOf Zero = true
 timedOf (Seconds n) = true
 
 -- the seconds, 0 where there are none; of T3512 "not if zero or deactivated" is kept as 0
 abbrev pub secondsOf : Span → ℕ
 secondsOf Off = 0
+secondsOf Zero = 0
 secondsOf (Seconds n) = n
 
 -- An accept: the result begins behind its length; of the elements the first with each identifier counts
@@ -62,8 +65,8 @@ acceptOf s l =
       guti = gutiOf s (firstOf 0x77 l) .start;
       triplets = tripletsOf (firstOf 0x4A l);
       count = countOf (firstOf 0x4A l);
-      timed = timedOf (t3502Of s (firstOf 0x16 l));
-      t3502length = secondsOf (t3502Of s (firstOf 0x16 l));
+      timed = timedOf (timer2In s (firstOf 0x16 l));
+      t3502length = secondsOf (timer2In s (firstOf 0x16 l));
       paced = pacedOf (firstOf 0x5E l);
       t3512length = secondsOf (t3512Of s (firstOf 0x5E l));
     }
@@ -94,9 +97,17 @@ acceptReading s =
     (acceptedOf s (elementsFrom false s (4 + getD s 3 0)))))
     (reading.Bad Cut 3)
 
--- Reject: cause octet, then elements, of which none is known: only how they end matters
+-- A reject: cause octet, and of the elements 5F T3346 (document 02, R-6); "without it or with zero or deactivated" is 0
+unfoldable pub rejectOf : List ℕ → Elements → Reject
+rejectOf s l = record { cause = getD s 3 0; t3346length = secondsOf (timer2In s (firstOf 0x5F l)) }
+
+-- what the elements make of a reject
+unfoldable pub rejectedOf : List ℕ → Elements → Reading
+rejectedOf s l = endedBy reading.Bad (endOf l) (reading.Reject (rejectOf s l))
+
+-- Reject: cause octet, then elements
 unfoldable pub rejectReading : List ℕ → Reading
-rejectReading s = cond (ltb 3 (length s)) (endedBy reading.Bad (endOf (elementsFrom false s 4)) (reading.Reject (getD s 3 0))) (reading.Bad Cut 3)
+rejectReading s = cond (ltb 3 (length s)) (rejectedOf s (elementsFrom false s 4)) (reading.Bad Cut 3)
 
 -- 42 accept, 44 reject
 unfoldable pub typeReading : List ℕ → Reading
@@ -140,10 +151,11 @@ causeReading s = begunBy reading.Bad s (rejectAlone s)
 -- the cause, or 256 plus the refusal's number
 unfoldable pub causeOf : Reading → ℕ
 causeOf (reading.Accept a) = 256 + faultNumber Kind
-causeOf (reading.Reject cause) = cause
+causeOf (reading.Reject r) = r .cause
 causeOf (reading.Bad f at) = 256 + faultNumber f
 
 -- The timer reading for C: the seconds, 65535 for top bits 7
 abbrev pub timerSeconds : Span → ℕ
 timerSeconds Off = 65535
+timerSeconds Zero = 0
 timerSeconds (Seconds n) = n

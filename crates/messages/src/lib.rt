@@ -5,7 +5,7 @@ ghost use Prim.Native.Nat.{_≤_};
 ghost use lib.ListN.{getD};
 ghost use Rattle.octets.specs.Element.{Elements, elementsFrom, firstOf};
 ghost use Rattle.timers.specs.Timer.{span2Of};
-ghost use Rattle.messages.specs.Message.{gutiOf, countOf, t3502Of, pacedOf, t3512Of, timedOf, secondsOf, acceptOf, acceptedOf, acceptReading, rejectReading, typeReading, readingOf, openingOf, faultNumber, rejectAlone, causeReading, causeOf, timerSeconds};
+ghost use Rattle.messages.specs.Message.{gutiOf, countOf, timer2In, pacedOf, t3512Of, timedOf, secondsOf, acceptOf, acceptedOf, acceptReading, rejectOf, rejectReading, typeReading, readingOf, openingOf, faultNumber, rejectAlone, causeReading, causeOf, timerSeconds};
 use octets::Ending;
 use octets::Fault;
 use octets::Part;
@@ -31,10 +31,16 @@ pub struct Accept {
     pub t3512length: u32,
 }
 
+// T3346 is so many seconds long: 0 where it is absent, zero or deactivated.
+pub struct Reject {
+    pub cause: u8,
+    pub t3346length: u16,
+}
+
 // A refusal has its fault and the fault's offset.
 pub enum Reading {
     Accept(Accept),
-    Reject(u8),
+    Reject(Reject),
     Bad(Fault, usize),
 }
 
@@ -96,8 +102,9 @@ fn place(none: bool, start: usize) -> usize
     if none { 0 } else { start }
 }
 
-fn t3502(msg: &[u8], p: Part) -> Span
-    ensures { λ r. ⌜ r ≡ t3502Of (now (msg .entry)) p ⌝ }
+// T3502 or T3346.
+fn timer2_in(msg: &[u8], p: Part) -> Span
+    ensures { λ r. ⌜ r ≡ timer2In (now (msg .entry)) p ⌝ }
 {
     if p.held {
         if p.len == 0 {
@@ -131,6 +138,7 @@ fn timed(s: Span) -> bool
 {
     match s {
         Span::Off => false,
+        Span::Zero => true,
         Span::Seconds(_) => true,
     }
 }
@@ -140,6 +148,7 @@ fn seconds(s: Span) -> u32
 {
     match s {
         Span::Off => 0,
+        Span::Zero => 0,
         Span::Seconds(n) => n,
     }
 }
@@ -158,7 +167,7 @@ fn accepted(msg: &[u8], p: Part, q: Part, t: Part, u: Part) -> Accept
 {
     let g = guti(msg, p);
     let n = count(q);
-    let span = t3502(msg, t);
+    let span = timer2_in(msg, t);
     let pace = t3512(msg, u);
     Accept {
         result: octet(msg, 4),
@@ -209,16 +218,36 @@ fn read_accept(msg: &[u8]) -> Reading
     read_elements(msg, 4 + n)
 }
 
+// A reject, by its first 5F.
+fn rejected(msg: &[u8], p: Part) -> Reject
+    ensures { λ r. ⌜ ((l : Elements) → p ≡ firstOf 0x5F l → r ≡ rejectOf (now (msg .entry)) l) ⌝ }
+{
+    let span = timer2_in(msg, p);
+    Reject {
+        cause: octet(msg, 3),
+        t3346length: narrow(seconds(span)),
+    }
+}
+
 fn read_reject(msg: &[u8]) -> Reading
     ensures { λ r. ⌜ r ≡ rejectReading (now (msg .entry)) ⌝ }
 {
     if msg.len() <= 3 {
         return Reading::Bad(Fault::Cut, 3);
     }
-    let cause = msg[3];
-    match octets::ends(msg, 4, false) {
+    let g = octets::gather(
+        msg,
+        4,
+        false,
+        Wanted::Id(0x5F),
+        Wanted::Nothing,
+        Wanted::Nothing,
+        Wanted::Nothing,
+    );
+    let end = g.end;
+    match end {
         Ending::Broken(f, at) => Reading::Bad(f, at),
-        Ending::Whole => Reading::Reject(cause),
+        Ending::Whole => Reading::Reject(rejected(msg, g.first)),
     }
 }
 
@@ -306,7 +335,7 @@ pub extern "C" fn reject_cause(msg: &[u8]) -> u32
 {
     match read_cause(msg) {
         Reading::Accept(_) => 256 + word(number(Fault::Kind)),
-        Reading::Reject(cause) => word(cause),
+        Reading::Reject(r) => word(r.cause),
         Reading::Bad(f, _) => 256 + word(number(f)),
     }
 }
@@ -317,6 +346,7 @@ pub extern "C" fn timer_seconds(octet: u8) -> u32
 {
     match timers::timer2(octet) {
         Span::Off => 65535,
+        Span::Zero => 0,
         Span::Seconds(n) => n,
     }
 }

@@ -3,7 +3,7 @@ ghost use mathlib.Core.Path.{_≡_};
 ghost use mathlib.Core.Bool.{cond};
 ghost use Prim.Native.Nat.{_<_, _≤_};
 ghost use lib.ListN.{length, getD, drop};
-ghost use Rattle.octets.specs.Element.{Format, formatOf, codeOf, leadBy, contentsBy, elementAt, afterOf, walkedAt, elementsFrom, absent, wantedOf, endOf, gatherOf};
+ghost use Rattle.octets.specs.Element.{Format, formatOf, codeOf, leadBy, contentsBy, elementAt, afterOf, walkedAt, elementsFrom, absent, wantedOf, gatherOf};
 ghost use Rattle.octets.specs.Element.Elements.{over, element};
 
 mod formats;
@@ -292,20 +292,4 @@ pub fn gather(
             }
         }
     }
-}
-
-// How the elements end alone.
-pub fn ends(msg: &[u8], from: usize, request: bool) -> Ending
-    ensures { λ r. ⌜ r ≡ endOf (elementsFrom request (now (msg .entry)) from) ⌝ }
-{
-    let g = gather(
-        msg,
-        from,
-        request,
-        Wanted::Nothing,
-        Wanted::Nothing,
-        Wanted::Nothing,
-        Wanted::Nothing,
-    );
-    g.end
 }

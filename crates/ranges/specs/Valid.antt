@@ -42,7 +42,8 @@ modeRanges a =
     (both (upTo 5 (a .attempts))
     (both (isFlag (a .t3510))
     (both (isFlag (a .t3511))
-    (both (isFlag (a .t3502)) (upTo 11160 (a .t3502length)))))))
+    (both (isFlag (a .t3502))
+    (both (upTo 11160 (a .t3502length)) (isFlag (a .t3346))))))))
 
 -- its pending registration: type 1 to 3, session 0 clear in 40 and 50 (document 02, R-5)
 unfoldable pub pendingRanges : Access → Bool

@@ -61,7 +61,7 @@ fn mode_ranges(a: Access) -> bool
         a.t3510 <= 1,
         a.t3511 <= 1,
         a.t3502 <= 1,
-        a.t3502length <= 11160,
+        and(a.t3502length <= 11160, a.t3346 <= 1),
     );
     all(
         a.state <= 6,

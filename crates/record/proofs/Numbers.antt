@@ -3,7 +3,7 @@ use mathlib.Core.Path.{_≡_, refl}
 use lib.Dec.{eqb}
 use Rattle.octets.specs.declared.Fault.the-variants.{Cut, First, Second, Kind, Past, Strange}
 use Rattle.record.specs.declared.Answer.{Answer}
-use Rattle.record.specs.declared.Answer.the-variants.{Taken, Range, Ignored, Malformed, Full, StateZero, State, Same, Listed, Area, Unprotected, Idle, Short}
+use Rattle.record.specs.declared.Answer.the-variants.{Taken, Range, Ignored, Malformed, Full, StateZero, State, Same, Listed, Area, Unprotected, Idle, Short, Waiting}
 use Rattle.record.specs.Answers.{numberOf, isTaken}
 
 pub taken-zero : (a : Answer) → eqb (numberOf a) 0 ≡ isTaken a
@@ -26,3 +26,4 @@ taken-zero Area = refl
 taken-zero Unprotected = refl
 taken-zero Idle = refl
 taken-zero Short = refl
+taken-zero Waiting = refl

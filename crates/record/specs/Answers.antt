@@ -1,9 +1,9 @@
--- The reply numbers of document 01, and R-1's with their offsets. Assumes nothing.
+-- The reply numbers of document 01, R-1's with their offsets, and R-6's. Assumes nothing.
 use Prim.Native.Nat.{ℕ}
 use mathlib.Core.Bool.{Bool, true, false}
 use Rattle.messages.specs.Message.{faultNumber}
 use Rattle.record.specs.declared.Answer.{Answer}
-use Rattle.record.specs.declared.Answer.the-variants.{Taken, Range, Ignored, Malformed, Full, StateZero, State, Same, Listed, Area, Unprotected, Idle, Short}
+use Rattle.record.specs.declared.Answer.the-variants.{Taken, Range, Ignored, Malformed, Full, StateZero, State, Same, Listed, Area, Unprotected, Idle, Short, Waiting}
 
 unfoldable pub numberOf : Answer → ℕ
 -- taken
@@ -32,6 +32,8 @@ numberOf Unprotected = 10
 numberOf Idle = 11
 -- lent buffer shorter than the request
 numberOf Short = 12
+-- T3346 runs: the network has asked for time
+numberOf Waiting = 20
 
 unfoldable pub isTaken : Answer → Bool
 isTaken Taken = true
@@ -47,6 +49,7 @@ isTaken Area = false
 isTaken Unprotected = false
 isTaken Idle = false
 isTaken Short = false
+isTaken Waiting = false
 
 -- "Each tells the offset from 0 of the octet at fault", in the message; 0 for every other answer
 unfoldable pub faultOffset : Answer → ℕ
@@ -63,3 +66,4 @@ faultOffset Area = 0
 faultOffset Unprotected = 0
 faultOffset Idle = 0
 faultOffset Short = 0
+faultOffset Waiting = 0

@@ -52,6 +52,7 @@ newAccess state = record {
   t3510 = 0;
   t3511 = 0;
   t3502 = 0;
+  t3346 = 0;
   t3502length = 720;
   net = 0;
   code = 0;

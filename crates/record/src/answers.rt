@@ -20,6 +20,7 @@ pub fn number(a: Answer) -> u8
         Answer::Unprotected => 10,
         Answer::Idle => 11,
         Answer::Short => 12,
+        Answer::Waiting => 20,
     }
 }
 

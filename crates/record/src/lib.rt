@@ -87,6 +87,7 @@ pub struct Access {
     pub equivalents: u8,
     pub entries: u8,
     pub regtype: u8,
+    pub t3346: u8,
 }
 
 // What every event reads and may change: small, and handed on by value.
@@ -129,6 +130,7 @@ pub enum Answer {
     Unprotected,
     Idle,
     Short,
+    Waiting,
 }
 
 pub struct Made {

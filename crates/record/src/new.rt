@@ -29,6 +29,7 @@ pub fn new_access(state: u8) -> Access
         t3510: 0,
         t3511: 0,
         t3502: 0,
+        t3346: 0,
         t3502length: 720,
         net: 0,
         code: 0,

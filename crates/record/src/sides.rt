@@ -33,6 +33,7 @@ fn one_of(first: bool, a: Access, b: Access) -> Access
         equivalents: pick(first, a.equivalents, b.equivalents),
         entries: pick(first, a.entries, b.entries),
         regtype: pick(first, a.regtype, b.regtype),
+        t3346: pick(first, a.t3346, b.t3346),
     }
 }
 

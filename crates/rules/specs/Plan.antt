@@ -14,6 +14,7 @@ use Rattle.entries.specs.declared.Deed.{Deed}
 use Rattle.messages.specs.declared.Reading.{Reading}
 use Rattle.messages.specs.declared.Reading.the-variants as reading
 use Rattle.messages.specs.Message.{readingOf}
+use Rattle.turns.specs.declared.Draws.{Draws}
 use Rattle.turns.specs.declared.Told.the-variants.{Left}
 use Rattle.turns.specs.declared.Clocks.{Clocks}
 use Rattle.turns.specs.Timers.{flagAfter, toldOf, clocksOf, clocked}
@@ -36,7 +37,7 @@ use Rattle.effects.specs.Effects.{Effect, ticked, idle, plain, cardEffect, star
 abbrev pub Read : Event → List ℕ → Reading → Type 0
 Read (Card home) octets m = Unit {0}
 Read (Start w manual net code) octets m = Unit {0}
-Read (Message w protected draw) octets m = m ≡ readingOf octets
+Read (Message w protected draws) octets m = m ≡ readingOf octets
 Read (Timer number w) octets m = Unit {0}
 Read Power octets m = Unit {0}
 Read (Key w set) octets m = Unit {0}
@@ -47,7 +48,7 @@ Read Unknown octets m = Unit {0}
 unfoldable pub askOf : Hot → Event → Ask
 askOf h (Card home) = ask.Nothing
 askOf h (Start w manual net code) = ask.Network w net
-askOf h (Message w protected draw) = ask.Network w (accessOf h w .net)
+askOf h (Message w protected draws) = ask.Network w (accessOf h w .net)
 askOf h (Timer number w) = ask.Nothing
 askOf h Power = ask.Nothing
 askOf h (Key w set) = ask.Nothing
@@ -61,7 +62,7 @@ siteAt w net code = cond (eqb w 0) (site.Area net code) site.Nothing
 unfoldable pub siteOf : Event → Site
 siteOf (Card home) = site.Nothing
 siteOf (Start w manual net code) = siteAt w net code
-siteOf (Message w protected draw) = site.Nothing
+siteOf (Message w protected draws) = site.Nothing
 siteOf (Timer number w) = site.Nothing
 siteOf Power = site.Nothing
 siteOf (Key w set) = site.Nothing
@@ -72,7 +73,7 @@ siteOf Unknown = site.Nothing
 unfoldable pub accessIn : Event → ℕ
 accessIn (Card home) = 0
 accessIn (Start w manual net code) = w
-accessIn (Message w protected draw) = w
+accessIn (Message w protected draws) = w
 accessIn (Timer number w) = w
 accessIn Power = 0
 accessIn (Key w set) = w
@@ -83,7 +84,7 @@ accessIn Unknown = 0
 unfoldable pub answerOf : Hot → Event → Seen → Bool → List ℕ → Answer
 answerOf h (Card home) s listed octets = cardAnswer home octets
 answerOf h (Start w manual net code) s listed octets = startAnswer h w manual net code s listed
-answerOf h (Message w protected draw) s listed octets = messageAnswer h w protected draw (readingOf octets) s
+answerOf h (Message w protected draws) s listed octets = messageAnswer h w protected draws (readingOf octets) s
 answerOf h (Timer number w) s listed octets = timerAnswer h number w
 answerOf h Power s listed octets = answer.Taken
 answerOf h (Key w set) s listed octets = keyAnswer h w set
@@ -91,16 +92,16 @@ answerOf h (Update w regtype net code uplink sessions) s listed octets = updateA
 answerOf h Unknown s listed octets = answer.Range
 
 -- what a taken message does
-unfoldable pub messageEffect : Hot → ℕ → ℕ → ℕ → Reading → Seen → Effect
-messageEffect h w protected draw (reading.Accept g) s = acceptEffect h w g s
-messageEffect h w protected draw (reading.Reject cause) s = rejectEffect h w protected draw s cause (rowNow h w protected cause)
-messageEffect h w protected draw (reading.Bad f at) s = plain h w (still (accessOf h w)) false
+unfoldable pub messageEffect : Hot → ℕ → ℕ → Draws → Reading → Seen → Effect
+messageEffect h w protected draws (reading.Accept g) s = acceptEffect h w g s
+messageEffect h w protected draws (reading.Reject g) s = rejectEffect h w protected draws s g (rowNow h w protected g)
+messageEffect h w protected draws (reading.Bad f at) s = plain h w (still (accessOf h w)) false
 
 -- what a taken event does
 unfoldable pub effectOf : Hot → Event → Seen → List ℕ → Effect
 effectOf h (Card home) s octets = cardEffect h home (length octets)
 effectOf h (Start w manual net code) s octets = startEffect h w net code
-effectOf h (Message w protected draw) s octets = messageEffect h w protected draw (readingOf octets) s
+effectOf h (Message w protected draws) s octets = messageEffect h w protected draws (readingOf octets) s
 effectOf h (Timer number w) s octets = timerEffect h number w
 effectOf h Power s octets = powerEffect h
 effectOf h (Key w set) s octets = keyEffect h w set
@@ -131,7 +132,7 @@ takenReply h w e = record {
 }
 
 abbrev pub allLeft : Clocks
-allLeft = record { t3510 = Left; t3511 = Left; t3502 = Left }
+allLeft = record { t3510 = Left; t3511 = Left; t3502 = Left; t3346 = Left }
 
 unfoldable pub isIgnoring : Answer → Bool
 isIgnoring answer.Taken = false
@@ -147,6 +148,7 @@ isIgnoring answer.Area = false
 isIgnoring answer.Unprotected = false
 isIgnoring answer.Idle = false
 isIgnoring answer.Short = false
+isIgnoring answer.Waiting = false
 
 -- "A refusal names no timer, and no request but those of answer 2": leave the cell or access point, update over the other access
 unfoldable pub refusedReply : Answer → ℕ → Reply

@@ -26,11 +26,13 @@ use effects::timer_effect;
 use effects::update_effect;
 use entries::Seen;
 use messages::Reading;
+use messages::Reject;
 use record::Access;
 use record::Answer;
 use record::Hot;
 use record::access_of;
 use record::taken;
+use turns::Draws;
 use turns::Turn;
 use turns::clocked;
 use turns::still;
@@ -51,25 +53,29 @@ ghost use Rattle.rules.specs.Sides.{hotBy, planBy};
 fn heard(e: Event, octets: &[u8]) -> Reading
     ensures { λ r. ⌜ rules.Read e (now (octets .entry)) r ⌝ }
 {
+    let unread = Reading::Reject(Reject {
+        cause: 0,
+        t3346length: 0,
+    });
     match e {
-        Event::Card(_) => Reading::Reject(0),
+        Event::Card(_) => unread,
         Event::Start {
             access: _,
             manual: _,
             net: _,
             code: _,
-        } => Reading::Reject(0),
+        } => unread,
         Event::Message {
             access: _,
             protected: _,
-            draw: _,
+            draws: _,
         } => messages::read(octets),
         Event::Timer {
             number: _,
             access: _,
-        } => Reading::Reject(0),
-        Event::Power => Reading::Reject(0),
-        Event::Key { access: _, set: _ } => Reading::Reject(0),
+        } => unread,
+        Event::Power => unread,
+        Event::Key { access: _, set: _ } => unread,
         Event::Update {
             access: _,
             regtype: _,
@@ -77,8 +83,8 @@ fn heard(e: Event, octets: &[u8]) -> Reading
             code: _,
             uplink: _,
             sessions: _,
-        } => Reading::Reject(0),
-        Event::Unknown => Reading::Reject(0),
+        } => unread,
+        Event::Unknown => unread,
     }
 }
 
@@ -96,7 +102,7 @@ pub fn ask_of(h: Hot, e: Event) -> Ask
         Event::Message {
             access,
             protected: _,
-            draw: _,
+            draws: _,
         } => {
             let a = access_of(h, access);
             Ask::Network { access, net: a.net }
@@ -142,7 +148,7 @@ pub fn site_of(e: Event) -> Site
         Event::Message {
             access: _,
             protected: _,
-            draw: _,
+            draws: _,
         } => Site::Nothing,
         Event::Timer {
             number: _,
@@ -176,7 +182,7 @@ fn access_in(e: Event) -> u8
         Event::Message {
             access,
             protected: _,
-            draw: _,
+            draws: _,
         } => access,
         Event::Timer { number: _, access } => access,
         Event::Power => 0,
@@ -208,8 +214,8 @@ fn answer_of(h: Hot, e: Event, s: Seen, listed: bool, m: Reading, octets: &[u8])
         Event::Message {
             access,
             protected,
-            draw,
-        } => message_answer(h, access, protected, draw, m, s),
+            draws,
+        } => message_answer(h, access, protected, draws, m, s),
         Event::Timer { number, access } => timer_answer(h, number, access),
         Event::Power => Answer::Taken,
         Event::Key { access, set } => key_answer(h, access, set),
@@ -232,14 +238,14 @@ fn none(h: Hot, w: u8) -> Sides
     plain(h, w, still(access_of(h, w)), false)
 }
 
-fn message_effect(h: Hot, w: u8, protected: u8, draw: u16, m: Reading, s: Seen) -> Sides
-    ensures { λ r. ⌜ r ≡ sidesOf w (rules.messageEffect h w protected draw m s) ⌝ }
+fn message_effect(h: Hot, w: u8, protected: u8, draws: Draws, m: Reading, s: Seen) -> Sides
+    ensures { λ r. ⌜ r ≡ sidesOf w (rules.messageEffect h w protected draws m s) ⌝ }
 {
     match m {
         Reading::Accept(g) => accept_effect(h, w, g, s),
-        Reading::Reject(cause) => {
-            let row = row_now(h, w, protected, cause);
-            reject_effect(h, w, protected, draw, s, cause, row)
+        Reading::Reject(g) => {
+            let row = row_now(h, w, protected, g);
+            reject_effect(h, w, protected, draws, s, g, row)
         }
         Reading::Bad(_, _) => none(h, w),
     }
@@ -262,8 +268,8 @@ fn effect_of(h: Hot, e: Event, s: Seen, m: Reading, octets: &[u8]) -> Sides
         Event::Message {
             access,
             protected,
-            draw,
-        } => message_effect(h, access, protected, draw, m, s),
+            draws,
+        } => message_effect(h, access, protected, draws, m, s),
         Event::Timer { number, access } => timer_effect(h, number, access),
         Event::Power => power_effect(h),
         Event::Key { access, set } => key_effect(h, access, set),

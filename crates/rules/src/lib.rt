@@ -3,6 +3,7 @@ use effects::Work;
 use record::Answer;
 use record::Hot;
 use turns::Clocks;
+use turns::Draws;
 use turns::Told;
 
 mod decision;
@@ -27,7 +28,7 @@ pub enum Event {
     Message {
         access: u8,
         protected: u8,
-        draw: u16,
+        draws: Draws,
     },
     Timer {
         number: u8,

@@ -51,6 +51,7 @@ fn all_left() -> Clocks
         t3510: Told::Left,
         t3511: Told::Left,
         t3502: Told::Left,
+        t3346: Told::Left,
     }
 }
 
@@ -71,6 +72,7 @@ fn is_ignoring(n: Answer) -> bool
         Answer::Unprotected => false,
         Answer::Idle => false,
         Answer::Short => false,
+        Answer::Waiting => false,
     }
 }
 

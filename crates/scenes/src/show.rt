@@ -86,6 +86,9 @@ fn clocks(a: Clocks, b: Clocks) {
     let fifth = a.t3502;
     let sixth = b.t3502;
     clock(b" T3502", fifth, sixth);
+    let seventh = a.t3346;
+    let eighth = b.t3346;
+    clock(b" T3346", seventh, eighth);
 }
 
 fn answer(name: &[u8], r: Reply) {
@@ -195,6 +198,7 @@ fn mode(a: Access) {
     small(b" T3511 ", a.t3511);
     small(b" T3502 ", a.t3502);
     field(b" length ", a.t3502length as u64);
+    small(b" T3346 ", a.t3346);
 }
 
 // Two octets as they are sent, the low one first.

@@ -1,3 +1,2 @@
--- Laws of the timers' tables and of how long a timer octet's time can be; timer 2's rows and its definition from before them.
+-- Laws of the timers' tables and of how long a timer octet's time can be.
 pub mod Rows
-pub mod Before

@@ -11,7 +11,7 @@ use lib.ListN.{getD, List·getD-map}
 use Rattle.timers.specs.Timer.{TimerRow, timer2Rows, timer3Rows, rowAt, spanIn, spanBy, span2Of, span3Of, spanFor}
 use Rattle.timers.specs.Timer.TimerRow.{deactivated}
 use Rattle.timers.specs.declared.Span.{Span}
-use Rattle.timers.specs.declared.Span.the-variants.{Off, Seconds}
+use Rattle.timers.specs.declared.Span.the-variants.{Off, Zero, Seconds}
 
 -- numbers that make of every count what the rows make of it
 abbrev pub Right : List TimerRow → List ℕ → Type 0
@@ -56,15 +56,19 @@ most2 = (omega arith, (omega arith, (omega arith, (omega arith, (omega arith, (o
 pub most3 : UpTo 1152000 numbers3
 most3 = (omega arith, (omega arith, (omega arith, (omega arith, (omega arith, (omega arith, (omega arith, (omega arith, tt))))))))
 
--- a time of at most so many seconds; deactivated is none
+-- a time of at most so many seconds; deactivated is none, zero is within any
 abbrev pub Within : ℕ → Span → Type 0
 Within most Off = Unit {0}
+Within most Zero = Unit {0}
 Within most (Seconds n) = n ≤ most
 
 number-fits : (count number most : ℕ) → count ≤ 31 → number ≤ most → Within (31 * most) (spanFor number count)
-number-fits count number most h g = elim (eqb number 0) as (λ b. Within (31 * most) (cond b Off (Seconds (count * number)))) [
+number-fits count number most h g = elim (eqb number 0) as (λ b. Within (31 * most) (cond b Off (cond (eqb count 0) Zero (Seconds (count * number))))) [
   | true ↦ tt
-  | false ↦ mul-le-mul h g
+  | false ↦ elim (eqb count 0) as (λ b. Within (31 * most) (cond b Zero (Seconds (count * number)))) [
+    | true ↦ tt
+    | false ↦ mul-le-mul h g
+  ]
 ]
 
 -- by a table whose numbers stay below a bound: at most 31 times the bound

@@ -5,7 +5,7 @@ use mathlib.Core.List.{List, [], _∷_}
 use lib.Dec.{eqb}
 use lib.ListN.{getD}
 use Rattle.timers.specs.declared.Span.{Span}
-use Rattle.timers.specs.declared.Span.the-variants.{Off, Seconds}
+use Rattle.timers.specs.declared.Span.the-variants.{Off, Zero, Seconds}
 
 -- A row of a timer's table: the seconds that one count of the low five bits stands for, or deactivated
 pub data TimerRow : Type 0 where
@@ -40,9 +40,9 @@ timer3Rows =
 abbrev pub rowAt : List TimerRow → ℕ → TimerRow
 rowAt rows top = getD rows top deactivated
 
--- what a row makes of a count
+-- what a row makes of a count: "deactivated, zero, or seconds" (document 02, R-6)
 abbrev pub spanIn : TimerRow → ℕ → Span
-spanIn (unit seconds) count = Seconds (count * seconds)
+spanIn (unit seconds) count = cond (eqb count 0) Zero (Seconds (count * seconds))
 spanIn deactivated count = Off
 
 -- a timer octet by its table: the top three bits are the row's number, the low five the count
@@ -57,4 +57,4 @@ span3Of octet = spanBy timer3Rows octet
 
 -- as a program's table has a row, a number with 0 for deactivated: what it makes of a count
 abbrev pub spanFor : ℕ → ℕ → Span
-spanFor number count = cond (eqb number 0) Off (Seconds (count * number))
+spanFor number count = cond (eqb number 0) Off (cond (eqb count 0) Zero (Seconds (count * number)))

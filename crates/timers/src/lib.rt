@@ -3,9 +3,10 @@ ghost use mathlib.Core.Path.{_≡_};
 ghost use Prim.Native.Nat.{ℕ, _≤_, _<_};
 ghost use Rattle.timers.specs.Timer.{rowAt, spanIn, spanFor, timer2Rows, timer3Rows, span2Of, span3Of};
 
-// What a timer octet says: deactivated, or so many seconds.
+// What a timer octet says: deactivated, zero, or so many seconds.
 pub enum Span {
     Off,
+    Zero,
     Seconds(u32),
 }
 
@@ -49,6 +50,9 @@ fn span_for(unit: u32, count: u8) -> Span
 {
     if unit == 0 {
         return Span::Off;
+    }
+    if count == 0 {
+        return Span::Zero;
     }
     Span::Seconds(wide(count) * unit)
 }

@@ -1,15 +1,15 @@
 -- Document 01, "Rejects": "Every taken reject stops T3510.", T3247, the two-access rule, the row that a reject falls under, and each row's text. Assumes nothing.
 use Prim.Native.Nat.{ℕ}
 use mathlib.Core.Bool.{Bool, cond}
-use lib.Dec.{ltb, eqb}
+use lib.Dec.{eqb}
 use Rattle.record.specs.Tests.{both, either}
-use Rattle.record.specs.New.{u3}
+use Rattle.record.specs.New.{u2, u3}
 use Rattle.record.specs.declared.Access.{Access}
 use Rattle.turns.specs.declared.Order.{Order}
 use Rattle.turns.specs.declared.Order.the-variants.{Leave, Run}
 use Rattle.turns.specs.declared.Row.{Row}
-use Rattle.turns.specs.declared.Row.the-variants.{CardBelow, CardLimit, CardProtected, Away, Home, Area, N1, Protocol, Other}
-use Rattle.turns.specs.Words.{Text, says, asT3510Out, always, never, over0, on, kept, zeroed, five, upByOne, toLimit, into, byAccess, nowhere, roaming, regionalElseRoaming, noMark, forbiddenAndCounted, n1NotAllowedAndCounted, untouched, cardCounterToLimit, stopT3510, isMark, markIn, isRoaming, isRegional, listOf}
+use Rattle.turns.specs.declared.Row.the-variants.{CardBelow, CardLimit, CardProtected, Away, Home, Area, N1, Congested, Protocol, Other}
+use Rattle.turns.specs.Words.{Text, says, asT3510Out, always, never, over0, on, kept, zeroed, five, upByOne, toLimit, isUpdating, into, byAccess, byUpdate, nowhere, roaming, regionalElseRoaming, noMark, forbiddenAndCounted, n1NotAllowedAndCounted, untouched, cardCounterToLimit, stopT3510, stopT3510RunT3346, isMark, markIn, isRoaming, isRegional, listOf}
 
 -- causes 3, 6, 7
 unfoldable pub isCard : ℕ → Bool
@@ -27,6 +27,10 @@ isAreaNo c = either (eqb c 12) (either (eqb c 13) (eqb c 15))
 unfoldable pub isN1No : ℕ → ℕ → Bool
 isN1No w c = either (eqb c 27) (both (eqb c 72) (eqb w 1))
 
+-- cause 22 "with a nonzero T3346" (document 02, R-6)
+unfoldable pub isCongested : ℕ → Bool → Bool
+isCongested c timed = both (eqb c 22) timed
+
 -- causes 95, 96, 97, 99, 111
 unfoldable pub isProtocol : ℕ → Bool
 isProtocol c = either (eqb c 95) (either (eqb c 96) (either (eqb c 97) (either (eqb c 99) (eqb c 111))))
@@ -38,9 +42,9 @@ startsT3247 c = either (isCard c) (either (isNetworkNo c) (either (isAreaNo c) (
 unfoldable pub rejectT3247 : ℕ → ℕ → ℕ → ℕ → Order
 rejectT3247 t3247 protected cause draw = cond (both (eqb protected 0) (both (startsT3247 cause) (eqb t3247 0))) (Run draw) Leave
 
--- Document 02, R-5: an update is pending in state 4 with type 2 or 3
-unfoldable pub isUpdating : Access → Bool
-isUpdating a = both (eqb (a .state) 4) (ltb 1 (a .regtype))
+-- "T3346 runs .. for the given time if protected, else for a second draw"
+unfoldable pub t3346Time : ℕ → ℕ → ℕ → ℕ
+t3346Time protected given draw = cond (eqb protected 0) draw given
 
 -- "A pending update counts as registered for the two-access rule"
 unfoldable pub isRegistered : Access → Bool
@@ -50,14 +54,15 @@ isRegistered a = either (eqb (a .state) 5) (isUpdating a)
 unfoldable pub isIgnored : ℕ → ℕ → Access → Bool
 isIgnored protected cause other = both (isCard cause) (both (eqb protected 0) (isRegistered other))
 
--- The row of a cause over access w; unprotected or not; at home or away; card counter below its limit or not
-unfoldable pub rowOf : ℕ → Bool → Bool → Bool → ℕ → Row
-rowOf w unprotected home below c =
+-- The row of a cause over access w; unprotected or not; at home or away; card counter below its limit or not; with a nonzero T3346 or not
+unfoldable pub rowOf : ℕ → Bool → Bool → Bool → Bool → ℕ → Row
+rowOf w unprotected home below timed c =
     cond (isCard c) (cond unprotected (cond below CardBelow CardLimit) CardProtected)
     (cond (isNetworkNo c) (cond home (cond unprotected Home Other) Away)
     (cond (both (isAreaNo c) (eqb w 0)) Area
     (cond (isN1No w c) N1
-    (cond (isProtocol c) Protocol Other))))
+    (cond (isCongested c timed) Congested
+    (cond (isProtocol c) Protocol Other)))))
 
 -- What the row says.
 unfoldable pub rowText : Row → Text
@@ -151,6 +156,19 @@ rowText N1 = says (record {
   cardCounter = kept;
   otherAccess = untouched;
   timers = stopT3510;
+})
+-- 22 with a nonzero T3346 (document 02, R-6): "attempt counter 0, 5U2, state 3 (5 in an update), T3346 runs on that access"
+rowText Congested = says (record {
+  status = u2;
+  clearIdentity = never;
+  emptyEquivalents = never;
+  attemptCounter = zeroed always;
+  state = byUpdate 3 5;
+  areaList = nowhere;
+  mark = noMark;
+  cardCounter = kept;
+  otherAccess = untouched;
+  timers = stopT3510RunT3346;
 })
 -- 95, 96, 97, 99, 111: "attempt counter 5, then as T3510 out at 5"
 rowText Protocol = asT3510Out five

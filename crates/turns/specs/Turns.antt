@@ -8,9 +8,9 @@ use Rattle.record.specs.New.{newAccess, u1, u2}
 use Rattle.turns.specs.declared.Orders.{Orders}
 use Rattle.turns.specs.declared.Turn.{Turn}
 use Rattle.turns.specs.declared.Row.{Row}
-use Rattle.turns.specs.Words.{Text, says, asT3510Out, Across, untouched, cardCounterToLimit, counterAfter, ordersAfter, applied, acrossOf}
-use Rattle.turns.specs.Rejects.{isUpdating, rowText}
-use Rattle.turns.specs.Timers.{quiet, starting, answered, retrying, resting, t3511Stops, t3502Stops, halted}
+use Rattle.turns.specs.Words.{Text, says, asT3510Out, Across, untouched, cardCounterToLimit, counterAfter, isUpdating, ordersAfter, applied, acrossOf}
+use Rattle.turns.specs.Rejects.{rowText}
+use Rattle.turns.specs.Timers.{quiet, starting, answered, retrying, resting, t3511Stops, t3502Stops, t3346Stops, halted}
 use Rattle.record.specs.Setters.{inState, withStatus, withAttempts, forgotten, emptied, counted, pending, keyed, taught}
 
 abbrev pub turnOf : Access → Orders → Turn
@@ -65,6 +65,14 @@ t3511Out a = turnOf a t3511Stops
 unfoldable pub t3502Out : Access → Turn
 t3502Out a = turnOf (withAttempts 0 a) t3502Stops
 
+-- T3346 out (document 02, R-6): stops
+unfoldable pub t3346Out : Access → Turn
+t3346Out a = turnOf a t3346Stops
+
+-- a timer of the access out, by its number
+unfoldable pub clockTurn : ℕ → Access → Turn
+clockTurn number a = cond (eqb number 1) (t3510Out a) (cond (eqb number 2) (t3511Out a) (cond (eqb number 3) (t3502Out a) (t3346Out a)))
+
 -- Power cycle: "timers stop; states become 1 (0 with no card); attempt counters 0. All else stays."
 unfoldable pub cycled : ℕ → Access → Turn
 cycled card a = turnOf (withAttempts 0 (inState (cond (eqb card 0) 0 1) a)) halted
@@ -75,13 +83,13 @@ renewed = turnOf (newAccess 1) halted
 
 -- The table of rejects. What it says of lists, marks and network counters, crates rules and entries carry out.
 
--- the receiving access
-unfoldable pub turned : Text → ℕ → ℕ → ℕ → Bool → Access → Turn
-turned (says t) w limit cause found a = turnOf (applied t w cause limit found a) (ordersAfter (t .timers))
-turned (asT3510Out n) w limit cause found a = failed (counterAfter n w cause 5 (a .attempts)) a
+-- the receiving access; T3346 runs, where the row says so, for its time
+unfoldable pub turned : Text → ℕ → ℕ → ℕ → Bool → ℕ → Access → Turn
+turned (says t) w limit cause found time a = turnOf (applied t w cause limit found a) (ordersAfter (t .timers) time)
+turned (asT3510Out n) w limit cause found time a = failed (counterAfter n w cause 5 (a .attempts)) a
 
-unfoldable pub rowTurn : Row → ℕ → ℕ → ℕ → Bool → Access → Turn
-rowTurn r w limit cause found a = turned (rowText r) w limit cause found a
+unfoldable pub rowTurn : Row → ℕ → ℕ → ℕ → Bool → ℕ → Access → Turn
+rowTurn r w limit cause found time a = turned (rowText r) w limit cause found time a
 
 -- the other access
 unfoldable pub otherTurned : Across → ℕ → Access → Turn

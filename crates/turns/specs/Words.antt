@@ -1,12 +1,12 @@
 -- The words of the table of rejects and what they mean, whatever the row. Assumes nothing.
 use Prim.Native.Nat.{ℕ}
 use mathlib.Core.Bool.{Bool, true, false, cond}
-use lib.Dec.{eqb}
+use lib.Dec.{ltb, eqb}
 use Rattle.laws.specs.Bounds.{oneMore}
-use Rattle.record.specs.Tests.{flip}
+use Rattle.record.specs.Tests.{both, flip}
 use Rattle.record.specs.declared.Access.{Access}
 use Rattle.turns.specs.declared.Orders.{Orders}
-use Rattle.turns.specs.Timers.{answered}
+use Rattle.turns.specs.Timers.{answered, waiting}
 
 -- when a word holds: over access 0 alone, for one cause alone
 pub data When : Type 0 where
@@ -34,14 +34,19 @@ counterAfter (zeroed x) w cause limit n = cond (holds x w cause) 0 n
 abbrev pub five : Counter
 five = toLimit
 
--- the state over either access, or over access 0 and over access 1
+-- Document 02, R-5: an update is pending in state 4 with type 2 or 3
+unfoldable pub isUpdating : Access → Bool
+isUpdating a = both (eqb (a .state) 4) (ltb 1 (a .regtype))
+
+-- the state, or that over access 0 and that over access 1, or that after a start and that "in an update"
 pub data State : Type 0 where
   into : ℕ → State
-  byAccess : ℕ → ℕ → State
+  byAccess byUpdate : ℕ → ℕ → State
 
-unfoldable pub stateAfter : State → ℕ → ℕ
-stateAfter (into s) w = s
-stateAfter (byAccess s t) w = cond (eqb w 0) s t
+unfoldable pub stateAfter : State → ℕ → Bool → ℕ
+stateAfter (into s) w updating = s
+stateAfter (byAccess s t) w updating = cond (eqb w 0) s t
+stateAfter (byUpdate s t) w updating = cond updating t s
 
 -- the list that the pending area is put on
 pub data Listing : Type 0 where
@@ -72,12 +77,13 @@ isMark n1NotAllowedAndCounted = true
 pub data Across : Type 0 where
   untouched cardCounterToLimit : Across
 
--- the access's timers
+-- the access's timers; T3346 runs for its time
 pub data Timing : Type 0 where
-  stopT3510 : Timing
+  stopT3510 stopT3510RunT3346 : Timing
 
-unfoldable pub ordersAfter : Timing → Orders
-ordersAfter stopT3510 = answered
+unfoldable pub ordersAfter : Timing → ℕ → Orders
+ordersAfter stopT3510 time = answered
+ordersAfter stopT3510RunT3346 time = waiting time
 
 pub record Words : Type 0 where
   pub status : ℕ
@@ -112,13 +118,14 @@ acrossOf (asT3510Out n) = untouched
 -- "Clear identity": GUTI, last area removed, ngKSI 7
 unfoldable pub applied : Words → ℕ → ℕ → ℕ → Bool → Access → Access
 applied t w cause limit found a = record {
-  state = stateAfter (t .state) w;
+  state = stateAfter (t .state) w (isUpdating a);
   status = t .status;
   attempts = counterAfter (t .attemptCounter) w cause 5 (a .attempts);
   cardcounter = counterAfter (t .cardCounter) w cause limit (a .cardcounter);
   t3510 = a .t3510;
   t3511 = a .t3511;
   t3502 = a .t3502;
+  t3346 = a .t3346;
   t3502length = a .t3502length;
   net = a .net;
   code = a .code;

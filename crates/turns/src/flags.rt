@@ -27,7 +27,8 @@ pub fn runs_in(number: u8, d: Device) -> u8
 pub fn runs_on(number: u8, a: Access) -> u8
     ensures { λ r. ⌜ r ≡ runsOn number a ⌝ }
 {
-    pick(number == 1, a.t3510, pick(number == 2, a.t3511, a.t3502))
+    let last = pick(number == 3, a.t3502, a.t3346);
+    pick(number == 1, a.t3510, pick(number == 2, a.t3511, last))
 }
 
 pub fn flag_after(o: Order, flag: u8) -> u8
@@ -46,10 +47,12 @@ pub fn clocked(o: Orders, a: Access) -> Access
     let x = o.t3510;
     let y = o.t3511;
     let z = o.t3502;
+    let u = o.t3346;
     let mut q = a;
     q.t3510 = flag_after(x, a.t3510);
     q.t3511 = flag_after(y, a.t3511);
     q.t3502 = flag_after(z, a.t3502);
+    q.t3346 = flag_after(u, a.t3346);
     q
 }
 
@@ -76,12 +79,15 @@ pub fn clocks_of(o: Orders, a: Access) -> Clocks
     let x = o.t3510;
     let y = o.t3511;
     let z = o.t3502;
+    let u = o.t3346;
     let p = told_of(x, a.t3510);
     let q = told_of(y, a.t3511);
     let r = told_of(z, a.t3502);
+    let s = told_of(u, a.t3346);
     Clocks {
         t3510: p,
         t3511: q,
         t3502: r,
+        t3346: s,
     }
 }

@@ -11,6 +11,7 @@ pub(crate) fn quiet() -> Orders
         t3510: Order::Leave,
         t3511: Order::Leave,
         t3502: Order::Leave,
+        t3346: Order::Leave,
     }
 }
 
@@ -21,6 +22,7 @@ pub(crate) fn starting() -> Orders
         t3510: Order::Run(15),
         t3511: Order::Stop,
         t3502: Order::Stop,
+        t3346: Order::Leave,
     }
 }
 
@@ -31,6 +33,18 @@ pub(crate) fn answered() -> Orders
         t3510: Order::Stop,
         t3511: Order::Leave,
         t3502: Order::Leave,
+        t3346: Order::Leave,
+    }
+}
+
+pub(crate) fn waiting(length: u32) -> Orders
+    ensures { λ r. ⌜ r ≡ timers.waiting length ⌝ }
+{
+    Orders {
+        t3510: Order::Stop,
+        t3511: Order::Leave,
+        t3502: Order::Leave,
+        t3346: Order::Run(length),
     }
 }
 
@@ -41,6 +55,7 @@ pub(crate) fn retrying() -> Orders
         t3510: Order::Stop,
         t3511: Order::Run(10),
         t3502: Order::Leave,
+        t3346: Order::Leave,
     }
 }
 
@@ -51,6 +66,7 @@ pub(crate) fn resting(length: u32) -> Orders
         t3510: Order::Stop,
         t3511: Order::Leave,
         t3502: Order::Run(length),
+        t3346: Order::Leave,
     }
 }
 
@@ -61,6 +77,7 @@ pub(crate) fn t3511_stops() -> Orders
         t3510: Order::Leave,
         t3511: Order::Stop,
         t3502: Order::Leave,
+        t3346: Order::Leave,
     }
 }
 
@@ -71,6 +88,18 @@ pub(crate) fn t3502_stops() -> Orders
         t3510: Order::Leave,
         t3511: Order::Leave,
         t3502: Order::Stop,
+        t3346: Order::Leave,
+    }
+}
+
+pub(crate) fn t3346_stops() -> Orders
+    ensures { λ r. ⌜ r ≡ timers.t3346Stops ⌝ }
+{
+    Orders {
+        t3510: Order::Leave,
+        t3511: Order::Leave,
+        t3502: Order::Leave,
+        t3346: Order::Stop,
     }
 }
 
@@ -81,5 +110,6 @@ pub(crate) fn halted() -> Orders
         t3510: Order::Stop,
         t3511: Order::Stop,
         t3502: Order::Stop,
+        t3346: Order::Stop,
     }
 }

@@ -21,6 +21,7 @@ pub use rows::starts_t3247;
 pub use rows::to_regional;
 pub use rows::to_roaming;
 pub use turns::accepted;
+pub use turns::clock_turn;
 pub use turns::cycled;
 pub use turns::key_set;
 pub use turns::other_turn;
@@ -28,9 +29,6 @@ pub use turns::renewed;
 pub use turns::row_turn;
 pub use turns::started;
 pub use turns::still;
-pub use turns::t3502_out;
-pub use turns::t3510_out;
-pub use turns::t3511_out;
 pub use turns::updated;
 
 // What an event does to a timer: nothing, stop it, or run it for so many seconds.
@@ -44,6 +42,7 @@ pub struct Orders {
     pub t3510: Order,
     pub t3511: Order,
     pub t3502: Order,
+    pub t3346: Order,
 }
 
 // What the caller is told of a timer.
@@ -57,6 +56,7 @@ pub struct Clocks {
     pub t3510: Told,
     pub t3511: Told,
     pub t3502: Told,
+    pub t3346: Told,
 }
 
 // An access's numbers after an event, and what becomes of its timers.
@@ -74,6 +74,13 @@ pub enum Row {
     Home,
     Area,
     N1,
+    Congested,
     Protocol,
     Other,
+}
+
+// What a message comes with: a draw for T3247, and one for T3346 where the message's own time is not protected.
+pub struct Draws {
+    pub t3247: u16,
+    pub t3346: u16,
 }

@@ -7,8 +7,9 @@ use record::or;
 ghost use mathlib.Core.Path.{_≡_};
 ghost use mathlib.Core.Bool.{cond, false};
 ghost use lib.Dec.{eqb};
-ghost use Rattle.turns.specs.Rejects.{isUpdating, isRegistered, isCard, isNetworkNo, isAreaNo, isN1No, isProtocol, rowOf, startsT3247, needsEntry, toRoaming, toRegional};
-ghost use Rattle.turns.specs.declared.Row.the-variants.{CardBelow, CardLimit, CardProtected, Away, Home, Area, N1, Protocol, Other};
+ghost use Rattle.turns.specs.Words.{isUpdating};
+ghost use Rattle.turns.specs.Rejects.{isRegistered, isCard, isNetworkNo, isAreaNo, isN1No, isCongested, isProtocol, rowOf, startsT3247, needsEntry, toRoaming, toRegional};
+ghost use Rattle.turns.specs.declared.Row.the-variants.{CardBelow, CardLimit, CardProtected, Away, Home, Area, N1, Congested, Protocol, Other};
 
 pub fn is_card(cause: u8) -> bool
     ensures { λ r. ⌜ r ≡ isCard cause ⌝ }
@@ -32,6 +33,12 @@ fn is_n1_no(w: u8, cause: u8) -> bool
     ensures { λ r. ⌜ r ≡ isN1No w cause ⌝ }
 {
     or(cause == 27, and(cause == 72, w == 1))
+}
+
+fn is_congested(cause: u8, timed: bool) -> bool
+    ensures { λ r. ⌜ r ≡ isCongested cause timed ⌝ }
+{
+    and(cause == 22, timed)
 }
 
 fn is_protocol(cause: u8) -> bool
@@ -78,14 +85,17 @@ fn network_row(home: bool, unprotected: bool) -> Row
     }
 }
 
-fn further_row(area: bool, n1: bool, protocol: bool) -> Row
-    ensures { λ r. ⌜ r ≡ cond area Area (cond n1 N1 (cond protocol Protocol Other)) ⌝ }
+fn further_row(area: bool, n1: bool, congested: bool, protocol: bool) -> Row
+    ensures { λ r. ⌜ r ≡ cond area Area (cond n1 N1 (cond congested Congested (cond protocol Protocol Other))) ⌝ }
 {
     if area {
         return Row::Area;
     }
     if n1 {
         return Row::N1;
+    }
+    if congested {
+        return Row::Congested;
     }
     if protocol { Row::Protocol } else { Row::Other }
 }
@@ -100,19 +110,21 @@ fn chosen(first: bool, a: Row, second: bool, b: Row, c: Row) -> Row
 }
 
 // The rows after those of the card and of the network.
-fn further(w: u8, cause: u8) -> Row
-    ensures { λ r. ⌜ r ≡ cond (cond (isAreaNo cause) (eqb w 0) false) Area (cond (isN1No w cause) N1 (cond (isProtocol cause) Protocol Other)) ⌝ }
+fn further(w: u8, timed: bool, cause: u8) -> Row
+    ensures { λ r. ⌜ r ≡ cond (cond (isAreaNo cause) (eqb w 0) false) Area (cond (isN1No w cause) N1 (cond (isCongested cause timed) Congested (cond (isProtocol cause) Protocol Other))) ⌝ }
 {
     let area = and(is_area_no(cause), w == 0);
-    further_row(area, is_n1_no(w, cause), is_protocol(cause))
+    let n1 = is_n1_no(w, cause);
+    let congested = is_congested(cause, timed);
+    further_row(area, n1, congested, is_protocol(cause))
 }
 
-pub fn row_of(w: u8, unprotected: bool, home: bool, below: bool, cause: u8) -> Row
-    ensures { λ r. ⌜ r ≡ rowOf w unprotected home below cause ⌝ }
+pub fn row_of(w: u8, unprotected: bool, home: bool, below: bool, timed: bool, cause: u8) -> Row
+    ensures { λ r. ⌜ r ≡ rowOf w unprotected home below timed cause ⌝ }
 {
     let card = card_row(unprotected, below);
     let network = network_row(home, unprotected);
-    let rest = further(w, cause);
+    let rest = further(w, timed, cause);
     chosen(is_card(cause), card, is_network_no(cause), network, rest)
 }
 
@@ -134,6 +146,7 @@ pub fn needs_entry(row: Row) -> bool
         Row::Home => false,
         Row::Area => false,
         Row::N1 => true,
+        Row::Congested => false,
         Row::Protocol => false,
         Row::Other => false,
     }
@@ -150,6 +163,7 @@ pub fn to_roaming(w: u8, cause: u8, row: Row) -> bool
         Row::Home => w == 0,
         Row::Area => not(cause == 12),
         Row::N1 => false,
+        Row::Congested => false,
         Row::Protocol => false,
         Row::Other => false,
     }
@@ -166,6 +180,7 @@ pub fn to_regional(w: u8, cause: u8, row: Row) -> bool
         Row::Home => false,
         Row::Area => cause == 12,
         Row::N1 => false,
+        Row::Congested => false,
         Row::Protocol => false,
         Row::Other => false,
     }

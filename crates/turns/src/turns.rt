@@ -8,8 +8,10 @@ use crate::given::quiet;
 use crate::given::resting;
 use crate::given::retrying;
 use crate::given::starting;
+use crate::given::t3346_stops;
 use crate::given::t3502_stops;
 use crate::given::t3511_stops;
+use crate::given::waiting;
 use crate::rows::is_updating;
 use entries::one_more;
 use record::Access;
@@ -28,7 +30,7 @@ use record::pick;
 use record::taught;
 ghost use mathlib.Core.Path.{_≡_};
 ghost use mathlib.Core.Bool.{false};
-ghost use Rattle.turns.specs.declared.Row.the-variants.{CardBelow, CardLimit, CardProtected, Away, Home, Area, N1};
+ghost use Rattle.turns.specs.declared.Row.the-variants.{CardBelow, CardLimit, CardProtected, Away, Home, Area, N1, Congested};
 ghost use Rattle.record.specs.New.{u2, u3};
 ghost use Rattle.record.specs.Setters as sets;
 ghost use Rattle.turns.specs.Timers as timers;
@@ -132,22 +134,44 @@ fn failed(n: u8, a: Access) -> Turn
     }
 }
 
-pub fn t3510_out(a: Access) -> Turn
+fn t3510_out(a: Access) -> Turn
     ensures { λ r. ⌜ r ≡ events.t3510Out a ⌝ }
 {
     failed(one_more(5, a.attempts), a)
 }
 
-pub fn t3511_out(a: Access) -> Turn
+fn t3511_out(a: Access) -> Turn
     ensures { λ r. ⌜ r ≡ events.t3511Out a ⌝ }
 {
     timed(a, t3511_stops())
 }
 
-pub fn t3502_out(a: Access) -> Turn
+fn t3502_out(a: Access) -> Turn
     ensures { λ r. ⌜ r ≡ events.t3502Out a ⌝ }
 {
     timed(moved(a.state, a.status, 0, a), t3502_stops())
+}
+
+fn t3346_out(a: Access) -> Turn
+    ensures { λ r. ⌜ r ≡ events.t3346Out a ⌝ }
+{
+    timed(a, t3346_stops())
+}
+
+// A timer of the access out, by its number.
+pub fn clock_turn(number: u8, a: Access) -> Turn
+    ensures { λ r. ⌜ r ≡ events.clockTurn number a ⌝ }
+{
+    if number == 1 {
+        return t3510_out(a);
+    }
+    if number == 2 {
+        return t3511_out(a);
+    }
+    if number == 3 {
+        return t3502_out(a);
+    }
+    t3346_out(a)
 }
 
 // Power cycle.
@@ -191,9 +215,9 @@ fn card_second(n: u8, a: Access) -> Turn
     rejected(counted(n, refused(2, a.attempts, a)))
 }
 
-// The rows by their texts. A row that does not go by the access, the limit, the cause or the entry is stated with 0 and false for it.
+// The rows by their texts. A row that does not go by the access, the limit, the cause, the entry or T3346's time is stated with 0 and false for it.
 fn card_below(w: u8, limit: u8, a: Access) -> Turn
-    ensures { λ r. ⌜ r ≡ events.rowTurn CardBelow w limit 0 false a ⌝ }
+    ensures { λ r. ⌜ r ≡ events.rowTurn CardBelow w limit 0 false 0 a ⌝ }
 {
     let n = one_more(limit, a.cardcounter);
     if w == 0 {
@@ -204,32 +228,32 @@ fn card_below(w: u8, limit: u8, a: Access) -> Turn
 }
 
 fn card_limit(a: Access) -> Turn
-    ensures { λ r. ⌜ r ≡ events.rowTurn CardLimit 0 0 0 false a ⌝ }
+    ensures { λ r. ⌜ r ≡ events.rowTurn CardLimit 0 0 0 false 0 a ⌝ }
 {
     rejected(emptied(refused(0, a.attempts, a)))
 }
 
 fn card_protected(limit: u8, a: Access) -> Turn
-    ensures { λ r. ⌜ r ≡ events.rowTurn CardProtected 0 limit 0 false a ⌝ }
+    ensures { λ r. ⌜ r ≡ events.rowTurn CardProtected 0 limit 0 false 0 a ⌝ }
 {
     rejected(counted(limit, emptied(refused(0, a.attempts, a))))
 }
 
 fn away(w: u8, found: bool, a: Access) -> Turn
-    ensures { λ r. ⌜ r ≡ events.rowTurn Away w 0 0 found a ⌝ }
+    ensures { λ r. ⌜ r ≡ events.rowTurn Away w 0 0 found 0 a ⌝ }
 {
     let b = refused(pick(w == 0, 6, 2), 0, a);
     rejected(entered(found, emptied(b)))
 }
 
 fn home(a: Access) -> Turn
-    ensures { λ r. ⌜ r ≡ events.rowTurn Home 0 0 0 false a ⌝ }
+    ensures { λ r. ⌜ r ≡ events.rowTurn Home 0 0 0 false 0 a ⌝ }
 {
     rejected(emptied(refused(2, 0, a)))
 }
 
 fn area(cause: u8, a: Access) -> Turn
-    ensures { λ r. ⌜ r ≡ events.rowTurn Area 0 0 cause false a ⌝ }
+    ensures { λ r. ⌜ r ≡ events.rowTurn Area 0 0 cause false 0 a ⌝ }
 {
     let b = refused(2, 0, a);
     if cause == 13 {
@@ -240,14 +264,21 @@ fn area(cause: u8, a: Access) -> Turn
 }
 
 fn n1(found: bool, a: Access) -> Turn
-    ensures { λ r. ⌜ r ≡ events.rowTurn N1 0 0 0 found a ⌝ }
+    ensures { λ r. ⌜ r ≡ events.rowTurn N1 0 0 0 found 0 a ⌝ }
 {
     rejected(entered(found, refused(2, 0, a)))
 }
 
-// The receiving access.
-pub fn row_turn(row: Row, w: u8, limit: u8, cause: u8, found: bool, a: Access) -> Turn
-    ensures { λ r. ⌜ r ≡ events.rowTurn row w limit cause found a ⌝ }
+fn congested(time: u32, a: Access) -> Turn
+    ensures { λ r. ⌜ r ≡ events.rowTurn Congested 0 0 0 false time a ⌝ }
+{
+    let state = pick(is_updating(a), 5, 3);
+    timed(moved(state, U2, 0, a), waiting(time))
+}
+
+// The receiving access; T3346 runs, where the row says so, for its time.
+pub fn row_turn(row: Row, w: u8, limit: u8, cause: u8, found: bool, time: u32, a: Access) -> Turn
+    ensures { λ r. ⌜ r ≡ events.rowTurn row w limit cause found time a ⌝ }
 {
     match row {
         Row::CardBelow => card_below(w, limit, a),
@@ -257,6 +288,7 @@ pub fn row_turn(row: Row, w: u8, limit: u8, cause: u8, found: bool, a: Access) -
         Row::Home => home(a),
         Row::Area => area(cause, a),
         Row::N1 => n1(found, a),
+        Row::Congested => congested(time, a),
         Row::Protocol => failed(5, a),
         Row::Other => t3510_out(a),
     }
@@ -274,6 +306,7 @@ pub fn other_turn(row: Row, limit: u8, a: Access) -> Turn
         Row::Home => still(a),
         Row::Area => still(a),
         Row::N1 => still(a),
+        Row::Congested => still(a),
         Row::Protocol => still(a),
         Row::Other => still(a),
     }

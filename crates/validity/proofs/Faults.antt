@@ -22,7 +22,7 @@ use Rattle.record.specs.declared.Access.{Access}
 use Rattle.record.specs.declared.Hot.{Hot}
 use Rattle.record.specs.declared.Record.{Record}
 use Rattle.record.specs.declared.Answer.{Answer}
-use Rattle.record.specs.declared.Answer.the-variants.{Taken, Range, Ignored, Malformed, Full, StateZero, State, Same, Listed, Area, Unprotected, Idle, Short}
+use Rattle.record.specs.declared.Answer.the-variants.{Taken, Range, Ignored, Malformed, Full, StateZero, State, Same, Listed, Area, Unprotected, Idle, Short, Waiting}
 use Rattle.record.specs.Answers.{numberOf}
 use Rattle.ranges.specs.Valid.{validOf}
 use Rattle.record.specs.Network.{isNetwork}
@@ -52,6 +52,7 @@ faultIn Area = Whole
 faultIn Unprotected = Whole
 faultIn Idle = Whole
 faultIn Short = Whole
+faultIn Waiting = Whole
 
 whole-not : (f : Fault) (at : ℕ) → Whole ≡ Broken f at → ⊥
 unfolding isWhole
@@ -71,9 +72,11 @@ module _ (s : List ℕ) where
   checked true x y e q = q
   checked false x y e q = quiet x e
 
-  place-tells : (o : Access) (manual net : ℕ) (n : Seen) (listed : Bool) → Tells (placeAnswer o manual net n listed)
+  place-tells : (t3346 : ℕ) (o : Access) (manual net : ℕ) (n : Seen) (listed : Bool) → Tells (placeAnswer t3346 o manual net n listed)
   unfolding placeAnswer faultIn
-  place-tells o manual net n listed = checked (flip (isSame o net)) Same _ refl (checked (isFree manual n) Listed _ refl (checked (flip listed) Area _ refl (quiet Taken refl)))
+  place-tells t3346 o manual net n listed =
+      checked (eqb t3346 0) Waiting _ refl
+      (checked (flip (isSame o net)) Same _ refl (checked (isFree manual n) Listed _ refl (checked (flip listed) Area _ refl (quiet Taken refl))))
 
   bad-tells : (f : Fault) (at : ℕ) → Lowest (Faulty isAnswer s) (faultTold (reading.Bad f at)) → Tells (Malformed f at)
   unfolding Tells faultIn faultTold
@@ -83,9 +86,9 @@ module _ (s : List ℕ) where
   unfolding readAnswer rejectAnswer faultIn
   read-tells h w protected (reading.Bad f at) n x = bad-tells f at x
   read-tells h w protected (reading.Accept a) n x = checked (flip (eqb protected 0)) Unprotected _ refl (quiet Taken refl)
-  read-tells h w protected (reading.Reject cause) n x =
-      checked (flip (isIgnored protected cause (otherOf h w))) Ignored _ refl
-      (checked (flip (isFull (rowNow h w protected cause) n (accessOf h w))) Full _ refl (quiet Taken refl))
+  read-tells h w protected (reading.Reject g) n x =
+      checked (flip (isIgnored protected (g .cause) (otherOf h w))) Ignored _ refl
+      (checked (flip (isFull (rowNow h w protected g) n (accessOf h w))) Full _ refl (quiet Taken refl))
 
   answer-tells : (h : Hot) (e : Event) (n : Seen) (listed : Bool) → Tells (answerOf h e n listed s)
   unfolding answerOf cardAnswer startAnswer updateAnswer messageAnswer timerAnswer keyAnswer faultIn
@@ -93,16 +96,16 @@ module _ (s : List ℕ) where
   answer-tells h (Start w manual net code) n listed =
       checked (startRange w manual net code) Range _ refl
       (checked (flip (eqb (accessOf h w .state) 0)) StateZero _ refl
-      (checked (mayStart (accessOf h w .state)) State _ refl (place-tells (otherOf h w) manual net n listed)))
-  answer-tells h (Message w protected draw) n listed =
-      checked (messageRange w protected draw) Range _ refl
+      (checked (mayStart (accessOf h w .state)) State _ refl (place-tells (accessOf h w .t3346) (otherOf h w) manual net n listed)))
+  answer-tells h (Message w protected draws) n listed =
+      checked (messageRange w protected draws) Range _ refl
       (checked (eqb (accessOf h w .state) 4) State _ refl (read-tells h w protected (readingOf s) n (lowest s)))
   answer-tells h (Timer number w) n listed = checked (timerRange number w) Range _ refl (checked (flip (eqb (runs h number w) 0)) Idle _ refl (quiet Taken refl))
   answer-tells h Power n listed = quiet Taken refl
   answer-tells h (Key w set) n listed = checked (both (isFlag w) (leb set 6)) Range _ refl (checked (eqb (accessOf h w .state) 4) State _ refl (quiet Taken refl))
   answer-tells h (Update w regtype net code uplink sessions) n listed =
       checked (updateRange w regtype net code uplink sessions) Range _ refl
-      (checked (mayUpdate h w regtype) State _ refl (place-tells (otherOf h w) 0 net n listed))
+      (checked (mayUpdate h w regtype) State _ refl (place-tells (accessOf h w .t3346) (otherOf h w) 0 net n listed))
   answer-tells h Unknown n listed = quiet Range refl
 
   step-tells : (r : Record) (e : Event) → Tells (stepOf r e s .reply .answer)
@@ -134,6 +137,7 @@ not-three Area e = omega arith
 not-three Unprotected e = omega arith
 not-three Idle e = omega arith
 not-three Short e = omega arith
+not-three Waiting e = omega arith
 
 pub never-three : (r : Record) (e : Event) (octets : List ℕ) → numberOf (stepOf r e octets .reply .answer) ≡ 3 → ⊥
 never-three r e octets = not-three (stepOf r e octets .reply .answer)

@@ -33,7 +33,7 @@ abbrev Mode : Access → Type 0
 Mode a = (upTo 6 (a .state) ≡ true) × (within 1 3 (a .status) ≡ true) × (upTo 5 (a .attempts) ≡ true)
 
 abbrev Flags : Access → Type 0
-Flags a = (isFlag (a .t3510) ≡ true) × (isFlag (a .t3511) ≡ true) × (isFlag (a .t3502) ≡ true)
+Flags a = (isFlag (a .t3510) ≡ true) × (isFlag (a .t3511) ≡ true) × (isFlag (a .t3502) ≡ true) × (isFlag (a .t3346) ≡ true)
 
 abbrev Pending : Access → Type 0
 Pending a =

@@ -9,13 +9,15 @@ use borrow.Author.Tests.{eqb-true, le-leb, leb-true}
 use Rattle.messages.specs.declared.Reading.{Reading}
 use Rattle.messages.specs.declared.Reading.the-variants as reading
 use Rattle.messages.specs.Message.{readingOf}
+use Rattle.record.specs.declared.Access.{Access}
 use Rattle.record.specs.declared.Record.{Record}
 use Rattle.record.specs.Answers.{isTaken}
 use Rattle.record.specs.Tests.{either, flip, within, isFlag}
 use Rattle.ranges.specs.Valid.{validOf}
 use Rattle.turns.specs.Timers.{isDeviceTimer, runsOn}
 use Rattle.turns.specs.declared.Order.the-variants.{Leave, Stop}
-use Rattle.turns.specs.Turns.{still, started, updated, keySet, t3510Out, t3511Out, t3502Out}
+use Rattle.turns.specs.declared.Draws.{Draws}
+use Rattle.turns.specs.Turns.{still, started, updated, keySet, clockTurn}
 use Rattle.rules.specs.declared.Event.{Event}
 use Rattle.rules.specs.declared.Event.the-variants.{Card, Start, Message, Timer, Power, Key, Update, Unknown}
 use Rattle.record.specs.Sides.{accessOf}
@@ -30,7 +32,7 @@ use Rattle.validity.specs.Run.{Octets}
 use Rattle.validity.proofs.Bools.{both-true, either-second, either-left}
 use Rattle.validity.proofs.Good.{Good}
 use Rattle.validity.proofs.Valid.{valid-good, good-valid}
-use Rattle.validity.proofs.Turns.{still-turned, started-turned, updated-turned, key-turned, t3510-turned, t3511-turned, t3502-turned}
+use Rattle.validity.proofs.Turns.{after, Turned, still-turned, started-turned, updated-turned, key-turned, t3510-turned, t3511-turned, t3502-turned, t3346-turned}
 use Rattle.validity.proofs.Messages.{Mild, reading-mild}
 use Rattle.validity.proofs.Taken.{start-passed, update-passed, message-passed, reject-passed, timer-passed, key-passed, card-passed}
 use Rattle.validity.proofs.Refusal.{carry, effectIn, taken-plan, refused}
@@ -48,21 +50,21 @@ module _ (r : Record) (g : Good r) (z : Sized r) (octets : List ℕ) where
       either-left (eqb (r .hot .dev .card) 1) (eqb (accessOf (r .hot) w .state) 0) (access-carded r g w) (rw (eqb-true (accessOf (r .hot) w .state) 4 e))
 
   -- a message, by its reading
-  message-good : (w protected draw : ℕ) (m : Reading) → Mild m → Octets octets → isFlag w ≡ true → eqb (r .hot .dev .card) 1 ≡ true
+  message-good : (w protected : ℕ) (draws : Draws) (m : Reading) → Mild m → Octets octets → isFlag w ≡ true → eqb (r .hot .dev .card) 1 ≡ true
       → isTaken (readAnswer (r .hot) w protected m (pendingSeen r w)) ≡ true
-      → Good (carry r octets (takenPlan (r .hot) w (messageEffect (r .hot) w protected draw m (pendingSeen r w))) .next)
+      → Good (carry r octets (takenPlan (r .hot) w (messageEffect (r .hot) w protected draws m (pendingSeen r w))) .next)
   unfolding messageEffect readAnswer isTaken
-  message-good w protected draw (reading.Accept a) mild o h c q =
+  message-good w protected draws (reading.Accept a) mild o h c q =
       accept-good r g z octets w h a (pendingSeen r w) (mild .0) (mild .1) (mild .2) o c
-  message-good w protected draw (reading.Reject cause) mild o h c q =
-      reject-good r g z octets protected draw cause (rowNow (r .hot) w protected cause) c w h (reject-passed (r .hot) w protected cause (pendingSeen r w) q)
-  message-good w protected draw (reading.Bad f at) mild o h c q = absurd (false≢true q)
+  message-good w protected draws (reading.Reject k) mild o h c q =
+      reject-good r g z octets protected draws k (rowNow (r .hot) w protected k) c w h (reject-passed (r .hot) w protected k (pendingSeen r w) q)
+  message-good w protected draws (reading.Bad f at) mild o h c q = absurd (false≢true q)
 
-  -- T3511 out and T3502 out, and T3510 out, which runs in state 4 only
+  -- T3511, T3502 and T3346 out, and T3510 out, which runs in state 4 only
   clock-good : (number w : ℕ) → isFlag w ≡ true → isDeviceTimer number ≡ false → eqb (runs (r .hot) number w) 0 ≡ false
       → Good (carry r octets (takenPlan (r .hot) w (clockEffect (r .hot) number w)) .next)
-  unfolding clockEffect runs runsOn
-  clock-good number w h n q = go (eqb number 1) refl
+  unfolding clockEffect clockTurn runs runsOn
+  clock-good number w h n q = plain-good r g z octets w h (clockTurn number a) (flip (eqb number 1)) (go (eqb number 1) refl (eqb number 2) refl (eqb number 3) refl)
     where
       card : ℕ
       card = r .hot .dev .card
@@ -70,21 +72,17 @@ module _ (r : Record) (g : Good r) (z : Sized r) (octets : List ℕ) where
       limit : ℕ
       limit = r .hot .dev .cardlimit
 
-      running : eqb number 1 ≡ true → eqb (accessOf (r .hot) w .t3510) 0 ≡ false
+      a : Access
+      a = accessOf (r .hot) w
+
+      running : eqb number 1 ≡ true → eqb (a .t3510) 0 ≡ false
       running e = rw (n, e) at q
 
-      other : Good (carry r octets (takenPlan (r .hot) w (cond (eqb number 2) (plain (r .hot) w (t3511Out (accessOf (r .hot) w)) true) (plain (r .hot) w (t3502Out (accessOf (r .hot) w)) true))) .next)
-      other = elim (eqb number 2) as (λ b. Good (carry r octets (takenPlan (r .hot) w (cond b (plain (r .hot) w (t3511Out (accessOf (r .hot) w)) true) (plain (r .hot) w (t3502Out (accessOf (r .hot) w)) true))) .next)) [
-        | true ↦ plain-good r g z octets w h (t3511Out (accessOf (r .hot) w)) true (t3511-turned card limit (accessOf (r .hot) w) (access-fit r g w) (access-timely r g w) (access-carded r g w))
-        | false ↦ plain-good r g z octets w h (t3502Out (accessOf (r .hot) w)) true (t3502-turned card limit (accessOf (r .hot) w) (access-fit r g w) (access-timely r g w) (access-carded r g w))
-      ]
-
-      go : (b : Bool) → eqb number 1 ≡ b → Good (carry r octets (takenPlan (r .hot) w (clockEffect (r .hot) number w)) .next)
-      go true e =
-          rw e (plain-good r g z octets w h (t3510Out (accessOf (r .hot) w)) false
-          (t3510-turned card limit (accessOf (r .hot) w) (access-fit r g w)
-          (state-card w (either-second (eqb (accessOf (r .hot) w .t3510) 0) (eqb (accessOf (r .hot) w .state) 4) (access-timely r g w) (running e)))))
-      go false e = rw e other
+      go : (b : Bool) → eqb number 1 ≡ b → (c : Bool) → eqb number 2 ≡ c → (d : Bool) → eqb number 3 ≡ d → Turned card limit (a .equivalents) (a .entries) (after (clockTurn number a))
+      go true e c e′ d e″ = rw e (t3510-turned card limit a (access-fit r g w) (state-card w (either-second (eqb (a .t3510) 0) (eqb (a .state) 4) (access-timely r g w) (running e))))
+      go false e true e′ d e″ = rw (e, e′) (t3511-turned card limit a (access-fit r g w) (access-timely r g w) (access-carded r g w))
+      go false e false e′ true e″ = rw (e, e′, e″) (t3502-turned card limit a (access-fit r g w) (access-timely r g w) (access-carded r g w))
+      go false e false e′ false e″ = rw (e, e′, e″) (t3346-turned card limit a (access-fit r g w) (access-timely r g w) (access-carded r g w))
 
   -- T3247 out and T3512 out, which makes an update due
   device-good : (number : ℕ) → Good (carry r octets (takenPlan (r .hot) 0 (deviceEffect (r .hot) number 0)) .next)
@@ -117,9 +115,9 @@ module _ (r : Record) (g : Good r) (z : Sized r) (octets : List ℕ) where
       plain-good r g z octets w (p .0) (started net code (accessOf (r .hot) w)) false
       (started-turned (r .hot .dev .card) (r .hot .dev .cardlimit) (accessOf (r .hot) w) (access-fit r g w)
       (either-left (eqb (r .hot .dev .card) 1) (eqb (accessOf (r .hot) w .state) 0) (access-carded r g w) (p .3)) net code (p .1) (p .2))
-  taken-good (Message w protected draw) o q =
-      let p = message-passed (r .hot) w protected draw (readingOf octets) (pendingSeen r w) q in
-      message-good w protected draw (readingOf octets) (reading-mild octets) o (p .0) (state-card w (p .1)) (p .2)
+  taken-good (Message w protected draws) o q =
+      let p = message-passed (r .hot) w protected draws (readingOf octets) (pendingSeen r w) q in
+      message-good w protected draws (readingOf octets) (reading-mild octets) o (p .0) (state-card w (p .1)) (p .2)
   taken-good (Timer number w) o q =
       let p = timer-passed (r .hot) number w q in
       timer-good number w (p .0) (p .1) (p .2)

@@ -27,4 +27,5 @@ pub mod Told
 pub mod Power
 pub mod Update
 pub mod Steady
+pub mod Wait
 pub mod Faults

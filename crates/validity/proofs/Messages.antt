@@ -18,8 +18,8 @@ use Rattle.octets.specs.declared.Ending.the-variants.{Broken, Whole}
 use Rattle.octets.specs.Element.{Elements, elementsFrom, firstOf, endOf}
 use Rattle.messages.specs.declared.Reading.{Reading}
 use Rattle.messages.specs.declared.Reading.the-variants as reading
-use Rattle.messages.specs.Message.{countOf, t3502Of, t3512Of, secondsOf, acceptOf, acceptedOf, acceptReading, rejectReading, typeReading, endedBy, openedBy, readingOf}
-use Rattle.messages.proofs.Lengths.{t3502-fits, t3512-fits}
+use Rattle.messages.specs.Message.{countOf, timer2In, t3512Of, secondsOf, acceptOf, acceptedOf, acceptReading, rejectOf, rejectedOf, rejectReading, typeReading, endedBy, openedBy, readingOf}
+use Rattle.messages.proofs.Lengths.{timer2-fits, t3512-fits}
 use Rattle.record.specs.Tests.{upTo, isShort}
 use Rattle.record.specs.Network.{networkOf}
 use Rattle.events.specs.Parts.{networksOf}
@@ -30,7 +30,7 @@ use Rattle.validity.proofs.Arrays.{All, upto-reads}
 -- a reading whose numbers fit an access
 abbrev pub Mild : Reading → Type 0
 Mild (reading.Accept g) = (upTo 15 (g .count) ≡ true) × (upTo 11160 (g .t3502length) ≡ true) × (upTo 35712000 (g .t3512length) ≡ true)
-Mild (reading.Reject cause) = Unit {0}
+Mild (reading.Reject g) = Unit {0}
 Mild (reading.Bad f at) = Unit {0}
 
 count-fits : (p : Part) → countOf p ≤ 15
@@ -47,7 +47,7 @@ unfolding acceptedOf acceptOf
 accepted-mild s l =
     ended-mild (endOf l) (reading.Accept (acceptOf s l)) (
       le-leb (countOf (firstOf 0x4A l)) 15 (count-fits (firstOf 0x4A l)),
-      le-leb (secondsOf (t3502Of s (firstOf 0x16 l))) 11160 (t3502-fits s (firstOf 0x16 l)),
+      le-leb (secondsOf (timer2In s (firstOf 0x16 l))) 11160 (timer2-fits s (firstOf 0x16 l)),
       le-leb (secondsOf (t3512Of s (firstOf 0x5E l))) 35712000 (t3512-fits s (firstOf 0x5E l)),
     )
 
@@ -68,9 +68,9 @@ accept-mild s =
     read = cond (ltb (length s) (4 + getD s 3 0)) (reading.Bad Cut (length s)) (acceptedOf s (elementsFrom false s (4 + getD s 3 0)))
 
 reject-mild : (s : List ℕ) → Mild (rejectReading s)
-unfolding rejectReading
+unfolding rejectReading rejectedOf
 reject-mild s =
-    cond-mild (ltb 3 (length s)) (endedBy reading.Bad (endOf (elementsFrom false s 4)) (reading.Reject (getD s 3 0))) (reading.Bad Cut 3) (ended-mild (endOf (elementsFrom false s 4)) (reading.Reject (getD s 3 0)) tt) tt
+    cond-mild (ltb 3 (length s)) (rejectedOf s (elementsFrom false s 4)) (reading.Bad Cut 3) (ended-mild (endOf (elementsFrom false s 4)) (reading.Reject (rejectOf s (elementsFrom false s 4))) tt) tt
 
 type-mild : (s : List ℕ) → Mild (typeReading s)
 unfolding typeReading

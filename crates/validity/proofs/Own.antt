@@ -17,6 +17,7 @@ use Rattle.entries.specs.Entries.{placeIn, hasEntry, seenIn, seatOf, unforbidde
 use Rattle.areas.specs.declared.Task.{Task}
 use Rattle.areas.specs.declared.Task.the-variants as task
 use Rattle.messages.specs.declared.Accept.{Accept}
+use Rattle.messages.specs.declared.Reject.{Reject}
 use Rattle.record.specs.declared.Access.{Access}
 use Rattle.record.specs.declared.Record.{Record}
 use Rattle.record.specs.Tests.{upTo, isFlag}
@@ -25,8 +26,9 @@ use Rattle.turns.specs.declared.Order.{Order}
 use Rattle.turns.specs.declared.Order.the-variants.{Leave, Run}
 use Rattle.turns.specs.declared.Turn.{Turn}
 use Rattle.turns.specs.declared.Row.{Row}
+use Rattle.turns.specs.declared.Draws.{Draws}
 use Rattle.turns.specs.Words.{Mark, noMark, forbiddenAndCounted, n1NotAllowedAndCounted, isMark, markIn}
-use Rattle.turns.specs.Rejects.{rejectT3247, rowText, needsEntry, toRoaming, toRegional}
+use Rattle.turns.specs.Rejects.{rejectT3247, t3346Time, rowText, needsEntry, toRoaming, toRegional}
 use Rattle.turns.specs.Turns.{still, accepted, rowTurn, otherTurn}
 use Rattle.rules.specs.declared.Ask.the-variants as ask
 use Rattle.rules.specs.declared.Plan.{Plan}
@@ -155,9 +157,12 @@ row-held banlimit n1limit n t w g e n1NotAllowedAndCounted net protected f i = b
 abbrev pub pendingSeen : Record → ℕ → Seen
 pendingSeen r w = seenOf (ask.Network w (accessOf (r .hot) w .net)) (r .hot) (r .e0) (r .e1)
 
-module _ (r : Record) (g : Good r) (z : Sized r) (octets : List ℕ) (protected draw cause : ℕ) (row : Row) (c : eqb (r .hot .dev .card) 1 ≡ true) where
+module _ (r : Record) (g : Good r) (z : Sized r) (octets : List ℕ) (protected : ℕ) (draws : Draws) (k : Reject) (row : Row) (c : eqb (r .hot .dev .card) 1 ≡ true) where
   abbrev rejectPlan : ℕ → Plan
-  rejectPlan w = takenPlan (r .hot) w (rejectEffect (r .hot) w protected draw (pendingSeen r w) cause row)
+  rejectPlan w = takenPlan (r .hot) w (rejectEffect (r .hot) w protected draws (pendingSeen r w) k row)
+
+  abbrev time : ℕ
+  time = t3346Time protected (k .t3346length) (draws .t3346)
 
   abbrev task-if : Bool → Access → Task
   task-if b a = cond b (task.Put (a .net) (a .code) protected) task.Nothing
@@ -170,22 +175,22 @@ module _ (r : Record) (g : Good r) (z : Sized r) (octets : List ℕ) (protected 
   pub reject-good : (w : ℕ) → isFlag w ≡ true → (needsEntry row ≡ true → pendingSeen r w .found ≡ false → leb 16 (accessOf (r .hot) w .entries) ≡ false) → Good (carry r octets (rejectPlan w) .next)
   unfolding accessOf otherOf takenPlan rejectEffect scheduled rowWork rowDeed needsEntry tableAfter deedOf deedOn seenOf seenBy sightOf seenIn equivalentsAfter
   reject-good zero h f =
-      own-first r g z octets (r .hot .dev .t3512length) (r .hot .dev .due) (g .fair .t3512length) (g .fair .due) (rowTurn row 0 (r .hot .dev .cardlimit) cause (pendingSeen r 0 .found) (r .hot .a0)) (otherTurn row (r .hot .dev .cardlimit) (r .hot .a1))
-      (rejectT3247 (r .hot .dev .t3247) protected cause draw) Leave (rowDeed row (seatOf (pendingSeen r 0) (r .hot .a0 .net) protected)) (task-if (toRoaming 0 cause row) (r .hot .a0)) (task-if (toRegional 0 cause row) (r .hot .a0)) keep.Nothing false tt
-      (put-short (toRoaming 0 cause row) (r .hot .a0) (g .half0 .fit)) (put-short (toRegional 0 cause row) (r .hot .a0) (g .half0 .fit))
+      own-first r g z octets (r .hot .dev .t3512length) (r .hot .dev .due) (g .fair .t3512length) (g .fair .due) (rowTurn row 0 (r .hot .dev .cardlimit) (k .cause) (pendingSeen r 0 .found) time (r .hot .a0)) (otherTurn row (r .hot .dev .cardlimit) (r .hot .a1))
+      (rejectT3247 (r .hot .dev .t3247) protected (k .cause) (draws .t3247)) Leave (rowDeed row (seatOf (pendingSeen r 0) (r .hot .a0 .net) protected)) (task-if (toRoaming 0 (k .cause) row) (r .hot .a0)) (task-if (toRegional 0 (k .cause) row) (r .hot .a0)) keep.Nothing false tt
+      (put-short (toRoaming 0 (k .cause) row) (r .hot .a0) (g .half0 .fit)) (put-short (toRegional 0 (k .cause) row) (r .hot .a0) (g .half0 .fit))
       (half-turned (r .hot .dev) (r .hot .a0 .equivalents) (cond (needsEntry row) (grown (pendingSeen r 0 .found) (r .hot .a0 .entries)) (r .hot .a0 .entries))
-      (after (rowTurn row 0 (r .hot .dev .cardlimit) cause (pendingSeen r 0 .found) (r .hot .a0))) (r .equivalents0) (tableAfter (rejectPlan 0) 0 (r .hot .a0 .entries) (r .hot) (r .e0))
-      (row-turned (r .hot .dev .card) (r .hot .dev .cardlimit) (r .hot .a0) (g .half0 .fit) c row 0 cause (pendingSeen r 0 .found))
+      (after (rowTurn row 0 (r .hot .dev .cardlimit) (k .cause) (pendingSeen r 0 .found) time (r .hot .a0))) (r .equivalents0) (tableAfter (rejectPlan 0) 0 (r .hot .a0 .entries) (r .hot) (r .e0))
+      (row-turned (r .hot .dev .card) (r .hot .dev .cardlimit) (r .hot .a0) (g .half0 .fit) c row 0 (k .cause) (pendingSeen r 0 .found) time)
       (g .half0 .equals)
       (row-held (r .hot .dev .banlimit) (r .hot .dev .n1limit) (r .hot .a0 .entries) (r .e0) (z .e0) (g .half0 .held) (g .half0 .fit .entries) (markIn (rowText row)) (r .hot .a0 .net) protected f (g .half0 .fit .pending .0)))
       (other-turned (r .hot .dev .card) (r .hot .dev .cardlimit) (r .hot .a1) (g .half1 .fit) (g .half1 .timely) (g .half1 .carded) row)
   reject-good (suc zero) h f =
-      own-second r g z octets (r .hot .dev .t3512length) (r .hot .dev .due) (g .fair .t3512length) (g .fair .due) (rowTurn row 1 (r .hot .dev .cardlimit) cause (pendingSeen r 1 .found) (r .hot .a1)) (otherTurn row (r .hot .dev .cardlimit) (r .hot .a0))
-      (rejectT3247 (r .hot .dev .t3247) protected cause draw) Leave (rowDeed row (seatOf (pendingSeen r 1) (r .hot .a1 .net) protected)) (task-if (toRoaming 1 cause row) (r .hot .a1)) (task-if (toRegional 1 cause row) (r .hot .a1)) keep.Nothing false tt
-      (put-short (toRoaming 1 cause row) (r .hot .a1) (g .half1 .fit)) (put-short (toRegional 1 cause row) (r .hot .a1) (g .half1 .fit))
+      own-second r g z octets (r .hot .dev .t3512length) (r .hot .dev .due) (g .fair .t3512length) (g .fair .due) (rowTurn row 1 (r .hot .dev .cardlimit) (k .cause) (pendingSeen r 1 .found) time (r .hot .a1)) (otherTurn row (r .hot .dev .cardlimit) (r .hot .a0))
+      (rejectT3247 (r .hot .dev .t3247) protected (k .cause) (draws .t3247)) Leave (rowDeed row (seatOf (pendingSeen r 1) (r .hot .a1 .net) protected)) (task-if (toRoaming 1 (k .cause) row) (r .hot .a1)) (task-if (toRegional 1 (k .cause) row) (r .hot .a1)) keep.Nothing false tt
+      (put-short (toRoaming 1 (k .cause) row) (r .hot .a1) (g .half1 .fit)) (put-short (toRegional 1 (k .cause) row) (r .hot .a1) (g .half1 .fit))
       (half-turned (r .hot .dev) (r .hot .a1 .equivalents) (cond (needsEntry row) (grown (pendingSeen r 1 .found) (r .hot .a1 .entries)) (r .hot .a1 .entries))
-      (after (rowTurn row 1 (r .hot .dev .cardlimit) cause (pendingSeen r 1 .found) (r .hot .a1))) (r .equivalents1) (tableAfter (rejectPlan 1) 1 (r .hot .a1 .entries) (r .hot) (r .e1))
-      (row-turned (r .hot .dev .card) (r .hot .dev .cardlimit) (r .hot .a1) (g .half1 .fit) c row 1 cause (pendingSeen r 1 .found))
+      (after (rowTurn row 1 (r .hot .dev .cardlimit) (k .cause) (pendingSeen r 1 .found) time (r .hot .a1))) (r .equivalents1) (tableAfter (rejectPlan 1) 1 (r .hot .a1 .entries) (r .hot) (r .e1))
+      (row-turned (r .hot .dev .card) (r .hot .dev .cardlimit) (r .hot .a1) (g .half1 .fit) c row 1 (k .cause) (pendingSeen r 1 .found) time)
       (g .half1 .equals)
       (row-held (r .hot .dev .banlimit) (r .hot .dev .n1limit) (r .hot .a1 .entries) (r .e1) (z .e1) (g .half1 .held) (g .half1 .fit .entries) (markIn (rowText row)) (r .hot .a1 .net) protected f (g .half1 .fit .pending .0)))
       (other-turned (r .hot .dev .card) (r .hot .dev .cardlimit) (r .hot .a0) (g .half0 .fit) (g .half0 .timely) (g .half0 .carded) row)

@@ -12,7 +12,7 @@ use Rattle.areas.specs.Areas.{listAfter, countAfter}
 use Rattle.record.specs.declared.Hot.{Hot}
 use Rattle.record.specs.declared.Record.{Record}
 use Rattle.record.specs.declared.Answer.{Answer}
-use Rattle.record.specs.declared.Answer.the-variants.{Taken, Range, Ignored, Malformed, Full, StateZero, State, Same, Listed, Area, Unprotected, Idle, Short}
+use Rattle.record.specs.declared.Answer.the-variants.{Taken, Range, Ignored, Malformed, Full, StateZero, State, Same, Listed, Area, Unprotected, Idle, Short, Waiting}
 use Rattle.record.specs.Answers.{isTaken}
 use Rattle.ranges.specs.Valid.{validOf}
 use Rattle.effects.specs.Effects.{Effect}
@@ -78,6 +78,7 @@ taken-is Area e = absurd (false≢true e)
 taken-is Unprotected e = absurd (false≢true e)
 taken-is Idle e = absurd (false≢true e)
 taken-is Short e = absurd (false≢true e)
+taken-is Waiting e = absurd (false≢true e)
 
 -- the reply names the answer
 pub answer-told : (r : Record) (e : Event) (octets : List ℕ) → advanceOf r e octets .reply .answer ≡ answeredBy r e octets

@@ -8,12 +8,14 @@ use Rattle.entries.specs.declared.Seat.{Seat}
 use Rattle.entries.specs.declared.Deed.the-variants as deed
 use Rattle.entries.specs.Entries.{seenIn, entriesAfter}
 use Rattle.areas.specs.Areas.{areaOf, placed, placedCount, listAfter, countAfter}
+use Rattle.messages.specs.declared.Reject.{Reject}
 use Rattle.messages.specs.declared.Reading.the-variants as reading
 use Rattle.messages.specs.Message.{readingOf}
 use Rattle.record.specs.declared.Record.{Record}
 use Rattle.record.specs.Answers.{isTaken}
 use Rattle.record.specs.Sides.{accessOf, otherOf, hotOf}
 use Rattle.record.specs.Tests.{isFlag}
+use Rattle.turns.specs.declared.Draws.{Draws}
 use Rattle.turns.specs.Words.{Mark, noMark, forbiddenAndCounted, n1NotAllowedAndCounted, markIn}
 use Rattle.turns.specs.Rejects.{rowText, toRoaming, toRegional}
 use Rattle.turns.specs.Timers.{flagAfter}
@@ -57,42 +59,42 @@ entry-marked noMark k count banlimit n1limit t = refl
 entry-marked forbiddenAndCounted k count banlimit n1limit t = refl
 entry-marked n1NotAllowedAndCounted k count banlimit n1limit t = refl
 
-module _ (r : Record) (protected draw cause : ℕ) (octets : List ℕ) where
+module _ (r : Record) (protected : ℕ) (draws : Draws) (g : Reject) (octets : List ℕ) where
   abbrev rejectPlan : ℕ → Plan
-  rejectPlan w = takenPlan (r .hot) w (rejectEffect (r .hot) w protected draw (pendingSeen r w) cause (rowNow (r .hot) w protected cause))
+  rejectPlan w = takenPlan (r .hot) w (rejectEffect (r .hot) w protected draws (pendingSeen r w) g (rowNow (r .hot) w protected g))
 
   -- over access 0, and over access 1
-  carried : (w : ℕ) → isFlag w ≡ true → carry r octets (rejectPlan w) .next ≡ rejectRecord r w protected draw cause
+  carried : (w : ℕ) → isFlag w ≡ true → carry r octets (rejectPlan w) .next ≡ rejectRecord r w protected draws g
   unfolding joinedOf together carriedOut doneOf withCounts takenPlan hotAfter hotOf ticked flagAfter rejectEffect rowTurn otherTurn rowWork rowDeed toRoaming toRegional accessOf otherOf seenOf seenBy sightOf seenIn keptAfter gutiAfter equivalentsAfter suciAfter rejectRecord recordAfter tableAfter deedOf deedOn
   carried zero h = rw (
-    entry-marked (markIn (rowText (rowNow (r .hot) 0 protected cause))) (seat protected (r .hot .a0) (r .e0)) (r .hot .a0 .entries) (r .hot .dev .banlimit) (r .hot .dev .n1limit) (r .e0),
+    entry-marked (markIn (rowText (rowNow (r .hot) 0 protected g))) (seat protected (r .hot .a0) (r .e0)) (r .hot .a0 .entries) (r .hot .dev .banlimit) (r .hot .dev .n1limit) (r .e0),
     entry-kept (r .hot .a1 .entries) (r .hot .dev .banlimit) (r .hot .dev .n1limit) (r .e1),
-    list-put (toRoaming 0 cause (rowNow (r .hot) 0 protected cause)) (r .hot .a0 .net) (r .hot .a0 .code) protected (r .hot .dev .roaming) (r .roaming),
-    count-put (toRoaming 0 cause (rowNow (r .hot) 0 protected cause)) (r .hot .a0 .net) (r .hot .a0 .code) protected (r .hot .dev .roaming) (r .roaming),
-    list-put (toRegional 0 cause (rowNow (r .hot) 0 protected cause)) (r .hot .a0 .net) (r .hot .a0 .code) protected (r .hot .dev .regional) (r .regional),
-    count-put (toRegional 0 cause (rowNow (r .hot) 0 protected cause)) (r .hot .a0 .net) (r .hot .a0 .code) protected (r .hot .dev .regional) (r .regional),
+    list-put (toRoaming 0 (g .cause) (rowNow (r .hot) 0 protected g)) (r .hot .a0 .net) (r .hot .a0 .code) protected (r .hot .dev .roaming) (r .roaming),
+    count-put (toRoaming 0 (g .cause) (rowNow (r .hot) 0 protected g)) (r .hot .a0 .net) (r .hot .a0 .code) protected (r .hot .dev .roaming) (r .roaming),
+    list-put (toRegional 0 (g .cause) (rowNow (r .hot) 0 protected g)) (r .hot .a0 .net) (r .hot .a0 .code) protected (r .hot .dev .regional) (r .regional),
+    count-put (toRegional 0 (g .cause) (rowNow (r .hot) 0 protected g)) (r .hot .a0 .net) (r .hot .a0 .code) protected (r .hot .dev .regional) (r .regional),
   )
   carried (suc zero) h = rw (
-    entry-marked (markIn (rowText (rowNow (r .hot) 1 protected cause))) (seat protected (r .hot .a1) (r .e1)) (r .hot .a1 .entries) (r .hot .dev .banlimit) (r .hot .dev .n1limit) (r .e1),
+    entry-marked (markIn (rowText (rowNow (r .hot) 1 protected g))) (seat protected (r .hot .a1) (r .e1)) (r .hot .a1 .entries) (r .hot .dev .banlimit) (r .hot .dev .n1limit) (r .e1),
     entry-kept (r .hot .a0 .entries) (r .hot .dev .banlimit) (r .hot .dev .n1limit) (r .e0),
-    list-put (toRoaming 1 cause (rowNow (r .hot) 1 protected cause)) (r .hot .a1 .net) (r .hot .a1 .code) protected (r .hot .dev .roaming) (r .roaming),
-    count-put (toRoaming 1 cause (rowNow (r .hot) 1 protected cause)) (r .hot .a1 .net) (r .hot .a1 .code) protected (r .hot .dev .roaming) (r .roaming),
-    list-put (toRegional 1 cause (rowNow (r .hot) 1 protected cause)) (r .hot .a1 .net) (r .hot .a1 .code) protected (r .hot .dev .regional) (r .regional),
-    count-put (toRegional 1 cause (rowNow (r .hot) 1 protected cause)) (r .hot .a1 .net) (r .hot .a1 .code) protected (r .hot .dev .regional) (r .regional),
+    list-put (toRoaming 1 (g .cause) (rowNow (r .hot) 1 protected g)) (r .hot .a1 .net) (r .hot .a1 .code) protected (r .hot .dev .roaming) (r .roaming),
+    count-put (toRoaming 1 (g .cause) (rowNow (r .hot) 1 protected g)) (r .hot .a1 .net) (r .hot .a1 .code) protected (r .hot .dev .roaming) (r .roaming),
+    list-put (toRegional 1 (g .cause) (rowNow (r .hot) 1 protected g)) (r .hot .a1 .net) (r .hot .a1 .code) protected (r .hot .dev .regional) (r .regional),
+    count-put (toRegional 1 (g .cause) (rowNow (r .hot) 1 protected g)) (r .hot .a1 .net) (r .hot .a1 .code) protected (r .hot .dev .regional) (r .regional),
   )
   carried (suc (suc w)) h = absurd (no-third w h)
 
   -- a message that was read as a reject, and taken
-  pub reject-is : (w : ℕ) → readingOf octets ≡ reading.Reject cause → isTaken (answeredBy r (Message w protected draw) octets) ≡ true
-      → advanceOf r (Message w protected draw) octets .next ≡ rejectRecord r w protected draw cause
+  pub reject-is : (w : ℕ) → readingOf octets ≡ reading.Reject g → isTaken (answeredBy r (Message w protected draws) octets) ≡ true
+      → advanceOf r (Message w protected draws) octets .next ≡ rejectRecord r w protected draws g
   unfolding effectOf messageEffect askOf accessIn answeredBy answerOf
   reject-is w read taken =
-      rw (taken-plan r (Message w protected draw) octets taken, read)
-      (carried w (message-passed (r .hot) w protected draw (readingOf octets) (pendingSeen r w) taken .0))
+      rw (taken-plan r (Message w protected draws) octets taken, read)
+      (carried w (message-passed (r .hot) w protected draws (readingOf octets) (pendingSeen r w) taken .0))
 
   -- the same of a step, which tests the record first
-  pub step-reject : (w : ℕ) → readingOf octets ≡ reading.Reject cause → isTaken (stepOf r (Message w protected draw) octets .reply .answer) ≡ true
-      → stepOf r (Message w protected draw) octets .next ≡ rejectRecord r w protected draw cause
+  pub step-reject : (w : ℕ) → readingOf octets ≡ reading.Reject g → isTaken (stepOf r (Message w protected draws) octets .reply .answer) ≡ true
+      → stepOf r (Message w protected draws) octets .next ≡ rejectRecord r w protected draws g
   step-reject w read taken =
-      let v = step-taken r (Message w protected draw) octets taken in
+      let v = step-taken r (Message w protected draws) octets taken in
       rw (v .0) (reject-is w read (v .1))

@@ -4,6 +4,7 @@ use mathlib.Core.Path.{_≡_, refl}
 use mathlib.Core.Bool.{Bool, true, false}
 use mathlib.Core.List.{List}
 use lib.Dec.{ltb}
+use Rattle.messages.specs.declared.Reject.{Reject}
 use Rattle.messages.specs.declared.Reading.the-variants as reading
 use Rattle.messages.specs.Message.{readingOf}
 use Rattle.record.specs.declared.Access.{Access}
@@ -11,9 +12,10 @@ use Rattle.record.specs.declared.Record.{Record}
 use Rattle.record.specs.Answers.{isTaken}
 use Rattle.record.specs.Sides.{accessOf, otherOf}
 use Rattle.record.specs.Tests.{isFlag}
+use Rattle.turns.specs.declared.Draws.{Draws}
 use Rattle.turns.specs.Timers.{toldOf, clocksOf}
-use Rattle.turns.specs.Words.{Text, says, asT3510Out, Across, untouched, cardCounterToLimit, counterAfter, acrossOf}
-use Rattle.turns.specs.Rejects.{isUpdating, rowText}
+use Rattle.turns.specs.Words.{Text, says, asT3510Out, Across, untouched, cardCounterToLimit, counterAfter, isUpdating, acrossOf}
+use Rattle.turns.specs.Rejects.{t3346Time, rowText}
 use Rattle.turns.specs.Turns.{startFailed, updateFailed, failed, turned, rowTurn, otherTurned, otherTurn}
 use Rattle.checks.specs.Answers.{rowNow}
 use Rattle.effects.specs.Effects.{rejectEffect}
@@ -28,12 +30,12 @@ use Rattle.validity.proofs.Refusal.{carry, taken-plan, step-taken}
 use Rattle.validity.proofs.Taken.{message-passed}
 use Rattle.validity.proofs.Own.{no-third, pendingSeen}
 
-turned-orders : (t : Text) (w limit cause : ℕ) (found : Bool) (a : Access) → turned t w limit cause found a .orders ≡ ordersBy t w cause a
+turned-orders : (t : Text) (w limit cause : ℕ) (found : Bool) (time : ℕ) (a : Access) → turned t w limit cause found time a .orders ≡ ordersBy t w cause time a
 unfolding turned ordersBy failed startFailed updateFailed
-turned-orders (says t) w limit cause found a = refl
-turned-orders (asT3510Out n) w limit cause found a = go (isUpdating a) refl (ltb (counterAfter n w cause 5 (a .attempts)) 5) refl
+turned-orders (says t) w limit cause found time a = refl
+turned-orders (asT3510Out n) w limit cause found time a = go (isUpdating a) refl (ltb (counterAfter n w cause 5 (a .attempts)) 5) refl
   where
-    go : (u : Bool) → isUpdating a ≡ u → (b : Bool) → ltb (counterAfter n w cause 5 (a .attempts)) 5 ≡ b → turned (asT3510Out n) w limit cause found a .orders ≡ ordersBy (asT3510Out n) w cause a
+    go : (u : Bool) → isUpdating a ≡ u → (b : Bool) → ltb (counterAfter n w cause 5 (a .attempts)) 5 ≡ b → turned (asT3510Out n) w limit cause found time a .orders ≡ ordersBy (asT3510Out n) w cause time a
     go true p true q = rw (p, q)
     go true p false q = rw (p, q)
     go false p true q = rw (p, q)
@@ -44,30 +46,33 @@ unfolding otherTurned clocksOf toldOf
 across-told untouched limit a b = refl
 across-told cardCounterToLimit limit a b = refl
 
-module _ (r : Record) (protected draw cause : ℕ) (octets : List ℕ) where
+module _ (r : Record) (protected : ℕ) (draws : Draws) (g : Reject) (octets : List ℕ) where
   abbrev rejectPlan : ℕ → Plan
-  rejectPlan w = takenPlan (r .hot) w (rejectEffect (r .hot) w protected draw (pendingSeen r w) cause (rowNow (r .hot) w protected cause))
+  rejectPlan w = takenPlan (r .hot) w (rejectEffect (r .hot) w protected draws (pendingSeen r w) g (rowNow (r .hot) w protected g))
 
   abbrev text : ℕ → Text
-  text w = rowText (rowNow (r .hot) w protected cause)
+  text w = rowText (rowNow (r .hot) w protected g)
 
-  reply-told : (w : ℕ) → isFlag w ≡ true → carry r octets (rejectPlan w) .reply ≡ rejectReply r w protected draw cause
+  abbrev time : ℕ
+  time = t3346Time protected (g .t3346length) (draws .t3346)
+
+  reply-told : (w : ℕ) → isFlag w ≡ true → carry r octets (rejectPlan w) .reply ≡ rejectReply r w protected draws g
   unfolding joinedOf together carriedOut doneOf takenPlan takenReply toldOf rejectEffect rowTurn otherTurn accessOf otherOf rejectReply
-  reply-told zero h = rw (turned-orders (text 0) 0 (r .hot .dev .cardlimit) cause (pendingSeen r 0 .found) (r .hot .a0), across-told (acrossOf (text 0)) (r .hot .dev .cardlimit) (r .hot .a1) (r .hot .a1))
-  reply-told (suc zero) h = rw (turned-orders (text 1) 1 (r .hot .dev .cardlimit) cause (pendingSeen r 1 .found) (r .hot .a1), across-told (acrossOf (text 1)) (r .hot .dev .cardlimit) (r .hot .a0) (r .hot .a0))
+  reply-told zero h = rw (turned-orders (text 0) 0 (r .hot .dev .cardlimit) (g .cause) (pendingSeen r 0 .found) time (r .hot .a0), across-told (acrossOf (text 0)) (r .hot .dev .cardlimit) (r .hot .a1) (r .hot .a1))
+  reply-told (suc zero) h = rw (turned-orders (text 1) 1 (r .hot .dev .cardlimit) (g .cause) (pendingSeen r 1 .found) time (r .hot .a1), across-told (acrossOf (text 1)) (r .hot .dev .cardlimit) (r .hot .a0) (r .hot .a0))
   reply-told (suc (suc w)) h = absurd (no-third w h)
 
   -- a message that was read as a reject, and taken
-  pub reject-reply : (w : ℕ) → readingOf octets ≡ reading.Reject cause → isTaken (answeredBy r (Message w protected draw) octets) ≡ true
-      → advanceOf r (Message w protected draw) octets .reply ≡ rejectReply r w protected draw cause
+  pub reject-reply : (w : ℕ) → readingOf octets ≡ reading.Reject g → isTaken (answeredBy r (Message w protected draws) octets) ≡ true
+      → advanceOf r (Message w protected draws) octets .reply ≡ rejectReply r w protected draws g
   unfolding effectOf messageEffect askOf accessIn answeredBy answerOf
   reject-reply w read taken =
-      rw (taken-plan r (Message w protected draw) octets taken, read)
-      (reply-told w (message-passed (r .hot) w protected draw (readingOf octets) (pendingSeen r w) taken .0))
+      rw (taken-plan r (Message w protected draws) octets taken, read)
+      (reply-told w (message-passed (r .hot) w protected draws (readingOf octets) (pendingSeen r w) taken .0))
 
   -- the same of a step, which tests the record first
-  pub step-reject-reply : (w : ℕ) → readingOf octets ≡ reading.Reject cause → isTaken (stepOf r (Message w protected draw) octets .reply .answer) ≡ true
-      → stepOf r (Message w protected draw) octets .reply ≡ rejectReply r w protected draw cause
+  pub step-reject-reply : (w : ℕ) → readingOf octets ≡ reading.Reject g → isTaken (stepOf r (Message w protected draws) octets .reply .answer) ≡ true
+      → stepOf r (Message w protected draws) octets .reply ≡ rejectReply r w protected draws g
   step-reject-reply w read taken =
-      let v = step-taken r (Message w protected draw) octets taken in
+      let v = step-taken r (Message w protected draws) octets taken in
       rw (v .0) (reject-reply w read (v .1))

@@ -106,7 +106,7 @@ module _ (limit : ℕ) (a : Access) (g : Fit limit a) where
   unfolding clocked
   fit-clocked o = record {
     mode = g .mode;
-    flags = (flag-after (o .t3510) (a .t3510) (g .flags .0), flag-after (o .t3511) (a .t3511) (g .flags .1), flag-after (o .t3502) (a .t3502) (g .flags .2));
+    flags = (flag-after (o .t3510) (a .t3510) (g .flags .0), flag-after (o .t3511) (a .t3511) (g .flags .1), flag-after (o .t3502) (a .t3502) (g .flags .2), flag-after (o .t3346) (a .t3346) (g .flags .3));
     t3502length = g .t3502length;
     pending = g .pending;
     known = g .known;

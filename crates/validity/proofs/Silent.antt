@@ -7,7 +7,7 @@ use lib.Dec.{eqb}
 use Rattle.octets.specs.declared.Fault.{Fault}
 use Rattle.octets.specs.declared.Fault.the-variants.{Cut, First, Second, Kind, Past, Strange}
 use Rattle.record.specs.declared.Answer.{Answer}
-use Rattle.record.specs.declared.Answer.the-variants.{Taken, Range, Ignored, Malformed, Full, StateZero, State, Same, Listed, Area, Unprotected, Idle, Short}
+use Rattle.record.specs.declared.Answer.the-variants.{Taken, Range, Ignored, Malformed, Full, StateZero, State, Same, Listed, Area, Unprotected, Idle, Short, Waiting}
 use Rattle.record.specs.declared.Record.{Record}
 use Rattle.record.specs.Answers.{numberOf, isTaken}
 use Rattle.ranges.specs.Valid.{validOf}
@@ -42,6 +42,7 @@ ignoring-two Area = refl
 ignoring-two Unprotected = refl
 ignoring-two Idle = refl
 ignoring-two Short = refl
+ignoring-two Waiting = refl
 
 refused-silent : (n : Answer) (w : ℕ) → Silent w (refusedReply n w)
 unfolding refusedReply

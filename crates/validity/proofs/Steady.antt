@@ -20,10 +20,11 @@ use Rattle.record.specs.Sides.{accessOf, otherOf, hotOf}
 use Rattle.record.specs.Tests.{either}
 use Rattle.ranges.specs.Valid.{validOf}
 use Rattle.turns.specs.declared.Turn.{Turn}
+use Rattle.turns.specs.declared.Draws.{Draws}
 use Rattle.turns.specs.Timers.{isDeviceTimer, runsOn, flagAfter, clocked}
 use Rattle.turns.specs.Words.{Across, untouched, cardCounterToLimit, acrossOf}
 use Rattle.turns.specs.Rejects.{rowText}
-use Rattle.turns.specs.Turns.{started, updated, keySet, accepted, t3511Out, t3502Out, otherTurned, otherTurn}
+use Rattle.turns.specs.Turns.{started, updated, keySet, accepted, t3511Out, t3502Out, t3346Out, clockTurn, otherTurned, otherTurn}
 use Rattle.checks.specs.Answers.{mayStart, rowNow, runs}
 use Rattle.effects.specs.Effects.{Effect, ticked, cardEffect, startEffect, updateEffect, keyEffect, t3512Time, acceptT3512, acceptEffect, clockEffect, t3247Effect, t3512Effect, deviceEffect, timerEffect, powerEffect, rejectEffect}
 use Rattle.rules.specs.declared.Event.{Event}
@@ -107,32 +108,31 @@ module _ (r : Record) (g : Good r) (s : Steady r) where
       go true q = rw q s
       go false q = rw q s
 
-  message-steady : (w protected draw : ℕ) (m : Reading) (seen : Seen) → eqb (accessOf h w .state) 4 ≡ true → Leaves h w (messageEffect h w protected draw m seen)
+  message-steady : (w protected : ℕ) (draws : Draws) (m : Reading) (seen : Seen) → eqb (accessOf h w .state) 4 ≡ true → Leaves h w (messageEffect h w protected draws m seen)
   unfolding messageEffect acceptEffect acceptT3512 accepted taught inState withStatus withAttempts rejectEffect otherTurn flagAfter accessOf otherOf
-  message-steady w protected draw m seen f = go (eqb w 0) refl m
+  message-steady w protected draws m seen f = go (eqb w 0) refl m
     where
-      go : (b : Bool) → eqb w 0 ≡ b → (m : Reading) → Leaves h w (messageEffect h w protected draw m seen)
+      go : (b : Bool) → eqb w 0 ≡ b → (m : Reading) → Leaves h w (messageEffect h w protected draws m seen)
       go true q (reading.Accept a) = rw q (or-true (eqb (flagAfter (acceptT3512 0 (t3512Time a (h .dev))) (h .dev .t3512)) 0))
-      go true q (reading.Reject cause) = rw q (either-first (eqb (h .dev .t3512) 0) _ (in-four (rw q at f)))
+      go true q (reading.Reject k) = rw q (either-first (eqb (h .dev .t3512) 0) _ (in-four (rw q at f)))
       go true q (reading.Bad fault at) = rw q s
       go false q (reading.Accept a) = rw q s
-      go false q (reading.Reject cause) = rw (q, across-state (acrossOf (rowText (rowNow h w protected cause))) (h .dev .cardlimit) (h .a0)) s
+      go false q (reading.Reject k) = rw (q, across-state (acrossOf (rowText (rowNow h w protected k))) (h .dev .cardlimit) (h .a0)) s
       go false q (reading.Bad fault at) = rw q s
 
   clock-steady : (number w : ℕ) → isDeviceTimer number ≡ false → eqb (runs h number w) 0 ≡ false → Leaves h w (clockEffect h number w)
-  unfolding clockEffect runs runsOn t3511Out t3502Out withAttempts flagAfter accessOf otherOf
-  clock-steady number w d f = go (eqb w 0) refl (eqb number 1) refl (eqb number 2) refl
+  unfolding clockEffect clockTurn runs runsOn t3511Out t3502Out t3346Out withAttempts flagAfter accessOf otherOf
+  clock-steady number w d f = go (eqb w 0) refl (eqb number 1) refl (eqb number 2) refl (eqb number 3) refl
     where
       running : eqb w 0 ≡ true → eqb number 1 ≡ true → eqb (h .a0 .state) 4 ≡ true
       running q q′ = either-second (eqb (h .a0 .t3510) 0) (eqb (h .a0 .state) 4) (g .half0 .timely) (rw (d, q′, q) at f)
 
-      go : (b : Bool) → eqb w 0 ≡ b → (c : Bool) → eqb number 1 ≡ c → (e : Bool) → eqb number 2 ≡ e → Leaves h w (clockEffect h number w)
-      go true q true q′ e q″ = rw (q, q′) (either-first (eqb (h .dev .t3512) 0) _ (in-four (running q q′)))
-      go true q false q′ true q″ = rw (q, q′, q″) s
-      go true q false q′ false q″ = rw (q, q′, q″) s
-      go false q true q′ e q″ = rw (q, q′) s
-      go false q false q′ true q″ = rw (q, q′, q″) s
-      go false q false q′ false q″ = rw (q, q′, q″) s
+      go : (b : Bool) → eqb w 0 ≡ b → (c : Bool) → eqb number 1 ≡ c → (e : Bool) → eqb number 2 ≡ e → (k : Bool) → eqb number 3 ≡ k → Leaves h w (clockEffect h number w)
+      go true q true q′ e q″ k x = rw (q, q′) (either-first (eqb (h .dev .t3512) 0) _ (in-four (running q q′)))
+      go true q false q′ true q″ k x = rw (q, q′, q″) s
+      go true q false q′ false q″ true x = rw (q, q′, q″, x) s
+      go true q false q′ false q″ false x = rw (q, q′, q″, x) s
+      go false q c q′ e q″ k x = rw q s
 
   device-steady : (number w : ℕ) → Leaves h w (deviceEffect h number w)
   unfolding deviceEffect t3247Effect t3512Effect flagAfter accessOf otherOf
@@ -156,7 +156,7 @@ module _ (r : Record) (g : Good r) (s : Steady r) where
   event-steady (Card home) octets t = refl
   event-steady (Start w manual net code) octets t =
       start-steady w net code (start-passed h w manual net code (seenAt r (Start w manual net code)) (listedAt r (Start w manual net code)) t .4)
-  event-steady (Message w protected draw) octets t = message-steady w protected draw (readingOf octets) _ (message-passed h w protected draw (readingOf octets) _ t .1)
+  event-steady (Message w protected draws) octets t = message-steady w protected draws (readingOf octets) _ (message-passed h w protected draws (readingOf octets) _ t .1)
   event-steady (Timer number w) octets t = timer-steady number w (timer-passed h number w t .2)
   event-steady Power octets t = refl
   event-steady (Key w set) octets t = key-steady w set

@@ -6,6 +6,7 @@ use mathlib.Core.List.{List}
 use lib.Dec.{leb, eqb}
 use lib.ListN.{length, getD}
 use Rattle.entries.specs.declared.Seen.{Seen}
+use Rattle.messages.specs.declared.Reject.{Reject}
 use Rattle.messages.specs.declared.Reading.{Reading}
 use Rattle.record.specs.declared.Hot.{Hot}
 use Rattle.record.specs.declared.Answer.{Answer}
@@ -13,6 +14,7 @@ use Rattle.record.specs.declared.Answer.the-variants as answer
 use Rattle.record.specs.Answers.{isTaken}
 use Rattle.record.specs.Tests.{both, either, flip, within, isFlag, isShort, isClear0}
 use Rattle.record.specs.Network.{isNetwork}
+use Rattle.turns.specs.declared.Draws.{Draws}
 use Rattle.turns.specs.Timers.{isDeviceTimer}
 use Rattle.turns.specs.Rejects.{isIgnored, needsEntry}
 use Rattle.record.specs.Sides.{accessOf, otherOf}
@@ -22,17 +24,22 @@ use Rattle.validity.proofs.Bools.{flip-true, check-passed, check-rest}
 
 pub start-passed : (h : Hot) (w manual net code : ℕ) (s : Seen) (listed : Bool) → isTaken (startAnswer h w manual net code s listed) ≡ true
     → (isFlag w ≡ true) × (isNetwork net ≡ true) × (isShort code ≡ true) × (eqb (accessOf h w .state) 0 ≡ false) × (mayStart (accessOf h w .state) ≡ true)
-unfolding startAnswer startRange isTaken
+    × (eqb (accessOf h w .t3346) 0 ≡ true)
+unfolding startAnswer startRange placeAnswer isTaken
 start-passed h w manual net code s listed q = (
   one (isFlag w) (both (isFlag manual) (both (isNetwork net) (isShort code))) range,
   one (isNetwork net) (isShort code) place,
   rest (isNetwork net) (isShort code) place,
   flip-true (eqb (accessOf h w .state) 0) (check-passed (flip (eqb (accessOf h w .state) 0)) answer.StateZero third refl carded),
-  check-passed (mayStart (accessOf h w .state)) answer.State (placeAnswer (otherOf h w) manual net s listed) refl (check-rest (flip (eqb (accessOf h w .state) 0)) answer.StateZero third refl carded),
+  check-passed (mayStart (accessOf h w .state)) answer.State fourth refl (check-rest (flip (eqb (accessOf h w .state) 0)) answer.StateZero third refl carded),
+  check-passed (eqb (accessOf h w .t3346) 0) answer.Waiting _ refl (check-rest (mayStart (accessOf h w .state)) answer.State fourth refl (check-rest (flip (eqb (accessOf h w .state) 0)) answer.StateZero third refl carded)),
 )
   where
+    fourth : Answer
+    fourth = placeAnswer (accessOf h w .t3346) (otherOf h w) manual net s listed
+
     third : Answer
-    third = check (mayStart (accessOf h w .state)) answer.State (placeAnswer (otherOf h w) manual net s listed)
+    third = check (mayStart (accessOf h w .state)) answer.State fourth
 
     second : Answer
     second = check (flip (eqb (accessOf h w .state) 0)) answer.StateZero third
@@ -48,7 +55,8 @@ start-passed h w manual net code s listed q = (
 
 pub update-passed : (h : Hot) (w regtype net code uplink sessions : ℕ) (s : Seen) (listed : Bool) → isTaken (updateAnswer h w regtype net code uplink sessions s listed) ≡ true
     → (isFlag w ≡ true) × (within 2 3 regtype ≡ true) × (isNetwork net ≡ true) × (isShort code ≡ true) × (isClear0 uplink ≡ true) × (isClear0 sessions ≡ true) × (eqb (accessOf h w .state) 5 ≡ true)
-unfolding updateAnswer updateRange mayUpdate isTaken
+    × (eqb (accessOf h w .t3346) 0 ≡ true)
+unfolding updateAnswer updateRange mayUpdate placeAnswer isTaken
 update-passed h w regtype net code uplink sessions s listed q = (
   one (isFlag w) (both (within 2 3 regtype) place) range,
   one (within 2 3 regtype) place (rest (isFlag w) (both (within 2 3 regtype) place) range),
@@ -56,7 +64,8 @@ update-passed h w regtype net code uplink sessions s listed q = (
   one (isShort code) clear (rest (isNetwork net) (both (isShort code) clear) there),
   one (isClear0 uplink) (isClear0 sessions) (rest (isShort code) clear (rest (isNetwork net) (both (isShort code) clear) there)),
   rest (isClear0 uplink) (isClear0 sessions) (rest (isShort code) clear (rest (isNetwork net) (both (isShort code) clear) there)),
-  one (eqb (accessOf h w .state) 5) (either (eqb regtype 2) (both (eqb w 0) (eqb (h .dev .due) 1))) (check-passed (mayUpdate h w regtype) answer.State (placeAnswer (otherOf h w) 0 net s listed) refl (check-rest (updateRange w regtype net code uplink sessions) answer.Range second refl q)),
+  one (eqb (accessOf h w .state) 5) (either (eqb regtype 2) (both (eqb w 0) (eqb (h .dev .due) 1))) (check-passed (mayUpdate h w regtype) answer.State third refl may),
+  check-passed (eqb (accessOf h w .t3346) 0) answer.Waiting _ refl (check-rest (mayUpdate h w regtype) answer.State third refl may),
 )
   where
     clear : Bool
@@ -65,8 +74,14 @@ update-passed h w regtype net code uplink sessions s listed q = (
     place : Bool
     place = both (isNetwork net) (both (isShort code) clear)
 
+    third : Answer
+    third = placeAnswer (accessOf h w .t3346) (otherOf h w) 0 net s listed
+
     second : Answer
-    second = check (mayUpdate h w regtype) answer.State (placeAnswer (otherOf h w) 0 net s listed)
+    second = check (mayUpdate h w regtype) answer.State third
+
+    may : isTaken second ≡ true
+    may = check-rest (updateRange w regtype net code uplink sessions) answer.Range second refl q
 
     range : both (isFlag w) (both (within 2 3 regtype) place) ≡ true
     range = check-passed (updateRange w regtype net code uplink sessions) answer.Range second refl q
@@ -74,13 +89,13 @@ update-passed h w regtype net code uplink sessions s listed q = (
     there : place ≡ true
     there = rest (within 2 3 regtype) place (rest (isFlag w) (both (within 2 3 regtype) place) range)
 
-pub message-passed : (h : Hot) (w protected draw : ℕ) (m : Reading) (s : Seen) → isTaken (messageAnswer h w protected draw m s) ≡ true
+pub message-passed : (h : Hot) (w protected : ℕ) (draws : Draws) (m : Reading) (s : Seen) → isTaken (messageAnswer h w protected draws m s) ≡ true
     → (isFlag w ≡ true) × (eqb (accessOf h w .state) 4 ≡ true) × (isTaken (readAnswer h w protected m s) ≡ true)
 unfolding messageAnswer messageRange isTaken
-message-passed h w protected draw m s q = (
-  one (isFlag w) (both (isFlag protected) (within 1800 3600 draw)) (check-passed (messageRange w protected draw) answer.Range second refl q),
-  check-passed (eqb (accessOf h w .state) 4) answer.State (readAnswer h w protected m s) refl (check-rest (messageRange w protected draw) answer.Range second refl q),
-  check-rest (eqb (accessOf h w .state) 4) answer.State (readAnswer h w protected m s) refl (check-rest (messageRange w protected draw) answer.Range second refl q),
+message-passed h w protected draws m s q = (
+  one (isFlag w) (both (isFlag protected) (both (within 1800 3600 (draws .t3247)) (within 900 1800 (draws .t3346)))) (check-passed (messageRange w protected draws) answer.Range second refl q),
+  check-passed (eqb (accessOf h w .state) 4) answer.State (readAnswer h w protected m s) refl (check-rest (messageRange w protected draws) answer.Range second refl q),
+  check-rest (eqb (accessOf h w .state) 4) answer.State (readAnswer h w protected m s) refl (check-rest (messageRange w protected draws) answer.Range second refl q),
 )
   where
     second : Answer
@@ -93,13 +108,13 @@ full-not true true full e p q = absurd (true≢false q)
 full-not false found full e p q = absurd (false≢true p)
 
 -- an entry that the row needs has room
-pub reject-passed : (h : Hot) (w protected cause : ℕ) (s : Seen) → isTaken (rejectAnswer h w protected cause s) ≡ true → needsEntry (rowNow h w protected cause) ≡ true
+pub reject-passed : (h : Hot) (w protected : ℕ) (g : Reject) (s : Seen) → isTaken (rejectAnswer h w protected g s) ≡ true → needsEntry (rowNow h w protected g) ≡ true
     → s .found ≡ false → leb 16 (accessOf h w .entries) ≡ false
 unfolding rejectAnswer isFull isTaken
-reject-passed h w protected cause s q =
-    full-not (needsEntry (rowNow h w protected cause)) (s .found) (leb 16 (accessOf h w .entries))
-    (check-passed (flip (isFull (rowNow h w protected cause) s (accessOf h w))) answer.Full answer.Taken refl
-    (check-rest (flip (isIgnored protected cause (otherOf h w))) answer.Ignored (check (flip (isFull (rowNow h w protected cause) s (accessOf h w))) answer.Full answer.Taken) refl q))
+reject-passed h w protected g s q =
+    full-not (needsEntry (rowNow h w protected g)) (s .found) (leb 16 (accessOf h w .entries))
+    (check-passed (flip (isFull (rowNow h w protected g) s (accessOf h w))) answer.Full answer.Taken refl
+    (check-rest (flip (isIgnored protected (g .cause) (otherOf h w))) answer.Ignored (check (flip (isFull (rowNow h w protected g) s (accessOf h w))) answer.Full answer.Taken) refl q))
 
 pub timer-passed : (h : Hot) (number w : ℕ) → isTaken (timerAnswer h number w) ≡ true
     → (isFlag w ≡ true) × (either (flip (isDeviceTimer number)) (eqb w 0) ≡ true) × (eqb (runs h number w) 0 ≡ false)
@@ -114,7 +129,7 @@ timer-passed h number w q = (
     second = check (flip (eqb (runs h number w) 0)) answer.Idle answer.Taken
 
     range : both (isFlag w) (either (flip (isDeviceTimer number)) (eqb w 0)) ≡ true
-    range = rest (within 1 5 number) (both (isFlag w) (either (flip (isDeviceTimer number)) (eqb w 0))) (check-passed (timerRange number w) answer.Range second refl q)
+    range = rest (within 1 6 number) (both (isFlag w) (either (flip (isDeviceTimer number)) (eqb w 0))) (check-passed (timerRange number w) answer.Range second refl q)
 
 pub key-passed : (h : Hot) (w set : ℕ) → isTaken (keyAnswer h w set) ≡ true → (isFlag w ≡ true) × (leb set 6 ≡ true)
 unfolding keyAnswer isTaken

@@ -15,12 +15,12 @@ use Rattle.record.specs.New.{newAccess}
 use Rattle.turns.specs.declared.Order.the-variants.{Stop}
 use Rattle.turns.specs.declared.Turn.{Turn}
 use Rattle.turns.specs.declared.Row.{Row}
-use Rattle.turns.specs.declared.Row.the-variants.{CardBelow, CardLimit, CardProtected, Away, Home, Area, N1, Protocol, Other}
-use Rattle.turns.specs.Timers.{flagAfter, quiet, starting, answered, retrying, resting, t3511Stops, t3502Stops, halted, clocked}
-use Rattle.turns.specs.Words.{Text, says, asT3510Out, Words, Counter, kept, upByOne, toLimit, zeroed, Across, untouched, cardCounterToLimit, Timing, stopT3510, holds, counterAfter, stateAfter, ordersAfter, isMark, markIn, acrossOf, applied}
-use Rattle.turns.specs.Rejects.{isUpdating, rowText, needsEntry}
+use Rattle.turns.specs.declared.Row.the-variants.{CardBelow, CardLimit, CardProtected, Away, Home, Area, N1, Congested, Protocol, Other}
+use Rattle.turns.specs.Timers.{flagAfter, quiet, starting, answered, retrying, resting, t3511Stops, t3502Stops, t3346Stops, halted, clocked}
+use Rattle.turns.specs.Words.{Text, says, asT3510Out, Words, Counter, kept, upByOne, toLimit, zeroed, Across, untouched, cardCounterToLimit, Timing, stopT3510, stopT3510RunT3346, holds, counterAfter, isUpdating, stateAfter, ordersAfter, isMark, markIn, acrossOf, applied}
+use Rattle.turns.specs.Rejects.{rowText, needsEntry}
 use Rattle.record.specs.Setters.{inState, withStatus, withAttempts, forgotten, emptied, counted, pending, keyed, taught}
-use Rattle.turns.specs.Turns.{turnOf, still, started, updated, keySet, accepted, startFailed, updateFailed, failed, t3510Out, t3511Out, t3502Out, cycled, renewed, turned, rowTurn, otherTurned, otherTurn}
+use Rattle.turns.specs.Turns.{turnOf, still, started, updated, keySet, accepted, startFailed, updateFailed, failed, t3510Out, t3511Out, t3502Out, t3346Out, cycled, renewed, turned, rowTurn, otherTurned, otherTurn}
 use Rattle.validity.proofs.Bools.{either-first, more-fits}
 use Rattle.validity.proofs.Good.{Fit, Timely, Carded}
 use Rattle.validity.proofs.Setters.{grown, grown-fits, fit-state, fit-status, fit-attempts, fit-forgotten, fit-emptied, fit-counted, fit-pending, fit-keyed, fit-taught, fit-clocked}
@@ -45,31 +45,37 @@ counter-fits upByOne w cause limit n e = more-fits limit n e
 counter-fits toLimit w cause limit n e = le-leb limit limit (omega arith)
 counter-fits (zeroed x) w cause limit n e = elim (holds x w cause) as (λ b. upTo limit (cond b 0 n) ≡ true) [ true ↦ le-leb 0 limit (omega arith) | false ↦ e ]
 
--- a text that has words of its own: a state and an update status
-data Proper (w : ℕ) : Text → Type 0 where
-  own : {t : Words} → upTo 6 (stateAfter (t .state) w) ≡ true → within 1 3 (t .status) ≡ true → Proper w (says t)
-  out : {n : Counter} → Proper w (asT3510Out n)
+-- a text that has words of its own: a state, in an update or not, and an update status
+data Proper (w : ℕ) (updating : Bool) : Text → Type 0 where
+  own : {t : Words} → upTo 6 (stateAfter (t .state) w updating) ≡ true → within 1 3 (t .status) ≡ true → Proper w updating (says t)
+  out : {n : Counter} → Proper w updating (asT3510Out n)
 
 -- "Every taken reject stops T3510."
-stops : (x : Timing) → ordersAfter x .t3510 ≡ Stop
+stops : (x : Timing) (time : ℕ) → ordersAfter x time .t3510 ≡ Stop
 unfolding ordersAfter
-stops stopT3510 = refl
+stops stopT3510 time = refl
+stops stopT3510RunT3346 time = refl
 
 six-or-two : (b : Bool) → upTo 6 (cond b 6 2) ≡ true
 six-or-two true = refl
 six-or-two false = refl
 
-row-proper : (r : Row) (w : ℕ) → Proper w (rowText r)
+five-or-three : (b : Bool) → upTo 6 (cond b 5 3) ≡ true
+five-or-three true = refl
+five-or-three false = refl
+
+row-proper : (r : Row) (w : ℕ) (updating : Bool) → Proper w updating (rowText r)
 unfolding rowText stateAfter
-row-proper CardBelow w = own refl refl
-row-proper CardLimit w = own refl refl
-row-proper CardProtected w = own refl refl
-row-proper Away w = own (six-or-two (eqb w 0)) refl
-row-proper Home w = own refl refl
-row-proper Area w = own refl refl
-row-proper N1 w = own refl refl
-row-proper Protocol w = out
-row-proper Other w = out
+row-proper CardBelow w updating = own refl refl
+row-proper CardLimit w updating = own refl refl
+row-proper CardProtected w updating = own refl refl
+row-proper Away w updating = own (six-or-two (eqb w 0)) refl
+row-proper Home w updating = own refl refl
+row-proper Area w updating = own refl refl
+row-proper N1 w updating = own refl refl
+row-proper Congested w updating = own (five-or-three updating) refl
+row-proper Protocol w updating = out
+row-proper Other w updating = out
 
 module _ (card limit : ℕ) (a : Access) (g : Fit limit a) where
   -- the access that an event leaves alone, but for its card counter
@@ -106,6 +112,10 @@ module _ (card limit : ℕ) (a : Access) (g : Fit limit a) where
       equivalents = omega arith;
       entries = refl;
     }
+
+    pub t3346-turned : Turned card limit (a .equivalents) (a .entries) (after (t3346Out a))
+    unfolding t3346Out clocked flagAfter
+    t3346-turned = record { fit = fit-clocked limit a g t3346Stops; timely = t; carded = c; equivalents = omega arith; entries = refl }
 
     across-turned : (o : Across) → Turned card limit (a .equivalents) (a .entries) (after (otherTurned o limit a))
     unfolding otherTurned
@@ -240,10 +250,10 @@ module _ (card limit : ℕ) (a : Access) (g : Fit limit a) where
     t3510-turned = failed-turned (oneMore 5 (a .attempts)) (more-fits 5 (a .attempts) (g .mode .2))
 
     -- a row's own words, where they are proper
-    words-turned : (t : Words) (w cause : ℕ) (found : Bool) → upTo 6 (stateAfter (t .state) w) ≡ true → within 1 3 (t .status) ≡ true
-        → Turned card limit (a .equivalents) (cond (isMark (t .mark)) (grown found (a .entries)) (a .entries)) (after (turnOf (applied t w cause limit found a) (ordersAfter (t .timers))))
+    words-turned : (t : Words) (w cause : ℕ) (found : Bool) (time : ℕ) → upTo 6 (stateAfter (t .state) w (isUpdating a)) ≡ true → within 1 3 (t .status) ≡ true
+        → Turned card limit (a .equivalents) (cond (isMark (t .mark)) (grown found (a .entries)) (a .entries)) (after (turnOf (applied t w cause limit found a) (ordersAfter (t .timers) time)))
     unfolding applied clocked flagAfter
-    words-turned t w cause found p q = record {
+    words-turned t w cause found time p q = record {
       fit = fit-clocked limit (applied t w cause limit found a) (record {
         mode = (p, q, counter-fits (t .attemptCounter) w cause 5 (a .attempts) (g .mode .2));
         flags = g .flags;
@@ -253,9 +263,9 @@ module _ (card limit : ℕ) (a : Access) (g : Fit limit a) where
         cardcounter = counter-fits (t .cardCounter) w cause limit (a .cardcounter) (g .cardcounter);
         equivalents = elim (holds (t .emptyEquivalents) w cause) as (λ b. upTo 15 (cond b 0 (a .equivalents)) ≡ true) [ true ↦ refl | false ↦ g .equivalents ];
         entries = elim (isMark (t .mark)) as (λ b. upTo 16 (cond b (grown found (a .entries)) (a .entries)) ≡ true) [ true ↦ grown-fits found (a .entries) (g .entries) | false ↦ g .entries ];
-      }) (ordersAfter (t .timers));
-      timely = rw (stops (t .timers));
-      carded = either-first (eqb card 1) (eqb (stateAfter (t .state) w) 0) h;
+      }) (ordersAfter (t .timers) time);
+      timely = rw (stops (t .timers) time);
+      carded = either-first (eqb card 1) (eqb (stateAfter (t .state) w (isUpdating a)) 0) h;
       equivalents = elim (holds (t .emptyEquivalents) w cause) as (λ b. cond b 0 (a .equivalents) ≤ a .equivalents) [ true ↦ omega arith | false ↦ omega arith ];
       entries = refl;
     }
@@ -266,22 +276,22 @@ module _ (card limit : ℕ) (a : Access) (g : Fit limit a) where
         known true = (refl, refl, refl, refl)
         known false = g .known
 
-    text-turned : (t : Text) (w cause : ℕ) (found : Bool) → Proper w t
-        → Turned card limit (a .equivalents) (cond (isMark (markIn t)) (grown found (a .entries)) (a .entries)) (after (turned t w limit cause found a))
+    text-turned : (t : Text) (w cause : ℕ) (found : Bool) (time : ℕ) → Proper w (isUpdating a) t
+        → Turned card limit (a .equivalents) (cond (isMark (markIn t)) (grown found (a .entries)) (a .entries)) (after (turned t w limit cause found time a))
     unfolding turned markIn isMark
-    text-turned (says t) w cause found (own p q) = words-turned t w cause found p q
-    text-turned (asT3510Out n) w cause found out = failed-turned (counterAfter n w cause 5 (a .attempts)) (counter-fits n w cause 5 (a .attempts) (g .mode .2))
+    text-turned (says t) w cause found time (own p q) = words-turned t w cause found time p q
+    text-turned (asT3510Out n) w cause found time out = failed-turned (counterAfter n w cause 5 (a .attempts)) (counter-fits n w cause 5 (a .attempts) (g .mode .2))
 
-    pub row-turned : (r : Row) (w cause : ℕ) (found : Bool) → Turned card limit (a .equivalents) (cond (needsEntry r) (grown found (a .entries)) (a .entries)) (after (rowTurn r w limit cause found a))
+    pub row-turned : (r : Row) (w cause : ℕ) (found : Bool) (time : ℕ) → Turned card limit (a .equivalents) (cond (needsEntry r) (grown found (a .entries)) (a .entries)) (after (rowTurn r w limit cause found time a))
     unfolding rowTurn needsEntry
-    row-turned r w cause found = text-turned (rowText r) w cause found (row-proper r w)
+    row-turned r w cause found time = text-turned (rowText r) w cause found time (row-proper r w (isUpdating a))
 
 -- a new record's access
 new-fits : (limit state : ℕ) → upTo 6 state ≡ true → Fit limit (newAccess state)
 unfolding newAccess isNetwork
 new-fits limit state p = record {
   mode = (p, refl, refl);
-  flags = (refl, refl, refl);
+  flags = (refl, refl, refl, refl);
   t3502length = refl;
   pending = (refl, refl, refl, refl, refl);
   known = (refl, refl, refl, refl);

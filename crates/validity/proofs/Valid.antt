@@ -59,7 +59,7 @@ unfolding deviceRanges
 device-joined d e = joined (isFlag (d .card)) (deviceTests d) e
 
 abbrev modeTests : Access → List Bool
-modeTests a = within 1 3 (a .status) ∷ upTo 5 (a .attempts) ∷ isFlag (a .t3510) ∷ isFlag (a .t3511) ∷ isFlag (a .t3502) ∷ upTo 11160 (a .t3502length) ∷ []
+modeTests a = within 1 3 (a .status) ∷ upTo 5 (a .attempts) ∷ isFlag (a .t3510) ∷ isFlag (a .t3511) ∷ isFlag (a .t3502) ∷ upTo 11160 (a .t3502length) ∷ isFlag (a .t3346) ∷ []
 
 abbrev pendingTests : Access → List Bool
 pendingTests a = isClear0 (a .uplink) ∷ isClear0 (a .sessions) ∷ []
@@ -95,8 +95,8 @@ access-good d a equivalents t ranges counters carded net nets clock once =
     record {
       fit = record {
         mode = (m .0, m .1 .0, m .1 .1 .0);
-        flags = (m .1 .1 .1 .0, m .1 .1 .1 .1 .0, m .1 .1 .1 .1 .1 .0);
-        t3502length = m .1 .1 .1 .1 .1 .1;
+        flags = (m .1 .1 .1 .0, m .1 .1 .1 .1 .0, m .1 .1 .1 .1 .1 .0, m .1 .1 .1 .1 .1 .1 .1);
+        t3502length = m .1 .1 .1 .1 .1 .1 .0;
         pending = (net, i .0, p .0, p .1 .0, p .1 .1);
         known = (i .1 .0, i .1 .1 .0, i .1 .1 .1 .0, i .1 .1 .1 .1 .0);
         cardcounter = c .0;
@@ -119,7 +119,7 @@ access-good d a equivalents t ranges counters carded net nets clock once =
 access-ranges : (d : Device) (a : Access) (equivalents : List ℕ) (t : Entries) → Half d a equivalents t → accessRanges a equivalents t ≡ true
 unfolding accessRanges modeRanges pendingRanges identityRanges heldRanges
 access-ranges d a equivalents t g =
-    let m : Each (upTo 6 (a .state)) (modeTests a) = (g .fit .mode .0, (g .fit .mode .1, (g .fit .mode .2, (g .fit .flags .0, (g .fit .flags .1, (g .fit .flags .2, g .fit .t3502length)))))) in
+    let m : Each (upTo 6 (a .state)) (modeTests a) = (g .fit .mode .0, (g .fit .mode .1, (g .fit .mode .2, (g .fit .flags .0, (g .fit .flags .1, (g .fit .flags .2, (g .fit .t3502length, g .fit .flags .3))))))) in
     let p : Each (within 1 3 (a .regtype)) (pendingTests a) = (g .fit .pending .2, (g .fit .pending .3, g .fit .pending .4)) in
     let i : Each (isShort (a .code)) (identityTests a) = (g .fit .pending .1, (g .fit .known .0, (g .fit .known .1, (g .fit .known .2, (g .fit .known .3, (g .fit .equivalents, g .fit .entries)))))) in
     let h : Each (allTo isShort (a .equivalents) equivalents) (heldTests a t) = (of-all isShort (a .equivalents) equivalents (g .equals), (of-all isFlag (a .entries) (t .forbidden) (g .held .forbidden), of-all isFlag (a .entries) (t .barred) (g .held .barred))) in

@@ -9,3 +9,4 @@ pub mod Causes
 pub mod Reply
 pub mod Power
 pub mod Update
+pub mod Wait

@@ -19,6 +19,7 @@ accessPowered card a = record {
   t3510 = 0;
   t3511 = 0;
   t3502 = 0;
+  t3346 = 0;
   t3502length = a .t3502length;
   net = a .net;
   code = a .code;

@@ -9,10 +9,12 @@ use Rattle.areas.specs.Areas.{areaOf, placed, placedCount}
 use Rattle.record.specs.declared.Access.{Access}
 use Rattle.record.specs.declared.Record.{Record}
 use Rattle.record.specs.Sides.{accessOf}
+use Rattle.messages.specs.declared.Reject.{Reject}
 use Rattle.turns.specs.declared.Turn.{Turn}
+use Rattle.turns.specs.declared.Draws.{Draws}
 use Rattle.turns.specs.Timers.{flagAfter, clocked}
 use Rattle.turns.specs.Words.{Text, Mark, noMark, forbiddenAndCounted, n1NotAllowedAndCounted, isRoaming, isRegional, listOf, markIn, acrossOf}
-use Rattle.turns.specs.Rejects.{rejectT3247, rowText}
+use Rattle.turns.specs.Rejects.{rejectT3247, t3346Time, rowText}
 use Rattle.turns.specs.Turns.{turned, otherTurned}
 use Rattle.checks.specs.Answers.{rowNow}
 
@@ -30,15 +32,15 @@ markedIn n1NotAllowedAndCounted k banlimit n1limit t = barredBy k n1limit t
 abbrev pub after : Turn → Access
 after t = clocked (t .orders) (t .access)
 
--- access me of an event of access w, and its entries
-abbrev accessAfter : Text → ℕ → ℕ → ℕ → ℕ → ℕ → Access → Entries → Access
-accessAfter t w me protected cause limit a e = cond (eqb w me) (after (turned t w limit cause (seat protected a e .found) a)) (after (otherTurned (acrossOf t) limit a))
+-- access me of an event of access w, with T3346's time, and its entries
+abbrev accessAfter : Text → ℕ → ℕ → ℕ → ℕ → ℕ → ℕ → Access → Entries → Access
+accessAfter t w me protected cause limit time a e = cond (eqb w me) (after (turned t w limit cause (seat protected a e .found) time a)) (after (otherTurned (acrossOf t) limit a))
 
 abbrev rejectEntries : Text → ℕ → ℕ → ℕ → ℕ → ℕ → Access → Entries → Entries
 rejectEntries t w me protected banlimit n1limit a e = cond (eqb w me) (markedIn (markIn t) (seat protected a e) banlimit n1limit e) e
 
-unfoldable pub recordAfter : Text → ℕ → ℕ → ℕ → ℕ → ℕ → Record → Record
-recordAfter t w protected cause t3247 area r = record {
+unfoldable pub recordAfter : Text → ℕ → ℕ → ℕ → ℕ → ℕ → ℕ → Record → Record
+recordAfter t w protected cause t3247 time area r = record {
   hot = record {
     dev = record {
       card = r .hot .dev .card;
@@ -56,8 +58,8 @@ recordAfter t w protected cause t3247 area r = record {
       roaming = cond (isRoaming (listOf t) w cause) (placedCount area (r .hot .dev .roaming) (r .roaming)) (r .hot .dev .roaming);
       regional = cond (isRegional (listOf t) w cause) (placedCount area (r .hot .dev .regional) (r .regional)) (r .hot .dev .regional);
     };
-    a0 = accessAfter t w 0 protected cause (r .hot .dev .cardlimit) (r .hot .a0) (r .e0);
-    a1 = accessAfter t w 1 protected cause (r .hot .dev .cardlimit) (r .hot .a1) (r .e1);
+    a0 = accessAfter t w 0 protected cause (r .hot .dev .cardlimit) time (r .hot .a0) (r .e0);
+    a1 = accessAfter t w 1 protected cause (r .hot .dev .cardlimit) time (r .hot .a1) (r .e1);
   };
   e0 = rejectEntries t w 0 protected (r .hot .dev .banlimit) (r .hot .dev .n1limit) (r .hot .a0) (r .e0);
   e1 = rejectEntries t w 1 protected (r .hot .dev .banlimit) (r .hot .dev .n1limit) (r .hot .a1) (r .e1);
@@ -72,10 +74,11 @@ recordAfter t w protected cause t3247 area r = record {
   security = r .security;
 }
 
--- the row's text, T3247, and the pending area
-unfoldable pub rejectRecord : Record → ℕ → ℕ → ℕ → ℕ → Record
-rejectRecord r w protected draw cause =
-    recordAfter (rowText (rowNow (r .hot) w protected cause)) w protected cause
-    (flagAfter (rejectT3247 (r .hot .dev .t3247) protected cause draw) (r .hot .dev .t3247))
+-- the row's text, T3247, T3346's time, and the pending area
+unfoldable pub rejectRecord : Record → ℕ → ℕ → Draws → Reject → Record
+rejectRecord r w protected draws g =
+    recordAfter (rowText (rowNow (r .hot) w protected g)) w protected (g .cause)
+    (flagAfter (rejectT3247 (r .hot .dev .t3247) protected (g .cause) (draws .t3247)) (r .hot .dev .t3247))
+    (t3346Time protected (g .t3346length) (draws .t3346))
     (areaOf (accessOf (r .hot) w .net) (accessOf (r .hot) w .code))
     r

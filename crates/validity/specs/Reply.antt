@@ -7,13 +7,15 @@ use Rattle.record.specs.declared.Access.{Access}
 use Rattle.record.specs.declared.Answer.the-variants as answer
 use Rattle.record.specs.declared.Record.{Record}
 use Rattle.record.specs.Answers.{numberOf}
+use Rattle.messages.specs.declared.Reject.{Reject}
 use Rattle.turns.specs.declared.Clocks.{Clocks}
+use Rattle.turns.specs.declared.Draws.{Draws}
 use Rattle.turns.specs.declared.Orders.{Orders}
 use Rattle.turns.specs.declared.Told.{Told}
 use Rattle.turns.specs.declared.Told.the-variants.{Left, Stopped, Started}
 use Rattle.turns.specs.Timers.{toldOf, clocksOf, retrying, resting}
 use Rattle.turns.specs.Words.{Text, says, asT3510Out, counterAfter, ordersAfter}
-use Rattle.turns.specs.Rejects.{rejectT3247, rowText}
+use Rattle.turns.specs.Rejects.{rejectT3247, t3346Time, rowText}
 use Rattle.checks.specs.Answers.{rowNow}
 use Rattle.rules.specs.declared.Asked.{Asked}
 use Rattle.rules.specs.declared.Asked.the-variants.{No, On}
@@ -23,20 +25,20 @@ use Rattle.rules.specs.Plan.{allLeft}
 -- A taken reject.
 
 -- what a row's text orders of the receiving access's timers; as T3510 out: "Below 5, T3511 (10 s) starts. At 5, .. T3502 starts."
-unfoldable pub ordersBy : Text → ℕ → ℕ → Access → Orders
-ordersBy (says t) w cause a = ordersAfter (t .timers)
-ordersBy (asT3510Out n) w cause a = cond (ltb (counterAfter n w cause 5 (a .attempts)) 5) retrying (resting (a .t3502length))
+unfoldable pub ordersBy : Text → ℕ → ℕ → ℕ → Access → Orders
+ordersBy (says t) w cause time a = ordersAfter (t .timers) time
+ordersBy (asT3510Out n) w cause time a = cond (ltb (counterAfter n w cause 5 (a .attempts)) 5) retrying (resting (a .t3502length))
 
 -- what is told of access me's timers: by those orders and how they ran if it received the reject, else that they are left
-abbrev toldOn : Text → ℕ → ℕ → ℕ → Access → Clocks
-toldOn t w me cause a = cond (eqb w me) (clocksOf (ordersBy t w cause a) a) allLeft
+abbrev toldOn : Text → ℕ → ℕ → ℕ → ℕ → Access → Clocks
+toldOn t w me cause time a = cond (eqb w me) (clocksOf (ordersBy t w cause time a) a) allLeft
 
-unfoldable pub rejectReply : Record → ℕ → ℕ → ℕ → ℕ → Reply
-rejectReply r w protected draw cause = record {
+unfoldable pub rejectReply : Record → ℕ → ℕ → Draws → Reject → Reply
+rejectReply r w protected draws g = record {
   answer = answer.Taken;
-  c0 = toldOn (rowText (rowNow (r .hot) w protected cause)) w 0 cause (r .hot .a0);
-  c1 = toldOn (rowText (rowNow (r .hot) w protected cause)) w 1 cause (r .hot .a1);
-  t3247 = toldOf (rejectT3247 (r .hot .dev .t3247) protected cause draw) (r .hot .dev .t3247);
+  c0 = toldOn (rowText (rowNow (r .hot) w protected g)) w 0 (g .cause) (t3346Time protected (g .t3346length) (draws .t3346)) (r .hot .a0);
+  c1 = toldOn (rowText (rowNow (r .hot) w protected g)) w 1 (g .cause) (t3346Time protected (g .t3346length) (draws .t3346)) (r .hot .a1);
+  t3247 = toldOf (rejectT3247 (r .hot .dev .t3247) protected (g .cause) (draws .t3247)) (r .hot .dev .t3247);
   t3512 = Left;
   restart = No;
   leave = No;
@@ -62,13 +64,14 @@ Tells Left before after = after ≡ before
 Tells Stopped before after = (eqb before 0 ≡ false) × (after ≡ 0)
 Tells (Started s) before after = after ≡ 1
 
--- an access's three timers
+-- an access's four timers
 pub record TellsAll (c : Clocks) (before after : Access) : Type 0 where
   pub t3510 : Tells (c .t3510) (before .t3510) (after .t3510)
   pub t3511 : Tells (c .t3511) (before .t3511) (after .t3511)
   pub t3502 : Tells (c .t3502) (before .t3502) (after .t3502)
+  pub t3346 : Tells (c .t3346) (before .t3346) (after .t3346)
 
--- all eight
+-- all ten
 pub record TellsTrue (p : Reply) (before after : Record) : Type 0 where
   pub a0 : TellsAll (p .c0) (before .hot .a0) (after .hot .a0)
   pub a1 : TellsAll (p .c1) (before .hot .a1) (after .hot .a1)

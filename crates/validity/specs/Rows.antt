@@ -1,4 +1,5 @@
--- Document 01's table of rejects a second time, in plain numbers and with no word of the first one: the whole record after each row. Assumes nothing.
+-- Document 01's table of rejects, and document 02's row of R-6, a second time, in plain numbers and with no word of the first one: the whole record after each row.
+-- Assumes nothing.
 use Prim.Native.Nat.{ℕ}
 use mathlib.Core.Bool.{Bool, true, false, cond}
 use lib.Dec.{ltb, eqb}
@@ -12,10 +13,10 @@ use Rattle.turns.specs.declared.Order.{Order}
 use Rattle.turns.specs.declared.Order.the-variants.{Leave, Stop, Run}
 use Rattle.turns.specs.declared.Orders.{Orders}
 use Rattle.turns.specs.declared.Row.{Row}
-use Rattle.turns.specs.declared.Row.the-variants.{CardBelow, CardLimit, CardProtected, Away, Home, Area, N1, Protocol, Other}
+use Rattle.turns.specs.declared.Row.the-variants.{CardBelow, CardLimit, CardProtected, Away, Home, Area, N1, Congested, Protocol, Other}
 use Rattle.validity.specs.Reject.{seat}
 
--- The figures of a row: of the receiving access the state, update status, attempt counter, GUTI, last area, ngKSI, equivalents, card counter, T3511 and T3502.
+-- The figures of a row: of the receiving access the state, update status, attempt counter, GUTI, last area, ngKSI, equivalents, card counter, T3511, T3502 and T3346.
 -- T3510 is stopped, and all else of it stays, but for the entries.
 pub record Figures : Type 0 where
   pub state : ℕ
@@ -28,9 +29,10 @@ pub record Figures : Type 0 where
   pub cardcounter : ℕ
   pub t3511 : ℕ
   pub t3502 : ℕ
+  pub t3346 : ℕ
 
-abbrev figures : ℕ → ℕ → ℕ → ℕ → ℕ → ℕ → ℕ → ℕ → ℕ → ℕ → Figures
-figures state status attempts guti visited ksi equivalents cardcounter t3511 t3502 = record {
+abbrev figures : ℕ → ℕ → ℕ → ℕ → ℕ → ℕ → ℕ → ℕ → ℕ → ℕ → ℕ → Figures
+figures state status attempts guti visited ksi equivalents cardcounter t3511 t3502 t3346 = record {
   state = state;
   status = status;
   attempts = attempts;
@@ -41,6 +43,7 @@ figures state status attempts guti visited ksi equivalents cardcounter t3511 t35
   cardcounter = cardcounter;
   t3511 = t3511;
   t3502 = t3502;
+  t3346 = t3346;
 }
 
 -- with the attempt counter at n: below 5 the first, at 5 the second
@@ -51,25 +54,29 @@ below5 n x y = cond (ltb n 5) x y
 abbrev startFigures : ℕ → Access → Figures
 startFigures n a =
     figures 3 (below5 n (a .status) 2) n (below5 n (a .guti) 0) (below5 n (a .visited) 0) (below5 n (a .ksi) 7) (below5 n (a .equivalents) 0) (a .cardcounter)
-    (below5 n 1 (a .t3511)) (below5 n (a .t3502) 1)
+    (below5 n 1 (a .t3511)) (below5 n (a .t3502) 1) (a .t3346)
 
 -- T3510 out in an update: 5U2, back to state 5, the identity stays
 abbrev updateFigures : ℕ → Access → Figures
-updateFigures n a = figures 5 2 n (a .guti) (a .visited) (a .ksi) (below5 n (a .equivalents) 0) (a .cardcounter) (below5 n 1 (a .t3511)) (below5 n (a .t3502) 1)
+updateFigures n a = figures 5 2 n (a .guti) (a .visited) (a .ksi) (below5 n (a .equivalents) 0) (a .cardcounter) (below5 n 1 (a .t3511)) (below5 n (a .t3502) 1) (a .t3346)
 
 -- in state 4 with type 2 or 3 an update is pending
+abbrev inUpdate : {A : Type 0} → Access → A → A → A
+inUpdate a x y = cond (eqb (a .state) 4) (cond (ltb 1 (a .regtype)) x y) y
+
 abbrev pub outFigures : ℕ → Access → Figures
-outFigures n a = cond (eqb (a .state) 4) (cond (ltb 1 (a .regtype)) (updateFigures n a) (startFigures n a)) (startFigures n a)
+outFigures n a = inUpdate a (updateFigures n a) (startFigures n a)
 
 -- over access w, for this cause, with the card counter's limit
 unfoldable pub rowFigures : Row → ℕ → ℕ → ℕ → Access → Figures
-rowFigures CardBelow w cause limit a = figures 2 3 (cond (eqb w 0) 0 (a .attempts)) 0 0 7 (cond (eqb w 0) 0 (a .equivalents)) (oneMore limit (a .cardcounter)) (a .t3511) (a .t3502)
-rowFigures CardLimit w cause limit a = figures 0 3 (a .attempts) 0 0 7 0 (a .cardcounter) (a .t3511) (a .t3502)
-rowFigures CardProtected w cause limit a = figures 0 3 (a .attempts) 0 0 7 0 limit (a .t3511) (a .t3502)
-rowFigures Away w cause limit a = figures (cond (eqb w 0) 6 2) 3 0 0 0 7 0 (a .cardcounter) (a .t3511) (a .t3502)
-rowFigures Home w cause limit a = figures 2 3 0 0 0 7 0 (a .cardcounter) (a .t3511) (a .t3502)
-rowFigures Area w cause limit a = figures 2 3 0 0 0 7 (cond (eqb cause 13) 0 (a .equivalents)) (a .cardcounter) (a .t3511) (a .t3502)
-rowFigures N1 w cause limit a = figures 2 3 0 0 0 7 (a .equivalents) (a .cardcounter) (a .t3511) (a .t3502)
+rowFigures CardBelow w cause limit a = figures 2 3 (cond (eqb w 0) 0 (a .attempts)) 0 0 7 (cond (eqb w 0) 0 (a .equivalents)) (oneMore limit (a .cardcounter)) (a .t3511) (a .t3502) (a .t3346)
+rowFigures CardLimit w cause limit a = figures 0 3 (a .attempts) 0 0 7 0 (a .cardcounter) (a .t3511) (a .t3502) (a .t3346)
+rowFigures CardProtected w cause limit a = figures 0 3 (a .attempts) 0 0 7 0 limit (a .t3511) (a .t3502) (a .t3346)
+rowFigures Away w cause limit a = figures (cond (eqb w 0) 6 2) 3 0 0 0 7 0 (a .cardcounter) (a .t3511) (a .t3502) (a .t3346)
+rowFigures Home w cause limit a = figures 2 3 0 0 0 7 0 (a .cardcounter) (a .t3511) (a .t3502) (a .t3346)
+rowFigures Area w cause limit a = figures 2 3 0 0 0 7 (cond (eqb cause 13) 0 (a .equivalents)) (a .cardcounter) (a .t3511) (a .t3502) (a .t3346)
+rowFigures N1 w cause limit a = figures 2 3 0 0 0 7 (a .equivalents) (a .cardcounter) (a .t3511) (a .t3502) (a .t3346)
+rowFigures Congested w cause limit a = figures (inUpdate a 5 3) 2 0 (a .guti) (a .visited) (a .ksi) (a .equivalents) (a .cardcounter) (a .t3511) (a .t3502) 1
 rowFigures Protocol w cause limit a = outFigures 5 a
 rowFigures Other w cause limit a = outFigures (oneMore 5 (a .attempts)) a
 
@@ -93,6 +100,7 @@ rowRest Away w cause = rest true false false false false
 rowRest Home w cause = rest false false (eqb w 0) false false
 rowRest Area w cause = rest false false (cond (eqb cause 12) false true) (eqb cause 12) false
 rowRest N1 w cause = rest false true false false false
+rowRest Congested w cause = rest false false false false false
 rowRest Protocol w cause = rest false false false false false
 rowRest Other w cause = rest false false false false false
 
@@ -106,6 +114,7 @@ withFigures l needs found a = record {
   t3510 = 0;
   t3511 = l .t3511;
   t3502 = l .t3502;
+  t3346 = l .t3346;
   t3502length = a .t3502length;
   net = a .net;
   code = a .code;
@@ -131,6 +140,7 @@ crossed across limit a = record {
   t3510 = a .t3510;
   t3511 = a .t3511;
   t3502 = a .t3502;
+  t3346 = a .t3346;
   t3502length = a .t3502length;
   net = a .net;
   code = a .code;
@@ -193,17 +203,18 @@ figuresRecord l x w protected t3247 area r = record {
 unfoldable pub rowRecord : Row → ℕ → ℕ → ℕ → ℕ → ℕ → Record → Record
 rowRecord row w protected cause t3247 area r = figuresRecord (rowFigures row w cause (r .hot .dev .cardlimit)) (rowRest row w cause) w protected t3247 area r
 
--- what each row orders of the receiving access's T3510, T3511 and T3502
-abbrev orders : Order → Order → Order → Orders
-orders t3510 t3511 t3502 = record { t3510 = t3510; t3511 = t3511; t3502 = t3502 }
+-- what each row orders of the receiving access's T3510, T3511, T3502 and T3346, which runs for its time
+abbrev orders : Order → Order → Order → Order → Orders
+orders t3510 t3511 t3502 t3346 = record { t3510 = t3510; t3511 = t3511; t3502 = t3502; t3346 = t3346 }
 
-unfoldable pub rowOrders : Row → Access → Orders
-rowOrders CardBelow a = orders Stop Leave Leave
-rowOrders CardLimit a = orders Stop Leave Leave
-rowOrders CardProtected a = orders Stop Leave Leave
-rowOrders Away a = orders Stop Leave Leave
-rowOrders Home a = orders Stop Leave Leave
-rowOrders Area a = orders Stop Leave Leave
-rowOrders N1 a = orders Stop Leave Leave
-rowOrders Protocol a = orders Stop Leave (Run (a .t3502length))
-rowOrders Other a = cond (ltb (oneMore 5 (a .attempts)) 5) (orders Stop (Run 10) Leave) (orders Stop Leave (Run (a .t3502length)))
+unfoldable pub rowOrders : Row → ℕ → Access → Orders
+rowOrders CardBelow time a = orders Stop Leave Leave Leave
+rowOrders CardLimit time a = orders Stop Leave Leave Leave
+rowOrders CardProtected time a = orders Stop Leave Leave Leave
+rowOrders Away time a = orders Stop Leave Leave Leave
+rowOrders Home time a = orders Stop Leave Leave Leave
+rowOrders Area time a = orders Stop Leave Leave Leave
+rowOrders N1 time a = orders Stop Leave Leave Leave
+rowOrders Congested time a = orders Stop Leave Leave (Run time)
+rowOrders Protocol time a = orders Stop Leave (Run (a .t3502length)) Leave
+rowOrders Other time a = cond (ltb (oneMore 5 (a .attempts)) 5) (orders Stop (Run 10) Leave Leave) (orders Stop Leave (Run (a .t3502length)) Leave)

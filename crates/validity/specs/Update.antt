@@ -18,6 +18,7 @@ accessUpdating regtype net code uplink sessions a = record {
   t3510 = 1;
   t3511 = 0;
   t3502 = 0;
+  t3346 = a .t3346;
   t3502length = a .t3502length;
   net = net;
   code = code;
@@ -34,7 +35,7 @@ accessUpdating regtype net code uplink sessions a = record {
 }
 
 -- the record with other numbers: entries, lists, GUTIs, equivalents, SUCI and capabilities stay
-abbrev numbered : Hot → Record → Record
+abbrev pub numbered : Hot → Record → Record
 numbered h r = record {
   hot = h;
   e0 = r .e0;
@@ -51,7 +52,7 @@ numbered h r = record {
 }
 
 -- both accesses, T3512, and whether a periodic update is due; the time kept stays, as all else of the device
-abbrev numbersWith : Access → Access → ℕ → ℕ → Record → Hot
+abbrev pub numbersWith : Access → Access → ℕ → ℕ → Record → Hot
 numbersWith a0 a1 t3512 due r = record {
   dev = record {
     card = r .hot .dev .card;

@@ -69,9 +69,11 @@ enum Phase {
     Moving,
     /// Registered, and updates that are not answered.
     Lost,
+    /// A network that asks for time, at starts and at updates.
+    Busy,
 }
 
-const PHASES: [Phase; 14] = [
+const PHASES: [Phase; 17] = [
     Phase::Mixed,
     Phase::Mixed,
     Phase::Mixed,
@@ -86,13 +88,19 @@ const PHASES: [Phase; 14] = [
     Phase::Moving,
     Phase::Lost,
     Phase::Lost,
+    Phase::Busy,
+    Phase::Busy,
+    Phase::Busy,
 ];
+
+/// The cause with which a network may ask for time.
+const CONGESTION: u8 = 22;
 
 const CAUSES: [u8; 24] =
     [3, 6, 7, 11, 73, 12, 13, 15, 27, 72, 95, 96, 97, 99, 111, 22, 5, 9, 10, 11, 27, 13, 62, 0];
 const ONE: [u8; 6] = [0x80, 0x9F, 0xA1, 0xB0, 0xFF, 0xD2];
 const SHORT: [u8; 12] = [0x10, 0x2E, 0x52, 0x5E, 0x5F, 0x15, 0x27, 0x31, 0x6F, 0x34, 0x4A, 0x16];
-/// 0 s, the most of each unit, and deactivated.
+/// T3502 and T3346: 0 s, the most of each unit, and deactivated.
 const TIMERS: [u8; 5] = [0x00, 0x1F, 0x3F, 0x5F, 0xE5];
 /// T3512: zero, one and the most of each unit, and deactivated.
 const PERIODS: [u8; 16] = [
@@ -117,6 +125,15 @@ fn network(index: usize) -> [u8; 3] {
 /// The oldest area of a full list.
 fn first(areas: &record::Areas) -> Option<record::Area> {
     areas.full().then(|| areas[0].area)
+}
+
+/// How many messages of a hundred with these fixed octets have elements.
+fn longer(octets: &[u8]) -> usize {
+    match octets[2..] {
+        [0x42, ..] => 80,
+        [_, CONGESTION] => 85,
+        _ => 20,
+    }
 }
 
 struct Generator {
@@ -272,7 +289,9 @@ impl Generator {
         let access = self.access(a);
         let manual = self.flag(if self.phase == Phase::Manual { 50 } else { 15 });
         let mut body = vec![2, 0, access, manual];
-        body.extend(self.place(a));
+        let place = self.place(a);
+        let waits = self.record.access[a].t3346;
+        body.extend(if waits { self.near(a, place) } else { place });
         body
     }
 
@@ -295,13 +314,11 @@ impl Generator {
         [octets[0] & 0xFE | zero, octets[1]]
     }
 
-    /// An update where the device is, in the other access's network, one with an entry, a listed
-    /// area or elsewhere.
-    fn update(&mut self, a: usize) -> Vec<u8> {
-        let mut body = vec![7, 0, self.access(a), self.kind(a)];
-        let mut place = self.place(a);
+    /// Where the device is, in the other access's network, one with an entry, a listed area, or
+    /// else this place. While T3346 runs it is one of these mostly, so that 7, 8 and 9 hold too.
+    fn near(&mut self, a: usize, mut place: record::Area) -> record::Area {
         let [this, other] = [a, 1 - a].map(|a| self.record.access[a]);
-        match self.random.below(20) {
+        match self.random.below(if this.t3346 { 10 } else { 20 }) {
             0..=4 => place = this.pending,
             5 => place[..3].copy_from_slice(&other.pending[..3]),
             6 if !this.entries.is_empty() => {
@@ -311,21 +328,40 @@ impl Generator {
             7..=8 => place = self.listed().unwrap_or(place),
             _ => {}
         }
-        body.extend(place);
+        place
+    }
+
+    fn update(&mut self, a: usize) -> Vec<u8> {
+        let mut body = vec![7, 0, self.access(a), self.kind(a)];
+        let place = self.place(a);
+        body.extend(self.near(a, place));
         body.extend(self.sessions(40));
         body.extend(self.sessions(20));
         body
     }
 
-    fn draw(&mut self) -> [u8; 2] {
+    /// A draw between these ends, often one of them; some of a wild log are outside.
+    fn draw(&mut self, low: u16, high: u16) -> [u8; 2] {
         let draw = if self.spoil(3) {
-            self.random.pick(&[0, 1, 1799, 3601, 0x0807, 0x100E, 65535])
-        } else if self.random.odds(10) {
-            self.random.pick(&[1800, 3600])
+            let turned = [low.swap_bytes(), high.swap_bytes()];
+            self.random.pick(&[0, 1, low - 1, high + 1, turned[0], turned[1], 65535])
+        } else if self.random.odds(20) {
+            self.random.pick(&[low, high])
         } else {
-            1800 + self.random.below(1801) as u16
+            low + self.random.below(usize::from(high - low) + 1) as u16
         };
         draw.to_le_bytes()
+    }
+
+    /// A message's record up to the message: of kind 3, or of kind 8 with a second draw.
+    fn heard(&mut self, a: usize, protected: usize) -> Vec<u8> {
+        let kind = self.random.pick(&[3, 8]);
+        let mut body = vec![kind, 0, self.access(a), self.flag(protected)];
+        body.extend(self.draw(1800, 3600));
+        if kind == 8 {
+            body.extend(self.draw(900, 1800));
+        }
+        body
     }
 
     /// Registered, or waiting for the answer to an update: what the two-access rule asks.
@@ -345,6 +381,7 @@ impl Generator {
             }
             Phase::Moving => self.random.pick(&[11, 73, 12, 13, 15, 27, 72, 22, 97, 7]),
             Phase::Lost => self.random.pick(&[22, 9, 10, 98, 22, 5, 96, 72]),
+            Phase::Busy => self.random.pick(&[22, 22, 22, 22, 22, 22, 22, 11, 15, 27, 9, 111]),
             _ if self.wild && self.random.odds(10) => self.random.octet(),
             _ => self.random.pick(&CAUSES),
         }
@@ -431,19 +468,32 @@ impl Generator {
         [empty, &octets].concat()
     }
 
-    fn elements(&mut self, accept: bool, octets: &mut Vec<u8>) {
+    /// T3346, which a reject may have; any log has some that are empty.
+    fn wait(&mut self) -> Vec<u8> {
+        if self.random.odds(6) {
+            return vec![0x5F, 0];
+        }
+        self.timed(0x5F, &TIMERS)
+    }
+
+    /// Elements behind an accept's result or a reject's cause.
+    fn elements(&mut self, octets: &mut Vec<u8>) {
+        let accept = octets[2] == 0x42;
+        let known = if accept || octets[3] == CONGESTION { 75 } else { 15 };
         let count = self.random.below(if self.wild { 6 } else { 4 });
         for _ in 0..count {
-            let element =
-                if accept && self.random.odds(70) { self.known() } else { self.unknown() };
+            let element = match self.random.odds(known) {
+                true if accept => self.known(),
+                true => self.wait(),
+                false => self.unknown(),
+            };
             octets.extend(element);
         }
     }
 
-    /// Sometimes elements up to the largest log record.
-    fn fill(&mut self, octets: &mut Vec<u8>) {
-        const ROOM: usize = 65535 - 6;
-        let target = if self.random.odds(30) { ROOM } else { self.random.below(ROOM) };
+    /// Elements up to so many octets in all, often exactly so many.
+    fn fill(&mut self, octets: &mut Vec<u8>, room: usize) {
+        let target = if self.random.odds(30) { room } else { self.random.below(room) };
         while octets.len() + 3 <= target {
             let room = target - octets.len() - 3;
             let length = if self.random.odds(50) { room } else { self.random.below(room + 1) };
@@ -454,7 +504,7 @@ impl Generator {
                 octets.extend(self.element(identifier, length));
             }
         }
-        if self.random.odds(30) && octets.len() < ROOM {
+        if self.random.odds(30) && octets.len() < room {
             octets.push(self.random.octet());
         }
     }
@@ -489,7 +539,7 @@ impl Generator {
             }
             _ => {
                 octets.extend(self.refused());
-                self.elements(octets[2] == 0x42, octets);
+                self.elements(octets);
             }
         }
     }
@@ -539,9 +589,21 @@ impl Generator {
             Phase::Areas => 1,
             Phase::Moving if self.updating(a) => 55,
             Phase::Lost if self.updating(a) => 8,
+            Phase::Busy if self.updating(a) => 25,
             Phase::Moving => 70,
             Phase::Lost => 85,
+            Phase::Busy => 55,
             _ => 4,
+        }
+    }
+
+    /// How many messages of a hundred with these fixed octets are protected.
+    fn protects(&self, octets: &[u8]) -> usize {
+        match octets[2..] {
+            [0x42, ..] => 95,
+            _ if self.phase == Phase::Areas => 60,
+            [_, CONGESTION] => 50,
+            _ => 20,
         }
     }
 
@@ -549,33 +611,25 @@ impl Generator {
         let accepts = self.accepts(a);
         let accept = self.random.odds(accepts);
         let mut octets = if accept { self.accept() } else { vec![0x7E, 0, 0x44, self.cause(a)] };
+        let mut body = self.heard(a, self.protects(&octets));
         let fixed = octets.len();
-        if self.random.odds(if accept { 80 } else { 20 }) {
-            self.elements(accept, &mut octets);
+        if self.random.odds(longer(&octets)) {
+            self.elements(&mut octets);
         }
         if self.wild && self.random.below(400) == 0 {
-            self.fill(&mut octets);
+            self.fill(&mut octets, 65535 - body.len());
         }
         if self.spoil(8) {
             self.damage(&mut octets);
         } else if self.random.odds(if self.wild { 8 } else { 4 }) {
             self.fault(fixed, &mut octets);
         }
-        let percent = if accept {
-            95
-        } else if self.phase == Phase::Areas {
-            60
-        } else {
-            20
-        };
-        let mut body = vec![3, 0, self.access(a), self.flag(percent)];
-        body.extend(self.draw());
         body.extend(octets);
         body
     }
 
     fn timer(&mut self, number: u8, a: usize) -> Vec<u8> {
-        let number = if self.spoil(3) { self.random.pick(&[0, 6, 7, 255]) } else { number };
+        let number = if self.spoil(3) { self.random.pick(&[0, 7, 8, 255]) } else { number };
         let a = if self.spoil(3) { 1 - a } else { a };
         vec![4, 0, number, self.access(a)]
     }
@@ -606,13 +660,15 @@ impl Generator {
         }
     }
 
-    /// T3511 or T3502 out in most cases if one runs.
+    /// T3511 or T3502 out in most cases if one runs, or T3346, which is more often not waited for.
     fn waited(&mut self, a: usize) -> Option<Vec<u8>> {
         let access = self.record.access[a];
         if access.t3511 && self.random.odds(60) {
             Some(self.timer(2, a))
         } else if access.t3502 && self.random.odds(60) {
             Some(self.timer(3, a))
+        } else if access.t3346 && self.random.odds(40) {
+            Some(self.timer(6, a))
         } else {
             None
         }
@@ -637,8 +693,8 @@ impl Generator {
             0 => self.start(a),
             1 | 2 => self.message(a),
             3 => {
-                let number = 1 + self.random.below(5) as u8;
-                let device = number >= 4 && self.random.odds(80);
+                let number = 1 + self.random.below(6) as u8;
+                let device = matches!(number, 4 | 5) && self.random.odds(80);
                 self.timer(number, if device { 0 } else { a })
             }
             4 => self.key(a),
@@ -680,7 +736,7 @@ impl Generator {
         let stuck = |state: u8| state == 5 || state == 0;
         let states = [self.record.access[0].state, self.record.access[1].state];
         let moves = match self.phase {
-            Phase::Moving | Phase::Lost => 95,
+            Phase::Moving | Phase::Lost | Phase::Busy => 95,
             _ => 40,
         };
         if states[a] == 5 && self.random.odds(moves) {
@@ -706,7 +762,7 @@ impl Generator {
     fn spoiled(&mut self, mut body: Vec<u8>) -> Vec<u8> {
         match self.random.below(6) {
             0 => {
-                let kind = self.random.pick(&[0, 7, 8, 9, 10, 11, 255]);
+                let kind = self.random.pick(&[0, 3, 7, 8, 9, 10, 11, 255]);
                 body[0] = kind;
             }
             1 => body[1] = self.random.pick(&[1, 2, 128, 255]),

@@ -13,9 +13,17 @@ and-requires-2 c κs = search needs
 and-requires-3 : tie.Need-and-requires-3
 and-requires-3 c κs = search needs
 
+and-requires-4 : tie.Need-and-requires-4
+and-requires-4 c κs = search needs
+
+and-requires-5 : tie.Need-and-requires-5
+and-requires-5 c κs = search needs
+
 returns : tie.Need-returns
 unfolding messageRange
-returns c = rw (c .and3 .ensures, c .before .and2 .ensures, c .before .before .and .ensures)
+returns c = cc
 
 pub message-range-spec : {M : Type 1} → statement M
-message-range-spec = tie.close (tie.spec and-requires and-requires-2 and-requires-3 returns)
+message-range-spec =
+    tie.close
+    (tie.spec and-requires and-requires-2 and-requires-3 and-requires-4 and-requires-5 returns)

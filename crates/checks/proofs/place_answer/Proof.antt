@@ -22,9 +22,12 @@ is-free-requires c κs = search needs
 checks-requires : tie.Need-checks-requires
 checks-requires c κs = search needs
 
+check-requires-2 : tie.Need-check-requires-2
+check-requires-2 c κs = search needs
+
 returns : tie.Need-returns
 unfolding placeAnswer
-returns c = rw (c .checks .ensures, c .before .is-free .ensures, c .before .before .not2 .ensures, c .before .before .before .is-same .ensures, c .before .before .before .before .check .ensures, c .before .before .before .before .before .not .ensures)
+returns c = rw (c .check2 .ensures, c .before .checks .ensures, c .before .before .is-free .ensures, c .before .before .before .not2 .ensures, c .before .before .before .before .is-same .ensures, c .before .before .before .before .before .check .ensures, c .before .before .before .before .before .before .not .ensures)
 
 pub place-answer-spec : {M : Type 1} → statement M
 place-answer-spec =
@@ -36,4 +39,5 @@ place-answer-spec =
     not-requires-2
     is-free-requires
     checks-requires
+    check-requires-2
     returns)

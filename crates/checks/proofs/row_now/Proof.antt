@@ -12,7 +12,7 @@ row-of-requires c κs = search needs
 
 returns : tie.Need-returns
 unfolding rowNow
-returns c = rw (c .row-of .ensures, c .before .before .before .before .before .access-of .ensures)
+returns c = rw (c .row-of .ensures, c .before .before .before .before .before .before .access-of .ensures)
 
 pub row-now-spec : {M : Type 1} → statement M
 row-now-spec = tie.close (tie.spec access-of-requires row-of-requires returns)

@@ -4,6 +4,9 @@ use borrow.Author.Needs.{needs}
 use Rattle.checks.proofs.update_answer.Statement.{statement}
 use Rattle.checks.proofs.update_answer.Tie as tie
 
+access-of-requires : tie.Need-access-of-requires
+access-of-requires c κs = search needs
+
 other-of-requires : tie.Need-other-of-requires
 other-of-requires c κs = search needs
 
@@ -21,12 +24,13 @@ checks-requires c κs = search needs
 
 returns : tie.Need-returns
 unfolding updateAnswer
-returns c = rw (c .checks .ensures, c .before .may-update .ensures, c .before .before .update-range .ensures, c .before .before .before .place-answer .ensures, c .before .before .before .before .other-of .ensures)
+returns c = rw (c .checks .ensures, c .before .may-update .ensures, c .before .before .update-range .ensures, c .before .before .before .place-answer .ensures, c .before .before .before .before .other-of .ensures, c .before .before .before .before .before .access-of .ensures)
 
 pub update-answer-spec : {M : Type 1} → statement M
 update-answer-spec =
     tie.close
     (tie.spec
+    access-of-requires
     other-of-requires
     place-answer-requires
     update-range-requires

@@ -1,7 +1,7 @@
 -- `messages::accepted` meets its contract: each field is what its function ensures. Assumes nothing.
 use borrow.Author.Needs.{needs}
 use Rattle.messages.specs.Message.{acceptOf, tripletsOf}
-use Rattle.messages.proofs.Lengths.{t3502-fits}
+use Rattle.messages.proofs.Lengths.{timer2-fits}
 use Rattle.messages.proofs.accepted.Statement.{statement}
 use Rattle.messages.proofs.accepted.Tie as tie
 
@@ -11,8 +11,8 @@ guti-requires c κs = search needs
 count-requires : tie.Need-count-requires
 count-requires c κs = search needs
 
-t3502-requires : tie.Need-t3502-requires
-t3502-requires c κs = search needs
+timer2-in-requires : tie.Need-timer2-in-requires
+timer2-in-requires c κs = search needs
 
 t3512-requires : tie.Need-t3512-requires
 t3512-requires c κs = search needs
@@ -30,7 +30,7 @@ seconds-requires : tie.Need-seconds-requires
 seconds-requires c κs = search needs
 
 narrow-requires : tie.Need-narrow-requires
-narrow-requires c κs = rw (c .seconds .ensures, c .before .before .before .before .before .t3502 .ensures) (t3502-fits _ _)
+narrow-requires c κs = rw (c .seconds .ensures, c .before .before .before .before .before .timer2-in .ensures) (timer2-fits _ _)
 
 paced-requires : tie.Need-paced-requires
 paced-requires c κs = search needs
@@ -48,7 +48,7 @@ accepted-spec =
     (tie.spec
     guti-requires
     count-requires
-    t3502-requires
+    timer2-in-requires
     t3512-requires
     octet-requires
     place-requires

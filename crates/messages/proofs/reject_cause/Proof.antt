@@ -19,8 +19,8 @@ word-requires c κs = search needs
 add-result : tie.Need-add-result
 add-result c = search needs
 
-enum-known-cause : tie.Need-enum-known-cause
-enum-known-cause c = search needs
+enum-known-r : tie.Need-enum-known-r
+enum-known-r c = search needs
 
 word-requires-2 : tie.Need-word-requires-2
 word-requires-2 c κs = search needs
@@ -43,7 +43,7 @@ returns c = rw (← c .before .before .before .before .read-cause .ensures, c .b
 
 returns-2 : tie.Need-returns-2
 unfolding causeOf
-returns-2 c = rw (← c .before .before .before .before .read-cause .ensures, c .before .before .cause .given .1, c .word2 .ensures .0)
+returns-2 c = rw (← c .before .before .before .before .read-cause .ensures, c .before .before .r .given .1, c .word2 .ensures .0)
 
 returns-3 : tie.Need-returns-3
 unfolding causeOf
@@ -58,7 +58,7 @@ reject-cause-spec =
     number-requires
     word-requires
     add-result
-    enum-known-cause
+    enum-known-r
     word-requires-2
     enum-known-f
     number-requires-2

@@ -4,6 +4,9 @@ use borrow.Author.Needs.{needs}
 use Rattle.ranges.proofs.mode_ranges.Statement.{statement}
 use Rattle.ranges.proofs.mode_ranges.Tie as tie
 
+and-requires : tie.Need-and-requires
+and-requires c κs = search needs
+
 all-requires : tie.Need-all-requires
 all-requires c κs = search needs
 
@@ -18,4 +21,5 @@ unfolding modeRanges
 returns c = cc
 
 pub mode-ranges-spec : {M : Type 1} → statement M
-mode-ranges-spec = tie.close (tie.spec all-requires ranged-requires all-requires-2 returns)
+mode-ranges-spec =
+    tie.close (tie.spec and-requires all-requires ranged-requires all-requires-2 returns)

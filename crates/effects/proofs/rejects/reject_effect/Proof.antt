@@ -4,6 +4,9 @@ use borrow.Author.Needs.{needs}
 use Rattle.effects.proofs.rejects.reject_effect.Statement.{statement}
 use Rattle.effects.proofs.rejects.reject_effect.Tie as tie
 
+t3346-time-requires : tie.Need-t3346-time-requires
+t3346-time-requires c κs = search needs
+
 access-of-requires : tie.Need-access-of-requires
 access-of-requires c κs = search needs
 
@@ -33,12 +36,13 @@ side-requires-2 c κs = search needs
 
 returns : tie.Need-returns
 unfolding sidesOf rejectEffect
-returns c = rw (c .side2 .ensures, c .before .side .ensures, c .before .before .row-work .ensures, c .before .before .before .access-of2 .ensures, c .before .before .before .before .reject-t3247 .ensures, c .before .before .before .before .before .other-turn .ensures, c .before .before .before .before .before .before .other-of .ensures, c .before .before .before .before .before .before .before .row-turn .ensures, c .before .before .before .before .before .before .before .before .access-of .ensures)
+returns c = rw (c .side2 .ensures, c .before .side .ensures, c .before .before .row-work .ensures, c .before .before .before .access-of2 .ensures, c .before .before .before .before .reject-t3247 .ensures, c .before .before .before .before .before .other-turn .ensures, c .before .before .before .before .before .before .other-of .ensures, c .before .before .before .before .before .before .before .row-turn .ensures, c .before .before .before .before .before .before .before .before .access-of .ensures, c .before .before .before .before .before .before .before .before .before .t3346-time .ensures)
 
 pub reject-effect-spec : {M : Type 1} → statement M
 reject-effect-spec =
     tie.close
     (tie.spec
+    t3346-time-requires
     access-of-requires
     row-turn-requires
     other-of-requires

@@ -33,6 +33,9 @@ enum-told-8 c = search needs
 enum-told-9 : tie.Need-enum-told-9
 enum-told-9 c = search needs
 
+enum-told-10 : tie.Need-enum-told-10
+enum-told-10 c = search needs
+
 returns : tie.Need-returns
 unfolding rowDeed markDeed rowText markIn
 returns c = rw (c .enum-told .given .1)
@@ -69,6 +72,10 @@ returns-9 : tie.Need-returns-9
 unfolding rowDeed markDeed rowText markIn
 returns-9 c = rw (c .enum-told9 .given .1)
 
+returns-10 : tie.Need-returns-10
+unfolding rowDeed markDeed rowText markIn
+returns-10 c = rw (c .enum-told10 .given .1)
+
 pub row-deed-spec : {M : Type 1} → statement M
 row-deed-spec =
     tie.close
@@ -82,6 +89,7 @@ row-deed-spec =
     enum-told-7
     enum-told-8
     enum-told-9
+    enum-told-10
     returns
     returns-2
     returns-3
@@ -90,4 +98,5 @@ row-deed-spec =
     returns-6
     returns-7
     returns-8
-    returns-9)
+    returns-9
+    returns-10)

@@ -46,6 +46,9 @@ enum-told-11 c = search needs
 enum-told-12 : tie.Need-enum-told-12
 enum-told-12 c = search needs
 
+enum-told-13 : tie.Need-enum-told-13
+enum-told-13 c = search needs
+
 returns : tie.Need-returns
 unfolding numberOf
 returns c = search needs
@@ -98,6 +101,10 @@ returns-13 : tie.Need-returns-13
 unfolding numberOf
 returns-13 c = search needs
 
+returns-14 : tie.Need-returns-14
+unfolding numberOf
+returns-14 c = search needs
+
 pub number-spec : {M : Type 1} → statement M
 number-spec =
     tie.close
@@ -116,6 +123,7 @@ number-spec =
     enum-told-10
     enum-told-11
     enum-told-12
+    enum-told-13
     returns
     returns-2
     returns-3
@@ -128,4 +136,5 @@ number-spec =
     returns-10
     returns-11
     returns-12
-    returns-13)
+    returns-13
+    returns-14)

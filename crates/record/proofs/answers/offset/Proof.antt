@@ -7,7 +7,7 @@ use types.Run.{OneOf, miss}
 use denote.Enum.Declared.{tagOf}
 use Rattle.record.specs.Answers.{faultOffset}
 use Rattle.record.specs.declared.Answer.{Answer}
-use Rattle.record.specs.declared.Answer.the-variants.{Taken, Range, Ignored, Malformed, Full, StateZero, State, Same, Listed, Area, Unprotected, Idle, Short}
+use Rattle.record.specs.declared.Answer.the-variants.{Taken, Range, Ignored, Malformed, Full, StateZero, State, Same, Listed, Area, Unprotected, Idle, Short, Waiting}
 use Rattle.record.proofs.Answer.{the-type}
 use Rattle.record.proofs.answers.offset.Statement.{statement}
 use Rattle.record.proofs.answers.offset.Tie as tie
@@ -21,7 +21,7 @@ returns c = rw (c .before .a .given .1)
 
 -- the tags of the others
 abbrev others : List ℕ
-others = 0 ∷ 1 ∷ 2 ∷ 4 ∷ 5 ∷ 6 ∷ 7 ∷ 8 ∷ 9 ∷ 10 ∷ 11 ∷ 12 ∷ []
+others = 0 ∷ 1 ∷ 2 ∷ 4 ∷ 5 ∷ 6 ∷ 7 ∷ 8 ∷ 9 ∷ 10 ∷ 11 ∷ 12 ∷ 13 ∷ []
 
 none : (a : Answer) → OneOf others (tagOf the-type a) → 0 ≡ faultOffset a
 unfolding faultOffset
@@ -38,6 +38,7 @@ none Area h = refl
 none Unprotected h = refl
 none Idle h = refl
 none Short h = refl
+none Waiting h = refl
 
 returns-2 : tie.Need-returns-2
 returns-2 c = none (c .before .args .a) (c .match .keys2)

@@ -13,10 +13,19 @@ flag-after-requires-2 c κs = search needs
 flag-after-requires-3 : tie.Need-flag-after-requires-3
 flag-after-requires-3 c κs = search needs
 
+flag-after-requires-4 : tie.Need-flag-after-requires-4
+flag-after-requires-4 c κs = search needs
+
 returns : tie.Need-returns
 unfolding clocked
 returns c = cc
 
 pub clocked-spec : {M : Type 1} → statement M
 clocked-spec =
-    tie.close (tie.spec flag-after-requires flag-after-requires-2 flag-after-requires-3 returns)
+    tie.close
+    (tie.spec
+    flag-after-requires
+    flag-after-requires-2
+    flag-after-requires-3
+    flag-after-requires-4
+    returns)

@@ -13,10 +13,19 @@ told-of-requires-2 c κs = search needs
 told-of-requires-3 : tie.Need-told-of-requires-3
 told-of-requires-3 c κs = search needs
 
+told-of-requires-4 : tie.Need-told-of-requires-4
+told-of-requires-4 c κs = search needs
+
 returns : tie.Need-returns
 unfolding clocksOf
 returns c = cc
 
 pub clocks-of-spec : {M : Type 1} → statement M
 clocks-of-spec =
-    tie.close (tie.spec told-of-requires told-of-requires-2 told-of-requires-3 returns)
+    tie.close
+    (tie.spec
+    told-of-requires
+    told-of-requires-2
+    told-of-requires-3
+    told-of-requires-4
+    returns)

@@ -10,9 +10,12 @@ pick-requires c κs = search needs
 pick-requires-2 : tie.Need-pick-requires-2
 pick-requires-2 c κs = search needs
 
+pick-requires-3 : tie.Need-pick-requires-3
+pick-requires-3 c κs = search needs
+
 returns : tie.Need-returns
 unfolding runsOn
 returns c = cc
 
 pub runs-on-spec : {M : Type 1} → statement M
-runs-on-spec = tie.close (tie.spec pick-requires pick-requires-2 returns)
+runs-on-spec = tie.close (tie.spec pick-requires pick-requires-2 pick-requires-3 returns)

@@ -12,6 +12,9 @@ and-requires c κs = search needs
 is-n1-no-requires : tie.Need-is-n1-no-requires
 is-n1-no-requires c κs = search needs
 
+is-congested-requires : tie.Need-is-congested-requires
+is-congested-requires c κs = search needs
+
 is-protocol-requires : tie.Need-is-protocol-requires
 is-protocol-requires c κs = search needs
 
@@ -28,6 +31,7 @@ further-spec =
     is-area-no-requires
     and-requires
     is-n1-no-requires
+    is-congested-requires
     is-protocol-requires
     further-row-requires
     returns)

@@ -1,5 +1,5 @@
 -- The joins are those of the definition. Assumes nothing.
-use Rattle.turns.specs.Rejects.{isUpdating}
+use Rattle.turns.specs.Words.{isUpdating}
 use borrow.Author.Needs.{needs}
 use Rattle.turns.proofs.rows.is_updating.Statement.{statement}
 use Rattle.turns.proofs.rows.is_updating.Tie as tie

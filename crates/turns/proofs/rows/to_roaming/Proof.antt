@@ -35,6 +35,9 @@ enum-told-8 c = search needs
 enum-told-9 : tie.Need-enum-told-9
 enum-told-9 c = search needs
 
+enum-told-10 : tie.Need-enum-told-10
+enum-told-10 c = search needs
+
 returns : tie.Need-returns
 unfolding toRoaming rowText listOf isRoaming holds
 returns c = rw (c .enum-told .given .1)
@@ -71,6 +74,10 @@ returns-9 : tie.Need-returns-9
 unfolding toRoaming rowText listOf isRoaming holds
 returns-9 c = rw (c .enum-told9 .given .1)
 
+returns-10 : tie.Need-returns-10
+unfolding toRoaming rowText listOf isRoaming holds
+returns-10 c = rw (c .enum-told10 .given .1)
+
 pub to-roaming-spec : {M : Type 1} → statement M
 to-roaming-spec =
     tie.close
@@ -85,6 +92,7 @@ to-roaming-spec =
     enum-told-7
     enum-told-8
     enum-told-9
+    enum-told-10
     returns
     returns-2
     returns-3
@@ -93,4 +101,5 @@ to-roaming-spec =
     returns-6
     returns-7
     returns-8
-    returns-9)
+    returns-9
+    returns-10)

@@ -63,6 +63,12 @@ enum-told-9 c = search needs
 still-requires-9 : tie.Need-still-requires-9
 still-requires-9 c κs = search needs
 
+enum-told-10 : tie.Need-enum-told-10
+enum-told-10 c = search needs
+
+still-requires-10 : tie.Need-still-requires-10
+still-requires-10 c κs = search needs
+
 returns : tie.Need-returns
 unfolding otherTurn otherTurned rowText acrossOf
 returns c = rw (c .before .enum-told .given .1) (c .still .ensures)
@@ -99,6 +105,10 @@ returns-9 : tie.Need-returns-9
 unfolding otherTurn otherTurned rowText acrossOf
 returns-9 c = rw (c .before .enum-told9 .given .1) (c .still9 .ensures)
 
+returns-10 : tie.Need-returns-10
+unfolding otherTurn otherTurned rowText acrossOf
+returns-10 c = rw (c .before .enum-told10 .given .1) (c .still10 .ensures)
+
 pub other-turn-spec : {M : Type 1} → statement M
 other-turn-spec =
     tie.close
@@ -122,6 +132,8 @@ other-turn-spec =
     still-requires-8
     enum-told-9
     still-requires-9
+    enum-told-10
+    still-requires-10
     returns
     returns-2
     returns-3
@@ -130,4 +142,5 @@ other-turn-spec =
     returns-6
     returns-7
     returns-8
-    returns-9)
+    returns-9
+    returns-10)

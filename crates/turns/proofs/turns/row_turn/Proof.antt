@@ -51,11 +51,17 @@ n1-requires c κs = search needs
 enum-told-8 : tie.Need-enum-told-8
 enum-told-8 c = search needs
 
-failed-requires : tie.Need-failed-requires
-failed-requires c κs = search needs
+congested-requires : tie.Need-congested-requires
+congested-requires c κs = search needs
 
 enum-told-9 : tie.Need-enum-told-9
 enum-told-9 c = search needs
+
+failed-requires : tie.Need-failed-requires
+failed-requires c κs = search needs
+
+enum-told-10 : tie.Need-enum-told-10
+enum-told-10 c = search needs
 
 t3510-out-requires : tie.Need-t3510-out-requires
 t3510-out-requires c κs = search needs
@@ -89,12 +95,16 @@ unfolding rowTurn turned rowText applied stateAfter counterAfter holds isMark or
 returns-7 c = rw (c .before .enum-told7 .given .1) (c .n1 .ensures)
 
 returns-8 : tie.Need-returns-8
-unfolding rowTurn turned rowText counterAfter
-returns-8 c = rw (c .before .enum-told8 .given .1) (c .failed .ensures)
+unfolding rowTurn turned rowText applied stateAfter counterAfter holds isMark ordersAfter
+returns-8 c = rw (c .before .enum-told8 .given .1) (c .congested .ensures)
 
 returns-9 : tie.Need-returns-9
+unfolding rowTurn turned rowText counterAfter
+returns-9 c = rw (c .before .enum-told9 .given .1) (c .failed .ensures)
+
+returns-10 : tie.Need-returns-10
 unfolding rowTurn turned rowText counterAfter t3510Out
-returns-9 c = rw (c .before .enum-told9 .given .1) (c .t3510-out .ensures)
+returns-10 c = rw (c .before .enum-told10 .given .1) (c .t3510-out .ensures)
 
 pub row-turn-spec : {M : Type 1} → statement M
 row-turn-spec =
@@ -115,8 +125,10 @@ row-turn-spec =
     enum-told-7
     n1-requires
     enum-told-8
-    failed-requires
+    congested-requires
     enum-told-9
+    failed-requires
+    enum-told-10
     t3510-out-requires
     returns
     returns-2
@@ -126,4 +138,5 @@ row-turn-spec =
     returns-6
     returns-7
     returns-8
-    returns-9)
+    returns-9
+    returns-10)
