@@ -29,6 +29,11 @@ pub either-first : (a b : Bool) → a ≡ true → either a b ≡ true
 either-first true b q = refl
 either-first false b q = absurd (false≢true q)
 
+-- the second holds, whatever the first says
+pub either-true : (a : Bool) → either a true ≡ true
+either-true true = refl
+either-true false = refl
+
 pub flip-true : (a : Bool) → flip a ≡ true → a ≡ false
 flip-true true e = absurd (false≢true e)
 flip-true false e = refl

@@ -35,7 +35,7 @@ use Rattle.events.specs.Step.{together, joinedOf, stepOf}
 use Rattle.validity.specs.Answered.{seenAt, listedAt, answeredBy}
 use Rattle.validity.specs.Run.{Heard, runOf}
 use Rattle.validity.specs.Update.{Steady}
-use Rattle.validity.proofs.Bools.{either-second, either-left, either-first}
+use Rattle.validity.proofs.Bools.{either-second, either-left, either-first, either-true}
 use Rattle.validity.proofs.Good.{Good}
 use Rattle.validity.proofs.Valid.{valid-good}
 use Rattle.validity.proofs.Taken.{start-passed, message-passed, timer-passed}
@@ -63,10 +63,6 @@ not-registered state m = go (eqb state 5) refl
     go : (b : Bool) → eqb state 5 ≡ b → eqb state 5 ≡ false
     go true q = absurd (false≢true (rw (eqb-true state 5 q) at m))
     go false q = q
-
-or-true : (b : Bool) → either b true ≡ true
-or-true true = refl
-or-true false = refl
 
 across-state : (o : Across) (limit : ℕ) (a : Access) → otherTurned o limit a .access .state ≡ a .state
 unfolding otherTurned counted
@@ -113,7 +109,7 @@ module _ (r : Record) (g : Good r) (s : Steady r) where
   message-steady w protected draws m seen f = go (eqb w 0) refl m
     where
       go : (b : Bool) → eqb w 0 ≡ b → (m : Reading) → Leaves h w (messageEffect h w protected draws m seen)
-      go true q (reading.Accept a) = rw q (or-true (eqb (flagAfter (acceptT3512 0 (t3512Time a (h .dev))) (h .dev .t3512)) 0))
+      go true q (reading.Accept a) = rw q (either-true (eqb (flagAfter (acceptT3512 0 (t3512Time a (h .dev))) (h .dev .t3512)) 0))
       go true q (reading.Reject k) = rw q (either-first (eqb (h .dev .t3512) 0) _ (in-four (rw q at f)))
       go true q (reading.Bad fault at) = rw q s
       go false q (reading.Accept a) = rw q s

@@ -42,7 +42,7 @@ use Rattle.events.specs.Step.{together, joinedOf, advanceOf, stepOf}
 use Rattle.validity.specs.Answered.{seenAt, listedAt, answeredBy}
 use Rattle.validity.specs.Run.{Heard, runOf}
 use Rattle.validity.specs.Wait.{t3346Record, Waits, BothWait}
-use Rattle.validity.proofs.Bools.{either-first}
+use Rattle.validity.proofs.Bools.{either-first, either-true}
 use Rattle.validity.proofs.Refusal.{carry, effectIn, taken-plan, refused, step-taken}
 use Rattle.validity.proofs.Taken.{start-passed, update-passed}
 use Rattle.validity.proofs.Turns.{after}
@@ -70,34 +70,30 @@ step-t3346 r w octets t =
 
 -- While it runs
 
-or-true : (b : Bool) → either b true ≡ true
-or-true true = refl
-or-true false = refl
-
 -- out of state 4
 away-from : (flag : ℕ) (b : Bool) (s s′ : ℕ) → flip (eqb s 4) ≡ true → flip (eqb s′ 4) ≡ true → either (eqb flag 0) (flip (eqb (cond b s s′) 4)) ≡ true
-away-from flag true s s′ p q = rw p (or-true (eqb flag 0))
-away-from flag false s s′ p q = rw q (or-true (eqb flag 0))
+away-from flag true s s′ p q = rw p (either-true (eqb flag 0))
+away-from flag false s s′ p q = rw q (either-true (eqb flag 0))
 
 failed-waits : (n : ℕ) (a : Access) → Waits (after (failed n a))
 unfolding failed startFailed updateFailed inState withStatus withAttempts forgotten emptied clocked flagAfter
 failed-waits n a = go (isUpdating a) refl (ltb n 5) refl
   where
     go : (u : Bool) → isUpdating a ≡ u → (b : Bool) → ltb n 5 ≡ b → Waits (after (failed n a))
-    go true p true q = rw (p, q) (or-true (eqb (a .t3346) 0))
-    go true p false q = rw (p, q) (or-true (eqb (a .t3346) 0))
-    go false p true q = rw (p, q) (or-true (eqb (a .t3346) 0))
-    go false p false q = rw (p, q) (or-true (eqb (a .t3346) 0))
+    go true p true q = rw (p, q) (either-true (eqb (a .t3346) 0))
+    go true p false q = rw (p, q) (either-true (eqb (a .t3346) 0))
+    go false p true q = rw (p, q) (either-true (eqb (a .t3346) 0))
+    go false p false q = rw (p, q) (either-true (eqb (a .t3346) 0))
 
 row-waits : (row : Row) (w limit cause : ℕ) (found : Bool) (time : ℕ) (a : Access) → Waits (after (rowTurn row w limit cause found time a))
 unfolding rowTurn turned rowText applied stateAfter ordersAfter clocked flagAfter
-row-waits CardBelow w limit cause found time a = or-true (eqb (a .t3346) 0)
-row-waits CardLimit w limit cause found time a = or-true (eqb (a .t3346) 0)
-row-waits CardProtected w limit cause found time a = or-true (eqb (a .t3346) 0)
+row-waits CardBelow w limit cause found time a = either-true (eqb (a .t3346) 0)
+row-waits CardLimit w limit cause found time a = either-true (eqb (a .t3346) 0)
+row-waits CardProtected w limit cause found time a = either-true (eqb (a .t3346) 0)
 row-waits Away w limit cause found time a = away-from (a .t3346) (eqb w 0) 6 2 refl refl
-row-waits Home w limit cause found time a = or-true (eqb (a .t3346) 0)
-row-waits Area w limit cause found time a = or-true (eqb (a .t3346) 0)
-row-waits N1 w limit cause found time a = or-true (eqb (a .t3346) 0)
+row-waits Home w limit cause found time a = either-true (eqb (a .t3346) 0)
+row-waits Area w limit cause found time a = either-true (eqb (a .t3346) 0)
+row-waits N1 w limit cause found time a = either-true (eqb (a .t3346) 0)
 row-waits Congested w limit cause found time a = away-from 1 (isUpdating a) 5 3 refl refl
 row-waits Protocol w limit cause found time a = failed-waits _ a
 row-waits Other w limit cause found time a = failed-waits _ a
@@ -131,7 +127,7 @@ module _ (r : Record) (s : BothWait r) where
 
   message-waits : (b protected : ℕ) (draws : Draws) (m : Reading) (seen : Seen) → Waited (messageEffect h b protected draws m seen)
   unfolding messageEffect acceptEffect rejectEffect accepted taught inState withStatus withAttempts otherTurn clocked flagAfter
-  message-waits b protected draws (reading.Accept g) seen = record { mine = or-true (eqb (accessOf h b .t3346) 0); theirs = still-waits (otherOf h b) (other-waits b) }
+  message-waits b protected draws (reading.Accept g) seen = record { mine = either-true (eqb (accessOf h b .t3346) 0); theirs = still-waits (otherOf h b) (other-waits b) }
   message-waits b protected draws (reading.Reject k) seen = record {
     mine = row-waits (rowNow h b protected k) b (h .dev .cardlimit) (k .cause) (seen .found) (t3346Time protected (k .t3346length) (draws .t3346)) (accessOf h b);
     theirs = across-waits (acrossOf (rowText (rowNow h b protected k))) (h .dev .cardlimit) (otherOf h b) (other-waits b);
