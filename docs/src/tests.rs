@@ -1364,33 +1364,35 @@ fn thrice_refused() -> Record {
     record
 }
 
+/// An update away from home over access 0 is refused with this answer and changes nothing.
+fn refused_update(record: &mut Record, regtype: u8, answer: u8) {
+    let before = text(record);
+    assert_eq!(record.update(0, regtype, area(AWAY), MOVED), Reply::of(answer));
+    assert_eq!(text(record), before);
+}
+
 #[test]
 fn updates_are_checked_in_order() {
     let mut record = thrice_refused();
-    let refused = |record: &mut Record, regtype: u8, answer: u8| {
-        let before = text(record);
-        assert_eq!(record.update(0, regtype, area(AWAY), MOVED), Reply::of(answer));
-        assert_eq!(text(record), before);
-    };
-    refused(&mut record, 3, 6);
-    refused(&mut record, 2, 7);
+    refused_update(&mut record, 3, 6);
+    refused_update(&mut record, 2, 7);
     record.due = true;
-    refused(&mut record, 3, 7);
+    refused_update(&mut record, 3, 7);
     record.access[1].state = 5;
-    refused(&mut record, 3, 8);
+    refused_update(&mut record, 3, 8);
     record.access[0].entries[0].forbidden = false;
     record.access[0].entries[0].n1_barred = true;
-    refused(&mut record, 2, 8);
+    refused_update(&mut record, 2, 8);
     record.access[0].entries.clear();
-    refused(&mut record, 2, 9);
+    refused_update(&mut record, 2, 9);
     std::mem::swap(&mut record.roaming, &mut record.regional);
-    refused(&mut record, 3, 9);
+    refused_update(&mut record, 3, 9);
     record.due = false;
-    refused(&mut record, 3, 6);
+    refused_update(&mut record, 3, 6);
     record.access[0].state = 4;
-    refused(&mut record, 2, 6);
+    refused_update(&mut record, 2, 6);
     record.regional.clear();
-    refused(&mut record, 2, 6);
+    refused_update(&mut record, 2, 6);
     record.access[0].state = 5;
     assert_eq!(update(&mut record, 0, 2, AWAY), 0);
 }
@@ -2999,30 +3001,25 @@ fn starts_while_t3346_runs() {
 fn updates_while_t3346_runs() {
     let mut record = thrice_refused();
     record.access[0].t3346 = true;
-    let refused = |record: &mut Record, regtype: u8, answer: u8| {
-        let before = text(record);
-        assert_eq!(record.update(0, regtype, area(AWAY), MOVED), Reply::of(answer));
-        assert_eq!(text(record), before);
-    };
-    refused(&mut record, 1, 1);
-    refused(&mut record, 3, 6);
-    refused(&mut record, 2, 20);
+    refused_update(&mut record, 1, 1);
+    refused_update(&mut record, 3, 6);
+    refused_update(&mut record, 2, 20);
     record.due = true;
-    refused(&mut record, 3, 20);
+    refused_update(&mut record, 3, 20);
     assert_eq!(record.update(0, 2, area(NEAR), [[0x01, 0x00]; 2]), Reply::of(1));
     assert_eq!(record.update(0, 2, area(NEAR), MOVED), Reply::of(20));
     for state in [0, 1, 2, 3, 4, 6] {
         record.access[0].state = state;
-        refused(&mut record, 2, 6);
-        refused(&mut record, 3, 6);
+        refused_update(&mut record, 2, 6);
+        refused_update(&mut record, 3, 6);
     }
     record.access[0].state = 5;
     record.access[0].t3346 = false;
-    refused(&mut record, 2, 7);
+    refused_update(&mut record, 2, 7);
     record.access[1].state = 5;
-    refused(&mut record, 3, 8);
+    refused_update(&mut record, 3, 8);
     record.access[0].entries.clear();
-    refused(&mut record, 2, 9);
+    refused_update(&mut record, 2, 9);
     assert_eq!(update(&mut record, 0, 2, NEAR), 0);
 }
 

@@ -34,7 +34,7 @@ periodicRanges d = both (isFlag (d .t3512)) (both (upTo 35712000 (d .t3512length
 unfoldable pub deviceNumbers : Device → Bool
 deviceNumbers d = both (deviceRanges d) (periodicRanges d)
 
--- an access's state, status, counters and timers
+-- an access's state, status, counters and timers; T3346 is document 02's (R-6)
 unfoldable pub modeRanges : Access → Bool
 modeRanges a =
     both (upTo 6 (a .state))

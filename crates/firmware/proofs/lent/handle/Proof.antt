@@ -78,7 +78,7 @@ machE e = EL.val E.the-type E′.the-laws e
 abbrev machS : RefT (List ℕ) → Val
 machS s = sliceVal (s .ptr) (length (s .now))
 
--- what an outcome is made of, and where its reply and its record lie in it: computed here alone, so that the walk does not grow with them
+-- what an outcome is made of, and where its reply and its record lie in it: computed here alone, and cited in the walk
 abbrev fields : Tys
 fields = tcons P′.mir (tcons T′.mir tnil)
 
