@@ -1,5 +1,5 @@
-// The registration record of document 01 with the updates of request R-5, the faults of R-1 and
-// the waits of R-6, and its seven events, updated in place.
+// The registration record of document 01 with the updates of request R-5, the faults of R-1, the
+// waits of R-6 and the counting on both accesses of R-14, and its seven events, updated in place.
 
 use crate::message::{self, Accept, Message, Reject};
 
@@ -336,6 +336,10 @@ impl Access {
         self.entries.iter().find(|entry| entry.network == *network)
     }
 
+    fn entry_mut(&mut self, network: &Network) -> Option<&mut Entry> {
+        self.entries.iter_mut().find(|entry| entry.network == *network)
+    }
+
     /// The entry of the network, taken into use if it has none; None if all are held.
     fn claim(&mut self, network: Network) -> Option<&mut Entry> {
         let held = self.entries.iter().position(|entry| entry.network == network);
@@ -591,7 +595,7 @@ impl Record {
         }
         this.t3502_length = accept.t3502.unwrap_or(T3502_SECONDS);
         let network = network_of(&this.pending);
-        if let Some(entry) = this.entries.iter_mut().find(|entry| entry.network == network) {
+        if let Some(entry) = this.entry_mut(&network) {
             entry.forbidden = false;
         }
         if a == 0 {
@@ -644,7 +648,7 @@ impl Record {
             11 | 73 if !home => return this.ban_row(a, self.limits.ban, protected),
             11 | 73 if !protected => self.home_row(a),
             12 | 13 | 15 if a == 0 => self.area_row(cause, protected),
-            27 => return this.n1_row(self.limits.n1, protected),
+            27 => return self.n1_rows(a, protected),
             72 if a == 1 => return this.n1_row(self.limits.n1, protected),
             95 | 96 | 97 | 99 | 111 => {
                 this.attempts = MOST_ATTEMPTS;
@@ -697,6 +701,21 @@ impl Record {
         }
         let areas = if cause == 12 { &mut self.regional } else { &mut self.roaming };
         list(areas, this.pending, protected);
+    }
+
+    /// 27; false as for `n1_row`. Protected, it also takes the network's N1 counter to the limit on
+    /// the other access, if that has an entry, but sets no mark there (document 02, R-14).
+    fn n1_rows(&mut self, a: usize, protected: bool) -> bool {
+        let limit = self.limits.n1;
+        let this = &mut self.access[a];
+        let network = network_of(&this.pending);
+        let taken = this.n1_row(limit, protected);
+        if taken && protected {
+            if let Some(entry) = self.access[1 - a].entry_mut(&network) {
+                entry.n1 = limit;
+            }
+        }
+        taken
     }
 
     /// Timer numbers as in the log: 1 T3510, 2 T3511, 3 T3502, 6 T3346; of access 0 alone 4 T3247

@@ -1,5 +1,5 @@
-// Scenarios worked out by hand from document 01 and requests: rustc --test
-// docs/src/main.rs
+// Scenarios worked out by hand from document 01 and requests: rustc
+// --test docs/src/main.rs
 
 use crate::log::{apply, Input, Next};
 use crate::message::{self, Fault, Message, Reject, Span};
@@ -3320,4 +3320,155 @@ fn lines_of_events() {
     }
     output.flush().unwrap();
     assert_eq!(String::from_utf8(output.sink).unwrap(), lines);
+}
+
+// Request R-14: a protected 27 counts on both accesses.
+
+/// Each differs from AWAY in one octet alone.
+const ALIKE: [Network; 3] = [NEAR, [0x00, 0x12, 0x20], [0x00, 0xF2, 0x21]];
+
+fn sixteen() -> [Network; 16] {
+    std::array::from_fn(|index| [(index / 10 << 4 | index % 10) as u8, 0, 0])
+}
+
+/// Entries of these networks with both marks, their counters above 0 and below the limits.
+fn held(networks: &[Network]) -> List<Entry, 16> {
+    let mut entries = List::new();
+    for &network in networks {
+        entries.push(Entry { network, ban: 2, n1: 1, forbidden: true, n1_barred: true });
+    }
+    entries
+}
+
+/// The record with an N1 limit unlike the others, and with the other access registering on NEAR,
+/// its entries those of `networks`.
+fn beside(a: usize, mut record: Record, networks: &[Network]) -> Record {
+    record.limits.n1 = 4;
+    assert_eq!(start(&mut record, 1 - a as u8, NEAR), 0);
+    record.access[1 - a].entries = held(networks);
+    record
+}
+
+/// Those of `pendings` whose message is protected.
+fn protected() -> impl Iterator<Item = (usize, Record)> {
+    pendings().filter(|&(_, protected, _)| protected == 1).map(|(a, _, record)| (a, record))
+}
+
+/// The access asks for AWAY and a reject bars it.
+fn barred(record: &mut Record, a: usize, protected: u8, cause: u8) {
+    assert_eq!(start(record, a as u8, AWAY), 0);
+    assert_eq!(reject(record, a as u8, protected, cause).answer, 0);
+}
+
+/// Whatever the network's entry on the other access was: its N1 counter goes to the limit, and
+/// nothing else of that access changes. At home and away.
+#[test]
+fn a_protected_27_counts_on_both_accesses() {
+    for (a, record) in protected() {
+        let mut record = beside(a, record, &[ALIKE[0], AWAY, ALIKE[1], ALIKE[2]]);
+        for (ban, n1, forbidden, n1_barred) in [
+            (0, 0, false, false),
+            (1, 0, true, false),
+            (0, 1, false, true),
+            (2, 3, true, false),
+            (3, 4, true, true),
+        ] {
+            let entry = Entry { network: AWAY, ban, n1, forbidden, n1_barred };
+            record.access[1 - a].entries[1] = entry;
+            for home in [HOME, AWAY] {
+                let mut after = Record { home, ..record };
+                assert_eq!(reject(&mut after, a as u8, 1, 27), reply(a, false, None));
+                assert_eq!(shown(&after, a), "2 5U3 a0 - eq1 c11 e[04-N] r[] g[]");
+                let mut expected = after;
+                expected.access[1 - a] = record.access[1 - a];
+                expected.access[1 - a].entries[1].n1 = 4;
+                assert_eq!(text(&after), text(&expected));
+            }
+        }
+    }
+}
+
+/// No other cause, and no unprotected reject, changes an entry of the other access.
+#[test]
+fn other_rejects_count_on_one_access() {
+    for (a, protected, record) in pendings() {
+        let record = beside(a, record, &[NEAR, AWAY]);
+        for cause in (0..=255).filter(|&cause| (cause, protected) != (27, 1)) {
+            let mut after = record;
+            assert_eq!(reject(&mut after, a as u8, protected, cause).answer, 0);
+            let what = format!("cause {cause} access {a} protected {protected}");
+            assert_eq!(marks_of(&after, 1 - a), marks_of(&record, 1 - a), "{what}");
+        }
+    }
+}
+
+/// The other access has no entry for the network: none is made, nor missed if all are held.
+#[test]
+fn a_protected_27_needs_no_entry_on_the_other_access() {
+    for (a, record) in protected() {
+        for networks in [&[][..], &ALIKE, &sixteen()] {
+            let mut record = beside(a, record, networks);
+            let other = record.access[1 - a];
+            assert_eq!(reject(&mut record, a as u8, 1, 27), reply(a, false, None));
+            assert_eq!(marks_of(&record, a), [(0, 4, false, true)]);
+            let mut same = record;
+            same.access[1 - a] = other;
+            assert_eq!(text(&record), text(&same));
+        }
+    }
+}
+
+/// All entries of the receiving access are held: answer 4 without one for the network, and then
+/// the other access's stays; with one, though it be at the limit, both count.
+#[test]
+fn a_protected_27_that_is_not_taken_counts_nowhere() {
+    for (a, record) in protected() {
+        let mut record = beside(a, record, &[AWAY]);
+        record.access[a].entries = held(&sixteen());
+        let before = text(&record);
+        assert_eq!(reject(&mut record, a as u8, 1, 27), Reply::of(4));
+        assert_eq!(text(&record), before);
+        record.access[a].entries[15] = Entry { network: AWAY, n1: 4, ..Entry::default() };
+        assert_eq!(reject(&mut record, a as u8, 1, 27), reply(a, false, None));
+        assert_eq!(marks_of(&record, 1 - a), [(2, 4, true, true)]);
+    }
+}
+
+/// An N1 mark below the limit on the other access stays, and T3247 no longer lifts it. A power
+/// cycle does; the counter is then at the limit for the next mark.
+#[test]
+fn t3247_lifts_no_mark_that_a_protected_27_counted_to_the_limit() {
+    for (a, b) in [(0, 1), (1, 0)] {
+        let mut record = limited(3);
+        barred(&mut record, b, 0, 27);
+        barred(&mut record, a, 1, 27);
+        for cycled in [false, true] {
+            if cycled {
+                assert_eq!(record.power().answer, 0);
+                barred(&mut record, b, 0, 27);
+            }
+            assert_eq!(marks_of(&record, b), [(0, 3, false, true)]);
+            assert_eq!(out(&mut record, 4, 0).answer, 0);
+            assert_eq!(start(&mut record, b as u8, AWAY), 8);
+        }
+    }
+}
+
+/// Forbidden alone on the other access: no N1 mark there, so a start by hand passes, and any start
+/// once T3247 has lifted the ban.
+#[test]
+fn a_protected_27_marks_the_receiving_access_alone() {
+    for (a, b) in [(0, 1), (1, 0)] {
+        let mut record = limited(3);
+        barred(&mut record, b, 0, 11);
+        barred(&mut record, a, 1, 27);
+        assert_eq!(marks_of(&record, a), [(0, 3, false, true)]);
+        assert_eq!(marks_of(&record, b), [(1, 3, true, false)]);
+        let mut later = record;
+        assert_eq!(out(&mut later, 4, 0).answer, 0);
+        for (record, manual) in [(&mut record, 1), (&mut later, 0)] {
+            assert_eq!(record.start(a as u8, manual, area(AWAY)).answer, 8);
+            assert_eq!(record.start(b as u8, manual, area(AWAY)).answer, 0);
+        }
+    }
 }

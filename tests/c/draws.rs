@@ -1,6 +1,6 @@
 // The calls that the fuzz run makes, drawn: on a record that lives on events which are often right, and on records changed from it.
 use crate::second::{CAccess, CEntries, CNotice, CRecord, Plain};
-use crate::{CAUSE, EVENT, NEW, REQUEST};
+use crate::{BAR, CAUSE, EVENT, NEW, REQUEST};
 
 const BODY: u32 = 96;
 /// Above the longest request.
@@ -379,8 +379,8 @@ pub fn round(d: &mut Draw, live: &CRecord) -> Vec<Ask> {
     let often = if live.dev.card == 0 && d.below(4) > 0 { (1, card(access)) } else { right };
     let (scattered, end) = (random(d), [HOT, ALL][d.below(2) as usize]);
     let (broken, odd, net) = (changed(d, &full, end), strained(d, &full), NETS[d.below(6) as usize]);
-    let (moving, octets, busy) = ((7, update(d, access, net)), message(d), reject(d, BUSY));
-    let (said, asked) = (heard(d, access, 1, &octets), heard(d, access, sure, &busy));
+    let (moving, octets, busy, bar) = ((7, update(d, access, net)), message(d), reject(d, BUSY), reject(d, BAR));
+    let (said, asked, barred) = (heard(d, access, 1, &octets), heard(d, access, sure, &busy), heard(d, access, sure, &bar));
     let over = [*live, full, scattered][d.below(3) as usize];
     vec![
         d.hand(*live, often),
@@ -395,6 +395,7 @@ pub fn round(d: &mut Draw, live: &CRecord) -> Vec<Ask> {
         d.hand(full, moving),
         d.hand(full, said),
         d.hand(full, asked),
+        d.hand(full, barred),
         d.cause(octets),
         d.hand(odd, (5, vec![])),
         d.request(odd, access),

@@ -40,6 +40,8 @@ pub const CAUSE: u8 = 4;
 const NEVER: [u32; 3] = [3, 12, 19];
 /// The place of T3346 among an access's timers in the notice.
 const T3346: usize = 3;
+/// The cause that bars N1, R-14's.
+pub const BAR: u8 = 27;
 /// A request's answer where the buffer is too short.
 const SHORT: u32 = 268;
 /// The longest request without a container and with one.
@@ -83,6 +85,7 @@ struct Tally {
     deeds: [u64; 5],
     waits: [u64; 6],
     rest: [u64; 10],
+    bars: [u64; 8],
     shapes: [[u64; 4]; 2],
 }
 
@@ -305,6 +308,30 @@ fn rest(ask: &Ask, got: &Got) -> [bool; 10] {
     ]
 }
 
+/// What R-14 is about. A protected 27 raised the other access's N1 counter: from access 0, from access 1, in an update, under an N1 mark. That side was skipped:
+/// for lack of an entry, with all sixteen held. Its counter below the limit was left: by a protected 27 that was answer 4, by one without protection.
+fn bars(ask: &Ask, got: &Got) -> [bool; 8] {
+    let reject = heard(ask).filter(|octets| octets.starts_with(&[0x7E, 0x00, 0x44, BAR]) && [0, 4].contains(&got.answer));
+    let (Some(_), [access, protected, ..]) = (reject, &ask.arrays[0][..]) else { return [false; 8] };
+    let (at, sure, taken) = (*access as usize, *protected == 1, got.answer == 0);
+    let (this, other) = (ask.record.access[at], ask.record.access[1 - at]);
+    let (was, now, net) = (ask.record.entries[1 - at], got.record.entries[1 - at], this.net);
+    let place = { was.nets }[..other.entries as usize].iter().position(|held| *held == net);
+    let raised = place.is_some_and(|i| was.n1s[i] < now.n1s[i]);
+    let left = place.is_some_and(|i| was.n1s[i] < ask.record.dev.limits[2]) && !raised;
+    let skipped = taken && sure && place.is_none();
+    [
+        raised && at == 0,
+        raised && at == 1,
+        raised && this.regtype > 1,
+        raised && place.is_some_and(|i| was.barred[i] == 1),
+        skipped,
+        skipped && other.entries == 16,
+        left && sure && !taken,
+        left && !sure && taken,
+    ]
+}
+
 /// What R-3 is about, of a request without a container and of one with it: written, written into a buffer that just fits, written at its longest, refused for one octet.
 fn shapes(ask: &Ask, got: &Got) -> [[bool; 4]; 2] {
     if ask.call != REQUEST || got.answer > 255 && got.answer != SHORT {
@@ -336,8 +363,8 @@ fn judge(ask: &Ask, got: &Got, tally: &mut Tally) -> Result<(), String> {
     tally.made += (ask.call == NEW && got.answer == 0) as u64;
     tally.requests += (ask.call == REQUEST) as u64;
     tally.written += (ask.call == REQUEST && got.answer < 256) as u64;
-    let counts = tally.deeds.iter_mut().chain(&mut tally.waits).chain(&mut tally.rest).chain(tally.shapes.as_flattened_mut());
-    let came = [&deeds(ask, got)[..], &waits(ask, got), &rest(ask, got), shapes(ask, got).as_flattened()].concat();
+    let counts = tally.deeds.iter_mut().chain(&mut tally.waits).chain(&mut tally.rest).chain(&mut tally.bars).chain(tally.shapes.as_flattened_mut());
+    let came = [&deeds(ask, got)[..], &waits(ask, got), &rest(ask, got), &bars(ask, got), shapes(ask, got).as_flattened()].concat();
     for (count, came) in counts.zip(came) {
         *count += came as u64;
     }
@@ -403,10 +430,11 @@ fn main() {
         group(&mut side, words, first..first + LIVES, &mut tally);
     }
     side.end();
-    let Tally { cases, answers, causes, invalid, news, made, requests, written, deeds, waits, rest, shapes } = tally;
+    let Tally { cases, answers, causes, invalid, news, made, requests, written, deeds, waits, rest, bars, shapes } = tally;
     let [mobility, periodic, fell, started, out] = deeds;
     let [given, plain, low, high, moved, anew] = waits;
     let [empty, off, zero, below, above, bad, start, update, ended, power] = rest;
+    let [mobile, wifi, updating, marked, skipped, full, refused, open] = bars;
     println!("fuzz: {cases} cases, {} events, {invalid} of them on an invalid record", answers.iter().sum::<u64>());
     println!("fuzz: {made} of {news} new records made, {written} of {requests} requests written");
     for (shape, [written, fitted, longest, lacked]) in ["no container", "a container"].iter().zip(shapes) {
@@ -416,9 +444,11 @@ fn main() {
     println!("fuzz: T3346 started {given} times as given, {plain} for kind 3's draw, {low} and {high} for one at its ends; {moved} times in an update, {anew} where it ran");
     println!("fuzz: T3346 empty {empty} times, deactivated {off}, zero {zero}; its draw refused {below} times below its range, {above} above it; {bad} records invalid by it alone");
     println!("fuzz: 20 for {start} starts and {update} updates; T3346 out {ended} times, stopped by {power} power cycles");
+    println!("fuzz: a protected 27 raised the other access's N1 counter {mobile} times from access 0 and {wifi} from access 1, {updating} of them in an update, {marked} under an N1 mark");
+    println!("fuzz: that side skipped {skipped} times, {full} of them with all sixteen entries held; a counter left there {refused} times by answer 4, {open} by a 27 without protection");
     println!("fuzz: answers 0 to 20 came {answers:?} times, a reject's cause and 269 to 274 {causes:?} times");
     let missing = (0..21).any(|answer| answers[answer] == 0 && !NEVER.contains(&(answer as u32)));
-    let unseen = [&causes[..], &deeds, &waits, &rest, shapes.as_flattened(), &[invalid, made, news - made]].concat().contains(&0);
+    let unseen = [&causes[..], &deeds, &waits, &rest, &bars, shapes.as_flattened(), &[invalid, made, news - made]].concat().contains(&0);
     if seconds > 0 && (missing || unseen) {
         fail("some answer, deed or shape of a request never came");
     }

@@ -22,7 +22,7 @@ use Rattle.turns.specs.declared.Row.{Row}
 use Rattle.turns.specs.declared.Draws.{Draws}
 use Rattle.turns.specs.Timers.{isDeviceTimer}
 use Rattle.turns.specs.Words.{Mark, noMark, forbiddenAndCounted, n1NotAllowedAndCounted, markIn}
-use Rattle.turns.specs.Rejects.{rejectT3247, t3346Time, rowText, toRoaming, toRegional}
+use Rattle.turns.specs.Rejects.{rejectT3247, t3346Time, rowText, toRoaming, toRegional, acrossN1}
 use Rattle.turns.specs.Turns.{still, started, updated, keySet, accepted, clockTurn, cycled, renewed, rowTurn, otherTurn}
 use Rattle.effects.specs.declared.Work.{Work}
 use Rattle.effects.specs.declared.Sides.{Sides}
@@ -205,11 +205,11 @@ markDeed n1NotAllowedAndCounted s = deed.Bar s
 unfoldable pub rowDeed : Row → Seat → Deed
 rowDeed r s = markDeed (markIn (rowText r)) s
 
--- the pending network's entry, and the lists that the pending area goes to
+-- the pending network's entry on this access and on the other one, and the lists that the pending area goes to
 unfoldable pub rowWork : Row → ℕ → ℕ → ℕ → Access → Seen → Work
 rowWork r w protected cause a s = record {
   mine = rowDeed r (seatOf s (a .net) protected);
-  theirs = deed.Nothing;
+  theirs = cond (acrossN1 w protected cause r) (deed.ToLimit (a .net)) deed.Nothing;
   roaming = cond (toRoaming w cause r) (task.Put (a .net) (a .code) protected) task.Nothing;
   regional = cond (toRegional w cause r) (task.Put (a .net) (a .code) protected) task.Nothing;
   keep = keep.Nothing;

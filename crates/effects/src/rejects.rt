@@ -17,6 +17,7 @@ use record::other_of;
 use turns::Draws;
 use turns::Order;
 use turns::Row;
+use turns::across_n1;
 use turns::other_turn;
 use turns::row_turn;
 use turns::starts_t3247;
@@ -24,6 +25,7 @@ use turns::to_regional;
 use turns::to_roaming;
 ghost use mathlib.Core.Path.{_≡_};
 ghost use mathlib.Core.Bool.{cond};
+ghost use Rattle.entries.specs.declared.Deed.the-variants as deed;
 ghost use Rattle.areas.specs.declared.Task.the-variants.{Nothing, Put};
 ghost use Rattle.turns.specs.declared.Order.the-variants.{Leave, Run};
 ghost use Rattle.turns.specs.Rejects.{rejectT3247, t3346Time};
@@ -66,6 +68,16 @@ fn row_deed(row: Row, s: Seat) -> Deed
     }
 }
 
+fn to_limit_if(across: bool, net: u32) -> Deed
+    ensures { λ r. ⌜ r ≡ cond across (deed.ToLimit net) deed.Nothing ⌝ }
+{
+    if across {
+        Deed::ToLimit(net)
+    } else {
+        Deed::Nothing
+    }
+}
+
 fn put_if(listed: bool, a: Access, protected: u8) -> Task
     ensures { λ r. ⌜ r ≡ cond listed (Put (a .net) (a .code) protected) Nothing ⌝ }
 {
@@ -83,11 +95,12 @@ fn row_work(row: Row, w: u8, protected: u8, cause: u8, a: Access, s: Seen) -> Wo
     ensures { λ r. ⌜ r ≡ rules.rowWork row w protected cause a s ⌝ }
 {
     let mine = row_deed(row, seat_of(s, a.net, protected));
+    let theirs = to_limit_if(across_n1(w, protected, cause, row), a.net);
     let roaming = put_if(to_roaming(w, cause, row), a, protected);
     let regional = put_if(to_regional(w, cause, row), a, protected);
     Work {
         mine,
-        theirs: Deed::Nothing,
+        theirs,
         roaming,
         regional,
         keep: Keep::Nothing,

@@ -114,6 +114,17 @@ powered count banlimit t = record {
   barred = replicate 16 0;
 }
 
+-- document 02, R-14, on the other access: "sets the network's N1 counter to the limit"; "The mark stays with the receiving access";
+-- with "no entry for the network, its side is skipped"
+unfoldable pub n1ToLimit : ℕ → ℕ → ℕ → Entries → Entries
+n1ToLimit net count limit t = record {
+  nets = t .nets;
+  bans = t .bans;
+  n1s = cond (hasEntry count net (t .nets)) (putAt (t .n1s) (placeIn count net (t .nets)) limit) (t .n1s);
+  forbidden = t .forbidden;
+  barred = t .barred;
+}
+
 -- a new record's: zeros
 unfoldable pub none : Entries
 none = record { nets = replicate 16 0; bans = replicate 16 0; n1s = replicate 16 0; forbidden = replicate 16 0; barred = replicate 16 0 }
@@ -124,6 +135,7 @@ entriesAfter deed.Nothing count banlimit n1limit t = t
 entriesAfter (deed.Ban s) count banlimit n1limit t = banned s banlimit t
 entriesAfter (deed.Bar s) count banlimit n1limit t = barredBy s n1limit t
 entriesAfter (deed.Accept s) count banlimit n1limit t = unforbidden s t
+entriesAfter (deed.ToLimit net) count banlimit n1limit t = n1ToLimit net count n1limit t
 entriesAfter deed.Sweep count banlimit n1limit t = swept count banlimit n1limit t
 entriesAfter deed.Power count banlimit n1limit t = powered count banlimit t
 entriesAfter deed.Fresh count banlimit n1limit t = none

@@ -5,7 +5,7 @@ ghost use Prim.Native.Nat.{_≤_};
 ghost use lib.ListN.{replicate};
 ghost use Rattle.laws.specs.Bounds.{oneMore};
 ghost use Rattle.laws.specs.Upto.{upto, seekTo};
-ghost use Rattle.entries.specs.Entries.{sameNet, entriesHeld, liftMark, bumped, putAt, raised, peekAt, seenIn, entriesOf, banned, none, entriesAfter};
+ghost use Rattle.entries.specs.Entries.{sameNet, entriesHeld, placeIn, hasEntry, liftMark, bumped, putAt, raised, peekAt, seenIn, entriesOf, banned, none, entriesAfter};
 
 // Dense from 0 to a count that the access keeps; behind it nothing is looked at.
 #[repr(C)]
@@ -33,13 +33,14 @@ pub struct Seat {
     pub protected: u8,
 }
 
-// What an event does to an access's entries: a reject that bans the network, one that bars it from N1, an accept, T3247 out,
-// a power cycle, a card change.
+// What an event does to an access's entries: a reject that bans the network, one that bars it from N1, an accept, a protected 27
+// over the other access, T3247 out, a power cycle, a card change.
 pub enum Deed {
     Nothing,
     Ban(Seat),
     Bar(Seat),
     Accept(Seat),
+    ToLimit(u32),
     Sweep,
     Power,
     Fresh,
@@ -152,11 +153,11 @@ fn put(xs: &mut [u8; 16], at: usize, v: u8)
     }
 }
 
-fn clear(when: bool, xs: &mut [u8; 16], at: usize)
-    ensures { λ r. ⌜ now (xs .exit) ≡ cond when (putAt (now (xs .entry)) at 0) (now (xs .entry)) ⌝ }
+fn put_when(when: bool, xs: &mut [u8; 16], at: usize, v: u8)
+    ensures { λ r. ⌜ now (xs .exit) ≡ cond when (putAt (now (xs .entry)) at v) (now (xs .entry)) ⌝ }
 {
     if when {
-        put(xs, at, 0);
+        put(xs, at, v);
     }
 }
 
@@ -190,9 +191,18 @@ fn strike(
     let new = !s.found;
     put_net(nets, s.at, s.net);
     raise(counts, s.at, s.found, limit, s.protected);
-    clear(new, others, s.at);
+    put_when(new, others, s.at, 0);
     put(marks, s.at, 1);
-    clear(new, spare, s.at);
+    put_when(new, spare, s.at, 0);
+}
+
+// A network that has no entry is skipped.
+fn to_limit(count: u8, net: u32, limit: u8, nets: &[u32; 16], counts: &mut [u8; 16])
+    ensures { λ r. ⌜ now (counts .exit) ≡ cond (hasEntry count net (now (nets .entry))) (putAt (now (counts .entry)) (placeIn count net (now (nets .entry))) limit) (now (counts .entry)) ⌝ }
+{
+    let n = size(count);
+    let at = find(nets, n, net);
+    put_when(at < n, counts, at, limit);
 }
 
 // Each mark goes by its own counter and limit.
@@ -256,7 +266,8 @@ pub fn tend(
         Deed::Nothing => {}
         Deed::Ban(s) => strike(s, banlimit, nets, bans, n1s, forbidden, barred),
         Deed::Bar(s) => strike(s, n1limit, nets, n1s, bans, barred, forbidden),
-        Deed::Accept(s) => clear(s.found, forbidden, s.at),
+        Deed::Accept(s) => put_when(s.found, forbidden, s.at, 0),
+        Deed::ToLimit(net) => to_limit(count, net, n1limit, nets, n1s),
         Deed::Sweep => sweep_both(count, banlimit, n1limit, bans, n1s, forbidden, barred),
         Deed::Power => cycle(count, banlimit, bans, forbidden, barred),
         Deed::Fresh => wipe(nets, bans, n1s, forbidden, barred),

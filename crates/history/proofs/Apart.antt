@@ -1,10 +1,11 @@
--- An event of one access changes nothing on the other: its effect turns the other access by no row but a protected 3, 6 or 7, has no deed for its entries, and keeps what
--- it was given on its own. Assumes nothing.
+-- An event of one access changes nothing on the other but what `crosses` names: its effect turns the other access by no row but a protected 3, 6 or 7, has no deed for its
+-- entries but after a protected 27, and keeps what it was given on its own. Assumes nothing.
 use Prim.Native.Nat.{ℕ, _<_}
-use mathlib.Core.Path.{_≡_, refl, _∙_, ap}
-use mathlib.Core.Bool.{Bool, true, false, cond, false≢true}
+use mathlib.Core.Path.{_≡_, refl, sym, _∙_, ap}
+use mathlib.Core.Bool.{Bool, true, false, cond, not, false≢true, _&&_}
 use mathlib.Core.List.{List}
 use lib.Dec.{ltb, eqb}
+use borrow.Author.Tests.{eqb-true}
 use Rattle.record.specs.Tests.{both, flip}
 use Rattle.record.specs.Answers.{isTaken}
 use Rattle.ranges.specs.Valid.{validOf}
@@ -12,6 +13,7 @@ use Rattle.record.specs.declared.Access.{Access}
 use Rattle.record.specs.declared.Record.{Record}
 use Rattle.record.specs.Setters.{counted}
 use Rattle.entries.specs.declared.Entries.{Entries}
+use Rattle.entries.specs.declared.Deed.{Deed}
 use Rattle.entries.specs.declared.Deed.the-variants as deed
 use Rattle.entries.specs.declared.Seen.{Seen}
 use Rattle.entries.specs.Entries.{entriesAfter}
@@ -41,11 +43,12 @@ use Rattle.validity.proofs.Bools.{flip-true}
 use Rattle.validity.proofs.Refusal.{effectIn, taken-plan, refused, answer-told}
 use Rattle.history.specs.Cell.{entriesIn}
 use Rattle.history.specs.Apart.{Half, halfOf}
-use Rattle.history.specs.Across.{isOwn, refusesCard, crosses, halfAfter}
+use Rattle.history.specs.Across.{isOwn, Reach, untouched, cardCounterToLimit, n1CounterToLimit, reachOf, crosses, halfAfter}
 use Rattle.history.proofs.Next.{other-of, next, plan, carry-guti, carry-equivalents, taken-access, taken-entries}
 use Rattle.history.proofs.Stays.{small}
+use Rattle.history.proofs.Rows.{row-across}
 
--- the rows leave the other access, but for the protected one of 3, 6 and 7
+-- the rows leave the other access's numbers, but for the protected one of 3, 6 and 7
 across-rows : (b c d e x f bare at-home below : Bool) (limit : ℕ) (a : Access)
     → otherTurn (cond b (cond bare (cond below CardBelow CardLimit) CardProtected)
     (cond c (cond at-home (cond bare Home Other) Away) (cond d Area (cond e N1 (cond x Congested (cond f Protocol Other)))))) limit a
@@ -89,35 +92,85 @@ halves : {a a′ : Access} {t t′ : Entries} {g g′ e e′ : List ℕ} → a �
     → _≡_ {A = Half} (record { numbers = a; entries = t; guti = g; equivalents = e }) (record { numbers = a′; entries = t′; guti = g′; equivalents = e′ })
 halves p q s t = cc
 
+-- what reaches the other access's numbers, and its entries
+abbrev numbersBy : Reach → ℕ → Access → Access
+numbersBy untouched limit a = a
+numbersBy cardCounterToLimit limit a = counted limit a
+numbersBy n1CounterToLimit limit a = a
+
+abbrev deedBy : Reach → ℕ → Deed
+deedBy untouched net = deed.Nothing
+deedBy cardCounterToLimit net = deed.Nothing
+deedBy n1CounterToLimit net = deed.ToLimit net
+
+-- by a reject, protected or not
+abbrev reachBy : Bool → Bool → Bool → Reach
+reachBy bare card is27 = cond bare untouched (cond card cardCounterToLimit (cond is27 n1CounterToLimit untouched))
+
+no-reach : (b : Bool) → cond b untouched untouched ≡ untouched
+no-reach true = refl
+no-reach false = refl
+
+numbers-by : (bare card is27 : Bool) (limit : ℕ) (a : Access) → cond (both card (flip bare)) (counted limit a) a ≡ numbersBy (reachBy bare card is27) limit a
+numbers-by true true is27 limit a = refl
+numbers-by true false is27 limit a = refl
+numbers-by false true is27 limit a = refl
+numbers-by false false true limit a = refl
+numbers-by false false false limit a = refl
+
+deed-by : (bare is27 : Bool) (net : ℕ) → cond {A = Deed} (is27 && not bare) (deed.ToLimit net) deed.Nothing ≡ deedBy (reachBy bare false is27) net
+deed-by true true net = refl
+deed-by true false net = refl
+deed-by false true net = refl
+deed-by false false net = refl
+
+-- 3, 6 and 7 are not 27
+card-deed : (cause : ℕ) (bare : Bool) (net : ℕ) → cond {A = Deed} (eqb cause 27 && not bare) (deed.ToLimit net) deed.Nothing ≡ deedBy (reachBy bare (isCard cause) (eqb cause 27)) net
+unfolding isCard
+card-deed cause bare net = go (eqb cause 27) refl
+  where
+    idle : (bare card : Bool) → deed.Nothing ≡ deedBy (reachBy bare card false) net
+    idle true card = refl
+    idle false true = refl
+    idle false false = refl
+
+    go : (b : Bool) → eqb cause 27 ≡ b → cond {A = Deed} (eqb cause 27 && not bare) (deed.ToLimit net) deed.Nothing ≡ deedBy (reachBy bare (isCard cause) (eqb cause 27)) net
+    go true q = rw (eqb-true cause 27 q) (deed-by bare true net)
+    go false q = rw q (idle bare (isCard cause))
+
 module _ (r : Record) where
   abbrev limit : ℕ
   limit = r .hot .dev .cardlimit
 
-  -- an effect of access b's: what the other access turns to, no deed for its entries, no card
-  record Own (b : ℕ) (crossed : Bool) (x : Effect) : Type 0 where
-    theirs : x .theirs ≡ still (cond crossed (counted limit (otherOf (r .hot) b)) (otherOf (r .hot) b))
-    deed : x .work .theirs ≡ deed.Nothing
+  -- an effect of access b's: what the other access turns to, the deed for its entries, no card
+  record Own (b : ℕ) (c : Reach) (x : Effect) : Type 0 where
+    theirs : x .theirs ≡ still (numbersBy c limit (otherOf (r .hot) b))
+    deed : x .work .theirs ≡ deedBy c (accessOf (r .hot) b .net)
     kept : NoCard (x .work .keep)
 
   message-own : (b protected : ℕ) (draws : Draws) (m : Reading) (s : Seen) → Own b (crosses (Message b protected draws) m) (messageEffect (r .hot) b protected draws m s)
-  unfolding crosses refusesCard messageEffect acceptEffect rejectEffect rowWork rowNow rowOf isCard
-  message-own b protected draws (reading.Accept g) s = record { theirs = refl; deed = refl; kept = tt }
+  unfolding crosses reachOf messageEffect acceptEffect rejectEffect rowWork rowNow rowOf isCard
+  message-own b protected draws (reading.Accept g) s = rw (no-reach (eqb protected 0)) (record { theirs = refl; deed = refl; kept = tt })
   message-own b protected draws (reading.Reject k) s = record {
     theirs =
         across-rows (isCard (k .cause)) (isNetworkNo (k .cause)) (both (isAreaNo (k .cause)) (eqb b 0)) (isN1No b (k .cause)) (isCongested (k .cause) (ltb 0 (k .t3346length)))
         (isProtocol (k .cause)) (eqb protected 0)
-        (eqb (accessOf (r .hot) b .net) (r .hot .dev .home)) (ltb (accessOf (r .hot) b .cardcounter) limit) limit (otherOf (r .hot) b);
-    deed = refl;
+        (eqb (accessOf (r .hot) b .net) (r .hot .dev .home)) (ltb (accessOf (r .hot) b .cardcounter) limit) limit (otherOf (r .hot) b)
+        ∙ ap still (numbers-by (eqb protected 0) (isCard (k .cause)) (eqb (k .cause) 27) limit (otherOf (r .hot) b));
+    deed =
+        ap (λ (s : Bool). cond {A = Deed} s (deed.ToLimit (accessOf (r .hot) b .net)) deed.Nothing)
+        (row-across b protected (eqb protected 0) (eqb (accessOf (r .hot) b .net) (r .hot .dev .home)) (ltb (accessOf (r .hot) b .cardcounter) limit) (ltb 0 (k .t3346length)) (k .cause))
+        ∙ card-deed (k .cause) (eqb protected 0) (accessOf (r .hot) b .net);
     kept = tt;
   }
-  message-own b protected draws (reading.Bad f at) s = record { theirs = refl; deed = refl; kept = tt }
+  message-own b protected draws (reading.Bad f at) s = rw (no-reach (eqb protected 0)) (record { theirs = refl; deed = refl; kept = tt })
 
   -- T3512 out changes numbers of the device alone, the timers of an access those of their own
-  timer-own : (number b : ℕ) → eqb number 4 ≡ false → Own b false (timerEffect (r .hot) number b)
+  timer-own : (number b : ℕ) → eqb number 4 ≡ false → Own b untouched (timerEffect (r .hot) number b)
   unfolding timerEffect isDeviceTimer deviceEffect t3512Effect clockEffect
   timer-own number b q = go (eqb number 5) refl
     where
-      go : (s : Bool) → eqb number 5 ≡ s → Own b false (timerEffect (r .hot) number b)
+      go : (s : Bool) → eqb number 5 ≡ s → Own b untouched (timerEffect (r .hot) number b)
       go true q′ = rw (q, q′) (record { theirs = refl; deed = refl; kept = tt })
       go false q′ = rw (q, q′) (record { theirs = refl; deed = refl; kept = tt })
 
@@ -133,24 +186,30 @@ module _ (r : Record) where
   event-own Unknown s octets o = absurd (false≢true o)
 
   module _ (e : Event) (octets : List ℕ) (w : ℕ) (hw : w < 2) (q : eqb (accessIn e) w ≡ false) where
-    abbrev crossed : Bool
+    abbrev crossed : Reach
     crossed = crosses e (readingOf octets)
+
+    abbrev n1limit : ℕ
+    n1limit = r .hot .dev .n1limit
+
+    -- the pending network of the event's access
+    abbrev net : ℕ
+    net = accessOf (r .hot) (accessIn e) .net
 
     module _ (o : isOwn e ≡ true) (t : isTaken (answeredBy r e octets) ≡ true) where
       effect-own : Own (accessIn e) crossed (effectIn r e octets)
       effect-own = event-own e (seenAt r e) octets o
 
-      numbers-after : accessOf (next r e octets .hot) w ≡ cond crossed (counted limit (accessOf (r .hot) w)) (accessOf (r .hot) w)
+      numbers-after : accessOf (next r e octets .hot) w ≡ numbersBy crossed limit (accessOf (r .hot) w)
       numbers-after =
           taken-access r e octets t (small r e octets t) w hw
           ∙ ap (λ (s : Bool). cond s (clocked (effectIn r e octets .mine .orders) (effectIn r e octets .mine .access)) (clocked (effectIn r e octets .theirs .orders) (effectIn r e octets .theirs .access))) q
           ∙ ap (λ (u : Turn). clocked (u .orders) (u .access)) (effect-own .theirs)
-          ∙ still-is (cond crossed (counted limit (otherOf (r .hot) (accessIn e))) (otherOf (r .hot) (accessIn e)))
-          ∙ ap (λ (a : Access). cond crossed (counted limit a) a) (other-of (r .hot) (accessIn e) w (small r e octets t) hw q)
+          ∙ still-is (numbersBy crossed limit (otherOf (r .hot) (accessIn e)))
+          ∙ ap (λ (a : Access). numbersBy crossed limit a) (other-of (r .hot) (accessIn e) w (small r e octets t) hw q)
 
-      entries-same : entriesIn (next r e octets) w ≡ entriesIn r w
-      unfolding entriesAfter
-      entries-same = taken-entries r e octets t w hw ∙ rw (q, effect-own .deed)
+      entries-after : entriesIn (next r e octets) w ≡ entriesAfter (deedBy crossed net) (accessOf (r .hot) w .entries) (r .hot .dev .banlimit) n1limit (entriesIn r w)
+      entries-after = taken-entries r e octets t w hw ∙ rw (q, effect-own .deed)
 
       guti-same : cond (eqb w 0) (next r e octets .guti0) (next r e octets .guti1) ≡ cond (eqb w 0) (r .guti0) (r .guti1)
       unfolding takenPlan
@@ -164,30 +223,37 @@ module _ (r : Record) where
           ap (λ (x : Outcome). cond (eqb w 0) (x .next .equivalents0) (x .next .equivalents1)) (taken-plan r e octets t) ∙ carry-equivalents r octets (plan r e octets) w hw
           ∙ rw (q, kept-networks (effectIn r e octets .work .keep) octets (cond (eqb w 0) (r .equivalents0) (r .equivalents1)) (effect-own .kept))
 
-      taken-half : halfOf (next r e octets) w ≡ halfAfter crossed limit (halfOf r w)
-      unfolding halfOf halfAfter
-      taken-half = halves numbers-after entries-same guti-same networks-same
+      half-after : (c : Reach) → halfAfter c limit n1limit net (halfOf r w) ≡ record {
+        numbers = numbersBy c limit (accessOf (r .hot) w);
+        entries = entriesAfter (deedBy c net) (accessOf (r .hot) w .entries) (r .hot .dev .banlimit) n1limit (entriesIn r w);
+        guti = cond (eqb w 0) (r .guti0) (r .guti1);
+        equivalents = cond (eqb w 0) (r .equivalents0) (r .equivalents1);
+      }
+      unfolding halfOf halfAfter entriesAfter
+      half-after untouched = refl
+      half-after cardCounterToLimit = refl
+      half-after n1CounterToLimit = refl
 
-    -- An event of one access, taken or refused, leaves the other access's whole record, but for its card counter after a taken protected 3, 6 or 7.
-    pub own-apart : isOwn e ≡ true → halfOf (stepOf r e octets .next) w ≡ halfAfter (both (isTaken (stepOf r e octets .reply .answer)) crossed) limit (halfOf r w)
+      taken-half : halfOf (next r e octets) w ≡ halfAfter crossed limit n1limit net (halfOf r w)
+      unfolding halfOf
+      taken-half = halves numbers-after entries-after guti-same networks-same ∙ sym (half-after crossed)
+
+    -- An event of one access, taken or refused, leaves the other access's whole record, but for its card counter after a taken protected 3, 6 or 7, and the N1 counter
+    -- of the network, where it has an entry, after a taken protected 27.
+    pub own-apart : isOwn e ≡ true
+        → halfOf (stepOf r e octets .next) w ≡ halfAfter (cond (isTaken (stepOf r e octets .reply .answer)) crossed untouched) limit n1limit net (halfOf r w)
     unfolding stepOf refusedReply isTaken halfAfter
     own-apart o = go (validOf r) refl (isTaken (answeredBy r e octets)) refl
       where
         go : (s : Bool) → validOf r ≡ s → (s′ : Bool) → isTaken (answeredBy r e octets) ≡ s′
-            → halfOf (stepOf r e octets .next) w ≡ halfAfter (both (isTaken (stepOf r e octets .reply .answer)) crossed) limit (halfOf r w)
+            → halfOf (stepOf r e octets .next) w ≡ halfAfter (cond (isTaken (stepOf r e octets .reply .answer)) crossed untouched) limit n1limit net (halfOf r w)
         go true v true t = rw (v, answer-told r e octets, t) (taken-half o t)
         go true v false t = rw (v, answer-told r e octets, t) (ap (λ (x : Outcome). halfOf (x .next) w) (refused r e octets t))
         go false v s′ t = rw v
 
 -- so an unprotected message leaves all of it
-bare-half : (t c : Bool) (limit : ℕ) (x : Half) → halfAfter (both t (both c false)) limit x ≡ x
-unfolding halfAfter
-bare-half true true limit x = refl
-bare-half true false limit x = refl
-bare-half false c limit x = refl
-
 pub apart : (r : Record) (b : ℕ) (draws : Draws) (octets : List ℕ) (w : ℕ) → w < 2 → eqb b w ≡ false → halfOf (stepOf r (Message b 0 draws) octets .next) w ≡ halfOf r w
-unfolding isOwn crosses accessIn
+unfolding isOwn crosses accessIn halfAfter
 apart r b draws octets w hw q =
     own-apart r (Message b 0 draws) octets w hw q refl
-    ∙ bare-half (isTaken (stepOf r (Message b 0 draws) octets .reply .answer)) (refusesCard (readingOf octets)) (r .hot .dev .cardlimit) (halfOf r w)
+    ∙ ap (λ (c : Reach). halfAfter c (r .hot .dev .cardlimit) (r .hot .dev .n1limit) (accessOf (r .hot) b .net) (halfOf r w)) (no-reach (isTaken (stepOf r (Message b 0 draws) octets .reply .answer)))

@@ -1,26 +1,25 @@
 -- What each deed on an access's entries makes of the cell of each network: column by column. Assumes nothing.
 use Prim.Native.Nat.{ℕ, _+_, _<_}
 use mathlib.Core.Path.{_≡_, refl, _∙_, ap}
-use mathlib.Core.Bool.{Bool, true, false, cond, not}
+use mathlib.Core.Bool.{Bool, true, false, cond, not, _&&_, _||_}
 use mathlib.Core.List.{List}
-use native.Mathlib.Omega.{arith}
 use lib.Dec.{leb, ltb, eqb}
 use lib.ListN.{length}
-use borrow.Author.Tests.{ltb-true, ltb-false, eqb-true}
+use borrow.Author.Tests.{ltb-false, eqb-true}
 use Rattle.entries.specs.declared.Entries.{Entries}
 use Rattle.entries.specs.declared.Seat.{Seat}
 use Rattle.entries.specs.declared.Deed.{Deed}
 use Rattle.entries.specs.declared.Deed.the-variants as deed
-use Rattle.entries.specs.Entries.{entriesHeld, placeIn, hasEntry, peekAt, liftMark, bumped, putAt, raised, unforbidden, swept, powered, none}
+use Rattle.entries.specs.Entries.{entriesHeld, placeIn, hasEntry, peekAt, liftMark, bumped, putAt, raised, unforbidden, n1ToLimit, swept, powered, none}
 use Rattle.entries.specs.Entries as entries
 use Rattle.validity.specs.Sized.{Columns}
 use Rattle.validity.proofs.Setters.{grown}
 use Rattle.validity.proofs.Own.{seatIn}
 use Rattle.history.specs.Cell.{columnIn, cellIn}
-use Rattle.history.specs.History.{Cell, Limits, News}
-use Rattle.history.proofs.Said.{raise, cell, blank, countAfter, markAfter, cellAfter, banned, barred, ended, quiet}
+use Rattle.history.specs.History.{Cell, Limits, News, isPut, puts}
+use Rattle.history.proofs.Said.{raise, cell, blank, countAfter, markAfter, cellAfter, banned, barred, reached, ended, quiet}
 use Rattle.history.proofs.Said as history
-use Rattle.history.proofs.Columns.{room, touched, spared, column-set, column-zero, column-upto, missed, put-in, size-fits}
+use Rattle.history.proofs.Columns.{room, touched, spared, held-after, column-if, column-zero, column-upto, missed}
 
 -- protected or not: the two ways to say it
 raise-is : (limit protected n : ℕ) → bumped limit protected n ≡ raise limit (not (eqb protected 0)) n
@@ -51,6 +50,17 @@ cell-none count m =
 lift-zero : (limit : ℕ) → liftMark limit 0 0 ≡ 0
 unfolding liftMark
 lift-zero limit = refl
+
+-- a protected 27 over the other access reaches a network that has an entry, and its N1 counter alone
+reached-if : (l : Limits) (b : Bool) (c : Cell) → cell (c .ban) (cond b (l .n1) (c .n1)) (c .forbidden) (c .barred) ≡ cellAfter l (cond b reached quiet) c
+unfolding cellAfter countAfter markAfter
+reached-if l true c = refl
+reached-if l false c = refl
+
+cell-limited : (l : Limits) (count net : ℕ) (t : Entries) → Columns t → (m : ℕ)
+    → cellIn count (n1ToLimit net count (l .n1) t) m ≡ cellAfter l (cond (eqb net m && hasEntry count m (t .nets)) reached quiet) (cellIn count t m)
+unfolding cellIn n1ToLimit
+cell-limited l count net t w m = cells refl (column-if count (t .nets) net (t .n1s) (w .n1s) (l .n1) m) refl refl ∙ reached-if l (eqb net m && hasEntry count m (t .nets)) (cellIn count t m)
 
 cell-swept : (l : Limits) (count : ℕ) (t : Entries) → Columns t → (m : ℕ) → cellIn count (swept count (l .ban) (l .n1) t) m ≡ cellAfter l ended (cellIn count t m)
 unfolding cellIn swept countAfter markAfter cellAfter
@@ -114,21 +124,19 @@ module _ (l : Limits) (count net protected : ℕ) (t : Entries) (w : Columns t) 
   unfolding cellIn unforbidden hasEntry countAfter markAfter cellAfter
   cell-accepted m = go (eqb net m) refl
     where
-      unmark : (b : Bool) → ltb at (entriesHeld count) ≡ b
-          → columnIn count (t .nets) (cond found (putAt (t .forbidden) at 0) (t .forbidden)) m ≡ cond (eqb net m) 0 (columnIn count (t .nets) (t .forbidden) m)
-      unmark true q =
-          let h : at < entriesHeld count = ltb-true at (entriesHeld count) q in
-          rw (q, put-in (t .forbidden) at 0 (omega (arith, size-fits count))) (column-set count (t .nets) net h (t .forbidden) (w .forbidden) 0 m)
-      unmark false q = rw q (zero′ (eqb net m) refl)
+      unmark : columnIn count (t .nets) (cond found (putAt (t .forbidden) at 0) (t .forbidden)) m ≡ cond (eqb net m) 0 (columnIn count (t .nets) (t .forbidden) m)
+      unmark = column-if count (t .nets) net (t .forbidden) (w .forbidden) 0 m ∙ anyway (eqb net m) (ltb (placeIn count m (t .nets)) (entriesHeld count)) refl
         where
-          zero′ : (b : Bool) → eqb net m ≡ b → columnIn count (t .nets) (t .forbidden) m ≡ cond (eqb net m) 0 (columnIn count (t .nets) (t .forbidden) m)
-          zero′ true e = rw e (rw (eqb-true net m e) at (missed count (t .nets) net (ltb-false at (entriesHeld count) q) (t .forbidden)))
-          zero′ false e = rw e
+          anyway : (b b′ : Bool) → ltb (placeIn count m (t .nets)) (entriesHeld count) ≡ b′
+              → cond (b && b′) 0 (columnIn count (t .nets) (t .forbidden) m) ≡ cond b 0 (columnIn count (t .nets) (t .forbidden) m)
+          anyway true true q = refl
+          anyway true false q = missed count (t .nets) m (ltb-false (placeIn count m (t .nets)) (entriesHeld count) q) (t .forbidden)
+          anyway false b′ q = refl
 
       go : (b : Bool) → eqb net m ≡ b
           → cellIn count (unforbidden seat t) m ≡ cellAfter l (cond (eqb net m) history.accepted quiet) (cellIn count t m)
-      go true q = rw q (cells refl refl (rw q at (unmark (ltb at (entriesHeld count)) refl)) refl)
-      go false q = rw q (cells refl refl (rw q at (unmark (ltb at (entriesHeld count)) refl)) refl)
+      go true q = rw q (cells refl refl (rw q at unmark) refl)
+      go false q = rw q (cells refl refl (rw q at unmark) refl)
 
 -- how many entries there are after a deed
 abbrev pub countBy : Deed → ℕ → ℕ
@@ -136,6 +144,7 @@ countBy deed.Nothing count = count
 countBy (deed.Ban s) count = grown (s .found) count
 countBy (deed.Bar s) count = grown (s .found) count
 countBy (deed.Accept s) count = count
+countBy (deed.ToLimit net) count = count
 countBy deed.Sweep count = count
 countBy deed.Power count = count
 countBy deed.Fresh count = 0
@@ -153,28 +162,56 @@ Fits deed.Nothing count nets = Unit {0}
 Fits (deed.Ban s) count nets = Seated s count nets × Free s count nets
 Fits (deed.Bar s) count nets = Seated s count nets × Free s count nets
 Fits (deed.Accept s) count nets = Seated s count nets
+Fits (deed.ToLimit net) count nets = Unit {0}
 Fits deed.Sweep count nets = Unit {0}
 Fits deed.Power count nets = Unit {0}
 Fits deed.Fresh count nets = ⊥
 
--- what a deed is for network n
-abbrev pub deedNews : Deed → ℕ → News
-deedNews deed.Nothing n = quiet
-deedNews (deed.Ban s) n = cond (eqb (s .net) n) (banned (not (eqb (s .protected) 0))) quiet
-deedNews (deed.Bar s) n = cond (eqb (s .net) n) (barred (not (eqb (s .protected) 0))) quiet
-deedNews (deed.Accept s) n = cond (eqb (s .net) n) history.accepted quiet
-deedNews deed.Sweep n = ended
-deedNews deed.Power n = history.cycled
-deedNews deed.Fresh n = quiet
+-- what a deed is for network n, which has an entry or not
+abbrev pub deedNews : Deed → Bool → ℕ → News
+deedNews deed.Nothing held n = quiet
+deedNews (deed.Ban s) held n = cond (eqb (s .net) n) (banned (not (eqb (s .protected) 0))) quiet
+deedNews (deed.Bar s) held n = cond (eqb (s .net) n) (barred (not (eqb (s .protected) 0))) quiet
+deedNews (deed.Accept s) held n = cond (eqb (s .net) n) history.accepted quiet
+deedNews (deed.ToLimit net) held n = cond (eqb net n && held) reached quiet
+deedNews deed.Sweep held n = ended
+deedNews deed.Power held n = history.cycled
+deedNews deed.Fresh held n = quiet
 
 -- every deed, and every network
 pub deed-cell : (l : Limits) (k : Deed) (count : ℕ) (t : Entries) → Columns t → Fits k count (t .nets) → (n : ℕ)
-    → cellIn (countBy k count) (entries.entriesAfter k count (l .ban) (l .n1) t) n ≡ cellAfter l (deedNews k n) (cellIn count t n)
+    → cellIn (countBy k count) (entries.entriesAfter k count (l .ban) (l .n1) t) n ≡ cellAfter l (deedNews k (hasEntry count n (t .nets)) n) (cellIn count t n)
 unfolding entries.entriesAfter hasEntry cellAfter countAfter markAfter
 deed-cell l deed.Nothing count t w f n = refl
 deed-cell l (deed.Ban s) count t w f n = rw (f .0) (cell-banned l count (s .net) (s .protected) t w (room count (s .net) (t .nets) (f .1)) n)
 deed-cell l (deed.Bar s) count t w f n = rw (f .0) (cell-barred l count (s .net) (s .protected) t w (room count (s .net) (t .nets) (f .1)) n)
 deed-cell l (deed.Accept s) count t w f n = rw f (cell-accepted l count (s .net) (s .protected) t w n)
+deed-cell l (deed.ToLimit net) count t w f n = cell-limited l count net t w n
 deed-cell l deed.Sweep count t w f n = cell-swept l count t w n
 deed-cell l deed.Power count t w f n = cell-cycled l count t w n
 deed-cell l deed.Fresh count t w f n = absurd f
+
+-- who has an entry after it: those who had one, and whom it puts on a list
+puts-if : (b : Bool) (d : News) → puts d ≡ true → puts (cond b d quiet) ≡ b
+unfolding puts isPut
+puts-if true d e = e
+puts-if false d e = refl
+
+puts-none : (b : Bool) (d : News) → puts d ≡ false → puts (cond b d quiet) ≡ false
+unfolding puts isPut
+puts-none true d e = e
+puts-none false d e = refl
+
+pub deed-held : (l : Limits) (k : Deed) (count : ℕ) (t : Entries) → Columns t → Fits k count (t .nets) → (held : Bool) (n : ℕ)
+    → hasEntry (countBy k count) n (entries.entriesAfter k count (l .ban) (l .n1) t .nets) ≡ (puts (deedNews k held n) || hasEntry count n (t .nets))
+unfolding entries.entriesAfter entries.banned entries.barredBy unforbidden n1ToLimit swept powered hasEntry puts isPut
+deed-held l deed.Nothing count t w f held n = refl
+deed-held l (deed.Ban s) count t w f held n =
+    rw (puts-if (eqb (s .net) n) (banned (not (eqb (s .protected) 0))) refl, f .0) (held-after count (s .net) (t .nets) (w .nets) (room count (s .net) (t .nets) (f .1)) n)
+deed-held l (deed.Bar s) count t w f held n =
+    rw (puts-if (eqb (s .net) n) (barred (not (eqb (s .protected) 0))) refl, f .0) (held-after count (s .net) (t .nets) (w .nets) (room count (s .net) (t .nets) (f .1)) n)
+deed-held l (deed.Accept s) count t w f held n = rw (puts-none (eqb (s .net) n) history.accepted refl)
+deed-held l (deed.ToLimit net) count t w f held n = rw (puts-none (eqb net n && held) reached refl)
+deed-held l deed.Sweep count t w f held n = refl
+deed-held l deed.Power count t w f held n = refl
+deed-held l deed.Fresh count t w f held n = absurd f

@@ -2,12 +2,12 @@
 -- or at the first free one where it has none, changes what is read of it alone. Assumes nothing.
 use Prim.Native.Nat.{ℕ, zero, suc, _+_, _≤_, _<_}
 use mathlib.Core.Path.{_≡_, refl, sym, _∙_, ap}
-use mathlib.Core.Bool.{Bool, true, false, cond}
+use mathlib.Core.Bool.{Bool, true, false, cond, _&&_, _||_}
 use mathlib.Core.List.{List}
 use mathlib.Core.Logic.{_≢_}
 use native.Mathlib.Omega.{arith}
 use lib.Dec.{leb, ltb, eqb}
-use lib.ListN.{length, getD, set}
+use lib.ListN.{length, getD, set, replicate, length-replicate, getD-replicate}
 use lib.Seq.{getD-set-same, getD-set-other, set-getD}
 use borrow.Author.Tests.{leb-false, ltb-true, ltb-false, lt-ltb, le-ltb, eqb-true, eqb-false}
 use Rattle.laws.specs.Upto.{upto, seekTo}
@@ -17,13 +17,14 @@ use Rattle.validity.proofs.Bools.{most-fits}
 use Rattle.validity.proofs.Arrays.{seek-le, seek-found, seek-before, seek-is, upto-reads}
 use Rattle.validity.proofs.Setters.{grown}
 use Rattle.history.specs.Cell.{columnIn}
+use Rattle.history.specs.History.{markOf}
 
 zero-at : (n k : ℕ) → getD (zeros n) k 0 ≡ 0
 zero-at zero k = refl
 zero-at (suc n) zero = refl
 zero-at (suc n) (suc k) = zero-at n k
 
-pub size-fits : (count : ℕ) → entriesHeld count ≤ 16
+size-fits : (count : ℕ) → entriesHeld count ≤ 16
 unfolding entriesHeld
 size-fits count = most-fits 16 count
 
@@ -47,6 +48,11 @@ peek-out : (xs : List ℕ) (at n : ℕ) → n ≤ at → peekAt xs at n ≡ 0
 unfolding peekAt
 peek-out xs at n h = rw (le-ltb at n h)
 
+-- with no entry in use none has one
+pub none-held : (net : ℕ) (nets : List ℕ) → hasEntry 0 net nets ≡ false
+unfolding hasEntry entriesHeld
+none-held net nets = le-ltb (placeIn 0 net nets) 0 (omega arith)
+
 -- a network that has an entry, or finds a free one, has a place
 pub room : (count net : ℕ) (nets : List ℕ) → (hasEntry count net nets ≡ false → leb 16 count ≡ false) → placeIn count net nets < 16
 unfolding hasEntry placeIn
@@ -56,7 +62,7 @@ room count net nets f = go (ltb (seekTo (sameNet net) (entriesHeld count) nets) 
     go true q = omega (arith, ltb-true (seekTo (sameNet net) (entriesHeld count) nets) (entriesHeld count) q, size-fits count)
     go false q = let h : count < 16 = leb-false 16 count (f q) in omega (arith, seek-le (sameNet net) (entriesHeld count) nets, size-is count h)
 
-pub put-in : (xs : List ℕ) (at v : ℕ) → at < 16 → putAt xs at v ≡ set xs at v
+put-in : (xs : List ℕ) (at v : ℕ) → at < 16 → putAt xs at v ≡ set xs at v
 unfolding putAt
 put-in xs at v h = rw (lt-ltb at 16 h)
 
@@ -92,7 +98,7 @@ module _ (count : ℕ) (nets : List ℕ) where
   found-net m h = eqb-true (getD nets (seekTo (sameNet m) (entriesHeld count) nets) 0) m (seek-found (sameNet m) (entriesHeld count) nets h)
 
   -- a store at the place of a network that has an entry
-  pub column-set : (net : ℕ) → placeIn count net nets < entriesHeld count → (xs : List ℕ) → length xs ≡ 16 → (v m : ℕ)
+  column-set : (net : ℕ) → placeIn count net nets < entriesHeld count → (xs : List ℕ) → length xs ≡ 16 → (v m : ℕ)
       → columnIn count nets (set xs (placeIn count net nets) v) m ≡ cond (eqb net m) v (columnIn count nets xs m)
   column-set net h xs l v m = go (eqb net m) refl (ltb here size) refl
     where
@@ -115,6 +121,29 @@ module _ (count : ℕ) (nets : List ℕ) where
       go false q false q′ =
           let g : size ≤ here = ltb-false here size q′ in
           rw (q, peek-out (set xs at v) here size g, peek-out xs here size g)
+
+  -- the same, if the network has one
+  pub column-if : (net : ℕ) (xs : List ℕ) → length xs ≡ 16 → (v m : ℕ)
+      → columnIn count nets (cond (hasEntry count net nets) (putAt xs (placeIn count net nets) v) xs) m ≡ cond (eqb net m && hasEntry count m nets) v (columnIn count nets xs m)
+  unfolding hasEntry
+  column-if net xs l v m = go (eqb net m) refl (ltb at size) refl
+    where
+      at : ℕ
+      at = placeIn count net nets
+
+      size : ℕ
+      size = entriesHeld count
+
+      go : (b : Bool) → eqb net m ≡ b → (b′ : Bool) → ltb at size ≡ b′
+          → columnIn count nets (cond (ltb at size) (putAt xs at v) xs) m ≡ cond (eqb net m && ltb (placeIn count m nets) size) v (columnIn count nets xs m)
+      go true q true q′ =
+          let h : at < size = ltb-true at size q′ in
+          rw (q′, put-in xs at v (omega (arith, size-fits count))) (column-set net h xs l v m ∙ rw (q, ← eqb-true net m q, q′))
+      go false q true q′ =
+          let h : at < size = ltb-true at size q′ in
+          rw (q′, put-in xs at v (omega (arith, size-fits count))) (column-set net h xs l v m ∙ rw q)
+      go true q false q′ = rw (q, ← eqb-true net m q, q′)
+      go false q false q′ = rw (q, q′)
 
   -- a network that has none
   pub missed : (m : ℕ) → entriesHeld count ≤ placeIn count m nets → (xs : List ℕ) → columnIn count nets xs m ≡ 0
@@ -191,6 +220,35 @@ module _ (count : ℕ) (nets : List ℕ) (l : length nets ≡ 16) (room : count 
           let h : count ≤ was m = ltb-false (was m) count q′ in
           rw (q, no-place m h q, peek-out (set xs count v) (suc count) (suc count) (omega arith), peek-out xs (was m) count h)
 
+-- A column of ones tells who has an entry.
+abbrev ones : List ℕ
+ones = replicate 16 1
+
+one-at : (k : ℕ) → k < 16 → getD ones k 0 ≡ 1
+one-at k h = getD-replicate {A = ℕ} 16 k 1 0 h
+
+ones-put : (at : ℕ) → at < 16 → putAt ones at 1 ≡ ones
+ones-put at h = put-in ones at 1 h ∙ ap (λ (n : ℕ). set ones at n) (sym (one-at at h)) ∙ set-getD ones at 0
+
+entry-one : (count : ℕ) (nets : List ℕ) (m : ℕ) → columnIn count nets ones m ≡ markOf (hasEntry count m nets)
+unfolding peekAt hasEntry
+entry-one count nets m = go (ltb (placeIn count m nets) (entriesHeld count)) refl
+  where
+    go : (b : Bool) → ltb (placeIn count m nets) (entriesHeld count) ≡ b
+        → cond (ltb (placeIn count m nets) (entriesHeld count)) (getD ones (placeIn count m nets) 0) 0 ≡ markOf (ltb (placeIn count m nets) (entriesHeld count))
+    go true q = rw q (one-at (placeIn count m nets) (omega (arith, ltb-true (placeIn count m nets) (entriesHeld count) q, size-fits count)))
+    go false q = rw q
+
+same-mark : (a b : Bool) → markOf a ≡ markOf b → a ≡ b
+same-mark true true e = refl
+same-mark true false e = absurd (omega arith)
+same-mark false true e = absurd (omega arith)
+same-mark false false e = refl
+
+either-mark : (a b : Bool) → cond a 1 (markOf b) ≡ markOf (a || b)
+either-mark true b = refl
+either-mark false b = refl
+
 -- A store at a network's place, found or new, as a ban or a bar makes it.
 module _ (count net : ℕ) (nets : List ℕ) (l : length nets ≡ 16) (room : placeIn count net nets < 16) where
   abbrev at : ℕ
@@ -238,3 +296,10 @@ module _ (count net : ℕ) (nets : List ℕ) (l : length nets ≡ 16) (room : pl
           zero′ : (b : Bool) → eqb net m ≡ b → cond (eqb net m) 0 (columnIn count nets xs m) ≡ columnIn count nets xs m
           zero′ true e = rw e (rw (eqb-true net m e) at (sym (missed count nets net (ltb-false at (entriesHeld count) q) xs)))
           zero′ false e = rw e
+
+  -- the networks that have an entry after it: one more
+  pub held-after : (m : ℕ) → hasEntry (grown found count) m (putAt nets at net) ≡ (eqb net m || hasEntry count m nets)
+  held-after m = same-mark _ _ (sym (entry-one (grown found count) (putAt nets at net) m) ∙ put-one ∙ ap (λ (n : ℕ). cond (eqb net m) 1 n) (entry-one count nets m) ∙ either-mark (eqb net m) (hasEntry count m nets))
+    where
+      put-one : columnIn (grown found count) (putAt nets at net) ones m ≡ cond (eqb net m) 1 (columnIn count nets ones m)
+      put-one = ap (λ (xs : List ℕ). columnIn (grown found count) (putAt nets at net) xs m) (sym (ones-put at room)) ∙ touched ones (length-replicate {A = ℕ} 16 1) 1 m

@@ -2,7 +2,7 @@
 -- network's cell is what the history says. Assumes nothing.
 use Prim.Native.Nat.{ℕ, _<_}
 use mathlib.Core.Path.{_≡_, refl, sym, _∙_, ap}
-use mathlib.Core.Bool.{Bool, true, false, cond, not, true≢false, false≢true, _&&_}
+use mathlib.Core.Bool.{Bool, true, false, cond, not, true≢false, false≢true, _&&_, _||_}
 use mathlib.Core.List.{List}
 use lib.Dec.{ltb, eqb}
 use borrow.Author.Tests.{eqb-true}
@@ -13,7 +13,7 @@ use Rattle.entries.specs.declared.Deed.{Deed}
 use Rattle.entries.specs.declared.Deed.the-variants as deed
 use Rattle.entries.specs.declared.Seen.{Seen}
 use Rattle.entries.specs.declared.Seat.{Seat}
-use Rattle.entries.specs.Entries.{seatOf, entriesAfter}
+use Rattle.entries.specs.Entries.{hasEntry, seatOf, entriesAfter}
 use Rattle.messages.specs.declared.Reject.{Reject}
 use Rattle.messages.specs.declared.Reading.{Reading}
 use Rattle.messages.specs.declared.Reading.the-variants as reading
@@ -21,6 +21,7 @@ use Rattle.messages.specs.Message.{readingOf}
 use Rattle.turns.specs.Timers.{isDeviceTimer}
 use Rattle.turns.specs.declared.Row.{Row}
 use Rattle.turns.specs.declared.Draws.{Draws}
+use Rattle.turns.specs.Rejects.{acrossN1}
 use Rattle.checks.specs.Answers.{rowNow, readAnswer}
 use Rattle.effects.specs.Effects.{cardEffect, startEffect, updateEffect, keyEffect, acceptEffect, clockEffect, t3247Effect, t3512Effect, deviceEffect, timerEffect, powerEffect, rowWork, rejectEffect}
 use Rattle.rules.specs.declared.Event.{Event}
@@ -29,20 +30,21 @@ use Rattle.rules.specs.Plan.{accessIn, answerOf, messageEffect, effectOf}
 use Rattle.validity.specs.Answered.{seenAt, answeredBy}
 use Rattle.validity.specs.Sized.{Columns}
 use Rattle.validity.proofs.Taken.{message-passed, reject-passed}
-use Rattle.history.specs.Cell.{cellIn, entriesIn, cellOf}
-use Rattle.history.specs.History.{News, causeNews, messageNews, isCardChange, eventNews}
-use Rattle.history.proofs.Said.{cellAfter, blank, ended, quiet}
+use Rattle.history.specs.Cell.{cellIn, entriesIn, cellOf, heldIn}
+use Rattle.history.specs.History.{News, causeNews, acrossNews, messageNews, isCardChange, eventNews, puts}
+use Rattle.history.proofs.Said.{cellAfter, blank, accepted, ended, quiet}
 use Rattle.history.proofs.Octets.{readNews, isRead, octets-news}
-use Rattle.history.proofs.Cells.{Fits, deedNews, cell-none, deed-cell}
+use Rattle.history.proofs.Cells.{Fits, deedNews, cell-none, deed-cell, deed-held, countBy}
+use Rattle.history.proofs.Columns.{none-held}
 use Rattle.history.proofs.Next.{next, deedIn, limitsOf, columns}
-use Rattle.history.proofs.Rows.{rowNews, row-news, row-deed, row-fits}
+use Rattle.history.proofs.Rows.{rowNews, row-news, row-deed, still-quiet, row-across, across-deed, row-fits}
 use Rattle.history.proofs.Stays.{small, seen-seat}
 use Rattle.history.proofs.Table.{event-table}
 
 -- a deed on one access and one on the other
-either-news : (s : Bool) (k k′ : Deed) (n : ℕ) (d : News) → (s ≡ true → deedNews k n ≡ d) → (s ≡ false → deedNews k′ n ≡ d) → deedNews (cond s k k′) n ≡ d
-either-news true k k′ n d f f′ = f refl
-either-news false k k′ n d f f′ = f′ refl
+either-news : (s : Bool) (k k′ : Deed) (held : Bool) (n : ℕ) (d : News) → (s ≡ true → deedNews k held n ≡ d) → (s ≡ false → deedNews k′ held n ≡ d) → deedNews (cond s k k′) held n ≡ d
+either-news true k k′ held n d f f′ = f refl
+either-news false k k′ held n d f f′ = f′ refl
 
 either-fits : (s : Bool) (k k′ : Deed) (count : ℕ) (nets : List ℕ) → (s ≡ true → Fits k count nets) → (s ≡ false → Fits k′ count nets) → Fits (cond s k k′) count nets
 either-fits true k k′ count nets f f′ = f refl
@@ -74,12 +76,12 @@ module _ (r : Record) (b protected : ℕ) (draws : Draws) where
       go false q = rw q
 
   -- the message's own access: by what was read
-  own-news : (m : Reading) → isRead m ≡ true → (n : ℕ)
-      → deedNews (messageEffect (r .hot) b protected draws m sight .work .mine) n ≡ cond (eqb net n) (readNews (eqb n (r .hot .dev .home)) b is-protected m) quiet
+  own-news : (m : Reading) → isRead m ≡ true → (held : Bool) (n : ℕ)
+      → deedNews (messageEffect (r .hot) b protected draws m sight .work .mine) held n ≡ cond (eqb net n) (readNews accepted (causeNews (eqb n (r .hot .dev .home)) b is-protected) m) quiet
   unfolding messageEffect acceptEffect rejectEffect rowWork readNews isRead
-  own-news (reading.Accept g) t n = refl
-  own-news (reading.Reject k) t n = row-deed (here k) (seatOf sight net protected) n ∙ said-same k n
-  own-news (reading.Bad f at) t n = absurd (false≢true t)
+  own-news (reading.Accept g) t held n = refl
+  own-news (reading.Reject k) t held n = row-deed (here k) (seatOf sight net protected) held n ∙ said-same k n
+  own-news (reading.Bad f at) t held n = absurd (false≢true t)
 
   own-fits : b < 2 → (m : Reading) → isTaken (readAnswer (r .hot) b protected m sight) ≡ true
       → Fits (messageEffect (r .hot) b protected draws m sight .work .mine) (accessOf (r .hot) b .entries) (entriesIn r b .nets)
@@ -90,12 +92,26 @@ module _ (r : Record) (b protected : ℕ) (draws : Draws) where
       (λ need none. reject-passed (r .hot) b protected k sight t need (ap (λ (s : Seat). s .found) (seen-seat r b protected draws hb protected) ∙ none))
   own-fits hb (reading.Bad f at) t = absurd (false≢true t)
 
-  -- the other one: no message reaches its entries
-  others : (m : Reading) → messageEffect (r .hot) b protected draws m sight .work .theirs ≡ deed.Nothing
+  -- the other one: no message reaches its entries but a protected 27
+  others-news : (m : Reading) → isRead m ≡ true → (held : Bool) (n : ℕ)
+      → deedNews (messageEffect (r .hot) b protected draws m sight .work .theirs) held n ≡ cond (eqb net n && held) (readNews quiet (acrossNews is-protected) m) quiet
+  unfolding messageEffect acceptEffect rejectEffect rowWork rowNow readNews isRead acrossNews
+  others-news (reading.Accept g) t held n = still-quiet (eqb net n && held)
+  others-news (reading.Reject k) t held n =
+      rw (row-across b protected (eqb protected 0) (eqb net (r .hot .dev .home)) (ltb (accessOf (r .hot) b .cardcounter) (r .hot .dev .cardlimit)) (ltb 0 (k .t3346length)) (k .cause))
+      (across-deed (eqb (k .cause) 27 && is-protected) net held n)
+  others-news (reading.Bad f at) t held n = absurd (false≢true t)
+
+  -- which fits everywhere
+  across-fits : (s : Bool) (count : ℕ) (nets : List ℕ) → Fits (cond {A = Deed} s (deed.ToLimit net) deed.Nothing) count nets
+  across-fits true count nets = tt
+  across-fits false count nets = tt
+
+  others-fit : (m : Reading) (count : ℕ) (nets : List ℕ) → Fits (messageEffect (r .hot) b protected draws m sight .work .theirs) count nets
   unfolding messageEffect acceptEffect rejectEffect rowWork
-  others (reading.Accept g) = refl
-  others (reading.Reject k) = refl
-  others (reading.Bad f at) = refl
+  others-fit (reading.Accept g) count nets = tt
+  others-fit (reading.Reject k) count nets = across-fits (acrossN1 b protected (k .cause) (here k)) count nets
+  others-fit (reading.Bad f at) count nets = tt
 
   read-of : (m : Reading) → isTaken (readAnswer (r .hot) b protected m sight) ≡ true → isRead m ≡ true
   unfolding readAnswer isRead isTaken
@@ -108,29 +124,34 @@ module _ (r : Record) (b protected : ℕ) (draws : Draws) where
     unfolding answeredBy answerOf
     read-taken = message-passed (r .hot) b protected draws (readingOf octets) sight t .2
 
-    message-news : (w n : ℕ)
-        → deedNews (deedIn r (Message b protected draws) octets w) n
-        ≡ cond (eqb b w && eqb (accessOf (r .hot) w .net) n) (messageNews (eqb n (r .hot .dev .home)) w is-protected octets) quiet
-    unfolding accessIn effectOf
-    message-news w n = either-news (eqb b w) _ _ n _ own other
-      where
-        own : eqb b w ≡ true → deedNews (messageEffect (r .hot) b protected draws (readingOf octets) sight .work .mine) n
-            ≡ cond (eqb b w && eqb (accessOf (r .hot) w .net) n) (messageNews (eqb n (r .hot .dev .home)) w is-protected octets) quiet
-        own q =
-            own-news (readingOf octets) (read-of (readingOf octets) read-taken) n
-            ∙ ap (λ (d : News). cond (eqb net n) d quiet) (sym (octets-news (eqb n (r .hot .dev .home)) b is-protected octets (read-of (readingOf octets) read-taken)))
-            ∙ ap (λ (v : ℕ). cond (eqb (accessOf (r .hot) v .net) n) (messageNews (eqb n (r .hot .dev .home)) v is-protected octets) quiet) (eqb-true b w q) ∙ rw q
+    is-read : isRead (readingOf octets) ≡ true
+    is-read = read-of (readingOf octets) read-taken
 
-        other : eqb b w ≡ false → deedNews (messageEffect (r .hot) b protected draws (readingOf octets) sight .work .theirs) n
-            ≡ cond (eqb b w && eqb (accessOf (r .hot) w .net) n) (messageNews (eqb n (r .hot .dev .home)) w is-protected octets) quiet
-        other q = rw (q, others (readingOf octets))
+    message-news : (held : Bool) (w n : ℕ)
+        → deedNews (deedIn r (Message b protected draws) octets w) held n
+        ≡ eventNews (r .hot .dev .home) (λ (v : ℕ). accessOf (r .hot) v .net) held w n (Message b protected draws) octets
+    unfolding accessIn effectOf eventNews
+    message-news held w n = either-news (eqb b w) _ _ held n _ own other
+      where
+        own : eqb b w ≡ true → deedNews (messageEffect (r .hot) b protected draws (readingOf octets) sight .work .mine) held n
+            ≡ eventNews (r .hot .dev .home) (λ (v : ℕ). accessOf (r .hot) v .net) held w n (Message b protected draws) octets
+        own q =
+            own-news (readingOf octets) is-read held n
+            ∙ ap (λ (d : News). cond (eqb net n) d quiet) (sym (octets-news accepted (causeNews (eqb n (r .hot .dev .home)) b is-protected) octets is-read))
+            ∙ ap (λ (v : ℕ). cond (eqb (accessOf (r .hot) v .net) n) (messageNews accepted (causeNews (eqb n (r .hot .dev .home)) v is-protected) octets) quiet) (eqb-true b w q) ∙ rw q
+
+        other : eqb b w ≡ false → deedNews (messageEffect (r .hot) b protected draws (readingOf octets) sight .work .theirs) held n
+            ≡ eventNews (r .hot .dev .home) (λ (v : ℕ). accessOf (r .hot) v .net) held w n (Message b protected draws) octets
+        other q =
+            rw q (others-news (readingOf octets) is-read held n
+            ∙ ap (λ (d : News). cond (eqb net n && held) d quiet) (sym (octets-news quiet (acrossNews is-protected) octets is-read)))
 
     message-fits : (w : ℕ) → Fits (deedIn r (Message b protected draws) octets w) (accessOf (r .hot) w .entries) (entriesIn r w .nets)
     unfolding accessIn effectOf
     message-fits w =
         either-fits (eqb b w) _ _ (accessOf (r .hot) w .entries) (entriesIn r w .nets)
         (λ q. rw (sym (eqb-true b w q)) (own-fits (small r (Message b protected draws) octets t) (readingOf octets) read-taken))
-        (λ q. rw (others (readingOf octets)) tt)
+        (λ q. others-fit (readingOf octets) (accessOf (r .hot) w .entries) (entriesIn r w .nets))
 
 module _ (r : Record) where
   -- T3247 sweeps both accesses, T3512 and the timers of an access do nothing
@@ -146,26 +167,26 @@ module _ (r : Record) where
       go false q true q′ = rw (q, q′) (refl, refl)
       go false q false q′ = rw (q, q′) (refl, refl)
 
-  timer-news : (s : Bool) (n : ℕ) → deedNews (cond s deed.Sweep deed.Nothing) n ≡ cond s ended quiet
-  timer-news true n = refl
-  timer-news false n = refl
+  timer-news : (s held : Bool) (n : ℕ) → deedNews (cond s deed.Sweep deed.Nothing) held n ≡ cond s ended quiet
+  timer-news true held n = refl
+  timer-news false held n = refl
 
   timer-fits : (s : Bool) (count : ℕ) (nets : List ℕ) → Fits (cond s deed.Sweep deed.Nothing) count nets
   timer-fits true count nets = tt
   timer-fits false count nets = tt
 
-  event-news : (e : Event) (octets : List ℕ) → isTaken (answeredBy r e octets) ≡ true → isCardChange e ≡ false → (w n : ℕ)
-      → deedNews (deedIn r e octets w) n ≡ eventNews (r .hot .dev .home) (λ (v : ℕ). accessOf (r .hot) v .net) w n e octets
+  event-news : (e : Event) (octets : List ℕ) → isTaken (answeredBy r e octets) ≡ true → isCardChange e ≡ false → (held : Bool) (w n : ℕ)
+      → deedNews (deedIn r e octets w) held n ≡ eventNews (r .hot .dev .home) (λ (v : ℕ). accessOf (r .hot) v .net) held w n e octets
   unfolding accessIn effectOf startEffect updateEffect keyEffect powerEffect isCardChange eventNews
-  event-news (Card home) octets t k w n = absurd (true≢false k)
-  event-news (Start b manual net code) octets t k w n = either-news (eqb b w) deed.Nothing deed.Nothing n quiet (λ q. refl) (λ q. refl)
-  event-news (Message b protected draws) octets t k w n = message-news r b protected draws octets t w n
-  event-news (Timer number b) octets t k w n =
-      either-news (eqb b w) _ _ n _ (λ q. rw (timer-deeds number b .0) (timer-news (eqb number 4) n)) (λ q. rw (timer-deeds number b .1) (timer-news (eqb number 4) n))
-  event-news Power octets t k w n = either-news (eqb 0 w) deed.Power deed.Power n _ (λ q. refl) (λ q. refl)
-  event-news (Key b set) octets t k w n = either-news (eqb b w) deed.Nothing deed.Nothing n quiet (λ q. refl) (λ q. refl)
-  event-news (Update b regtype net code uplink sessions) octets t k w n = either-news (eqb b w) deed.Nothing deed.Nothing n quiet (λ q. refl) (λ q. refl)
-  event-news Unknown octets t k w n = either-news (eqb 0 w) deed.Nothing deed.Nothing n quiet (λ q. refl) (λ q. refl)
+  event-news (Card home) octets t k held w n = absurd (true≢false k)
+  event-news (Start b manual net code) octets t k held w n = either-news (eqb b w) deed.Nothing deed.Nothing held n quiet (λ q. refl) (λ q. refl)
+  event-news (Message b protected draws) octets t k held w n = message-news r b protected draws octets t held w n
+  event-news (Timer number b) octets t k held w n =
+      either-news (eqb b w) _ _ held n _ (λ q. rw (timer-deeds number b .0) (timer-news (eqb number 4) held n)) (λ q. rw (timer-deeds number b .1) (timer-news (eqb number 4) held n))
+  event-news Power octets t k held w n = either-news (eqb 0 w) deed.Power deed.Power held n _ (λ q. refl) (λ q. refl)
+  event-news (Key b set) octets t k held w n = either-news (eqb b w) deed.Nothing deed.Nothing held n quiet (λ q. refl) (λ q. refl)
+  event-news (Update b regtype net code uplink sessions) octets t k held w n = either-news (eqb b w) deed.Nothing deed.Nothing held n quiet (λ q. refl) (λ q. refl)
+  event-news Unknown octets t k held w n = either-news (eqb 0 w) deed.Nothing deed.Nothing held n quiet (λ q. refl) (λ q. refl)
 
   event-fits : (e : Event) (octets : List ℕ) → isTaken (answeredBy r e octets) ≡ true → isCardChange e ≡ false → (w : ℕ)
       → Fits (deedIn r e octets w) (accessOf (r .hot) w .entries) (entriesIn r w .nets)
@@ -180,14 +201,27 @@ module _ (r : Record) where
   event-fits (Update b regtype net code uplink sessions) octets t k w = either-fits (eqb b w) deed.Nothing deed.Nothing _ _ (λ q. tt) (λ q. tt)
   event-fits Unknown octets t k w = either-fits (eqb 0 w) deed.Nothing deed.Nothing _ _ (λ q. tt) (λ q. tt)
 
+  -- what the history calls an event, by the record before it
+  abbrev pub newsIn : Event → List ℕ → ℕ → ℕ → News
+  newsIn e octets w n = eventNews (r .hot .dev .home) (λ (v : ℕ). accessOf (r .hot) v .net) (heldIn r w n) w n e octets
+
   -- the cell of network n on access w after a taken event
   pub event-cell : Columns (r .e0) → Columns (r .e1) → (e : Event) (octets : List ℕ) → isTaken (answeredBy r e octets) ≡ true → isCardChange e ≡ false → (w n : ℕ) → w < 2
-      → cellOf (next r e octets) w n ≡ cellAfter (limitsOf r) (eventNews (r .hot .dev .home) (λ (v : ℕ). accessOf (r .hot) v .net) w n e octets) (cellOf r w n)
-  unfolding cellOf
+      → cellOf (next r e octets) w n ≡ cellAfter (limitsOf r) (newsIn e octets w n) (cellOf r w n)
+  unfolding cellOf heldIn
   event-cell c0 c1 e octets t k w n hw =
       rw (event-table r e octets t w hw .0, event-table r e octets t w hw .1)
       (deed-cell (limitsOf r) (deedIn r e octets w) (accessOf (r .hot) w .entries) (entriesIn r w) (columns r c0 c1 w) (event-fits e octets t k w) n
-      ∙ ap (λ (d : News). cellAfter (limitsOf r) d (cellIn (accessOf (r .hot) w .entries) (entriesIn r w) n)) (event-news e octets t k w n))
+      ∙ ap (λ (d : News). cellAfter (limitsOf r) d (cellIn (accessOf (r .hot) w .entries) (entriesIn r w) n)) (event-news e octets t k (heldIn r w n) w n))
+
+  -- and whether it has an entry
+  pub event-held : Columns (r .e0) → Columns (r .e1) → (e : Event) (octets : List ℕ) → isTaken (answeredBy r e octets) ≡ true → isCardChange e ≡ false → (w n : ℕ) → w < 2
+      → heldIn (next r e octets) w n ≡ (puts (newsIn e octets w n) || heldIn r w n)
+  unfolding heldIn
+  event-held c0 c1 e octets t k w n hw =
+      rw (event-table r e octets t w hw .0, event-table r e octets t w hw .1)
+      (deed-held (limitsOf r) (deedIn r e octets w) (accessOf (r .hot) w .entries) (entriesIn r w) (columns r c0 c1 w) (event-fits e octets t k w) (heldIn r w n) n
+      ∙ ap (λ (d : News). puts d || heldIn r w n) (event-news e octets t k (heldIn r w n) w n))
 
   -- and after a card change: nothing
   pub card-cell : (home : ℕ) (octets : List ℕ) → isTaken (answeredBy r (Card home) octets) ≡ true → (w n : ℕ) → w < 2 → cellOf (next r (Card home) octets) w n ≡ blank
@@ -198,3 +232,11 @@ module _ (r : Record) where
           (entriesAfter (cond {A = Deed} s deed.Fresh deed.Fresh) (accessOf (r .hot) w .entries) (r .hot .dev .banlimit) (r .hot .dev .n1limit) (entriesIn r w)) n ≡ blank
       go true = cell-none _ n
       go false = cell-none _ n
+
+  pub card-held : (home : ℕ) (octets : List ℕ) → isTaken (answeredBy r (Card home) octets) ≡ true → (w n : ℕ) → w < 2 → heldIn (next r (Card home) octets) w n ≡ false
+  unfolding heldIn accessIn effectOf cardEffect
+  card-held home octets t w n hw = rw (event-table r (Card home) octets t w hw .0) (go (eqb 0 w))
+    where
+      go : (s : Bool) → hasEntry (countBy (cond {A = Deed} s deed.Fresh deed.Fresh) (accessOf (r .hot) w .entries)) n (entriesIn (next r (Card home) octets) w .nets) ≡ false
+      go true = none-held n _
+      go false = none-held n _

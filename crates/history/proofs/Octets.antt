@@ -12,23 +12,23 @@ use Rattle.octets.specs.declared.Ending.the-variants.{Broken, Whole}
 use Rattle.messages.specs.declared.Reading.{Reading}
 use Rattle.messages.specs.declared.Reading.the-variants as reading
 use Rattle.messages.specs.Message.{endedBy, acceptedOf, acceptReading, rejectOf, rejectedOf, rejectReading, typeReading, openedBy, readingOf}
-use Rattle.history.specs.History.{News, causeNews, messageNews}
-use Rattle.history.proofs.Said.{accepted, quiet}
+use Rattle.history.specs.History.{News, messageNews}
+use Rattle.history.proofs.Said.{quiet}
 
--- what a reading is for the network
-unfoldable pub readNews : Bool → ℕ → Bool → Reading → News
-readNews home w protected (reading.Accept g) = accepted
-readNews home w protected (reading.Reject k) = causeNews home w protected (k .cause)
-readNews home w protected (reading.Bad f at) = quiet
+-- what a reading is for the network, by what an accept is and what a reject is by its cause
+unfoldable pub readNews : News → (ℕ → News) → Reading → News
+readNews accept reject (reading.Accept g) = accept
+readNews accept reject (reading.Reject k) = reject (k .cause)
+readNews accept reject (reading.Bad f at) = quiet
 
 unfoldable pub isRead : Reading → Bool
 isRead (reading.Accept g) = true
 isRead (reading.Reject k) = true
 isRead (reading.Bad f at) = false
 
-module _ (home : Bool) (w : ℕ) (p : Bool) where
+module _ (accept : News) (reject : ℕ → News) where
   abbrev said : Reading → News
-  said m = readNews home w p m
+  said m = readNews accept reject m
 
   -- a reading that is X if it reads at all
   abbrev Is : News → Reading → Type 0
@@ -48,19 +48,19 @@ module _ (home : Bool) (w : ℕ) (p : Bool) where
     ended-is x (Broken f at) m i = bad x f at
     ended-is x Whole m i = λ t. i
 
-    accept-is : Is accepted (acceptReading s)
+    accept-is : Is accept (acceptReading s)
     unfolding acceptReading acceptedOf readNews
     accept-is =
-        either-is accepted (ltb 3 (length s)) _ _
-        (λ e. either-is accepted (eqb (getD s 3 0) 0) _ _ (λ e′. bad accepted Cut 3) (λ e′. either-is accepted (ltb (length s) (4 + getD s 3 0)) _ _ (λ e″. bad accepted Cut (length s)) (λ e″. ended-is accepted _ _ refl)))
-        (λ e. bad accepted Cut 3)
+        either-is accept (ltb 3 (length s)) _ _
+        (λ e. either-is accept (eqb (getD s 3 0) 0) _ _ (λ e′. bad accept Cut 3) (λ e′. either-is accept (ltb (length s) (4 + getD s 3 0)) _ _ (λ e″. bad accept Cut (length s)) (λ e″. ended-is accept _ _ refl)))
+        (λ e. bad accept Cut 3)
 
-    reject-is : Is (causeNews home w p (getD s 3 0)) (rejectReading s)
+    reject-is : Is (reject (getD s 3 0)) (rejectReading s)
     unfolding rejectReading rejectedOf rejectOf readNews
-    reject-is = either-is (causeNews home w p (getD s 3 0)) (ltb 3 (length s)) _ _ (λ e. ended-is (causeNews home w p (getD s 3 0)) _ _ refl) (λ e. bad (causeNews home w p (getD s 3 0)) Cut 3)
+    reject-is = either-is (reject (getD s 3 0)) (ltb 3 (length s)) _ _ (λ e. ended-is (reject (getD s 3 0)) _ _ refl) (λ e. bad (reject (getD s 3 0)) Cut 3)
 
     abbrev heard : News
-    heard = messageNews home w p s
+    heard = messageNews accept reject s
 
     type-is : Is heard (typeReading s)
     unfolding typeReading messageNews

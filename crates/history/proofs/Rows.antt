@@ -1,18 +1,20 @@
 -- The step's rows and the history's own cause words say the same of a network, row by row. Assumes nothing.
 use Prim.Native.Nat.{ℕ}
-use mathlib.Core.Path.{_≡_, refl}
-use mathlib.Core.Bool.{Bool, true, false, cond, not}
+use mathlib.Core.Path.{_≡_, refl, sym, _∙_, ap}
+use mathlib.Core.Bool.{Bool, true, false, cond, not, _&&_}
 use mathlib.Core.List.{List}
 use lib.Dec.{eqb}
 use borrow.Author.Tests.{eqb-true}
-use Rattle.record.specs.Tests.{both}
+use Rattle.record.specs.Tests.{both, flip}
 use Rattle.entries.specs.declared.Seat.{Seat}
+use Rattle.entries.specs.declared.Deed.{Deed}
+use Rattle.entries.specs.declared.Deed.the-variants as deed
 use Rattle.turns.specs.declared.Row.{Row}
 use Rattle.turns.specs.declared.Row.the-variants.{CardBelow, CardLimit, CardProtected, Away, Home, Area, N1, Congested, Protocol, Other}
-use Rattle.turns.specs.Words.{Mark, noMark, forbiddenAndCounted, n1NotAllowedAndCounted, isMark, markIn}
-use Rattle.turns.specs.Rejects.{isCard, isNetworkNo, isAreaNo, isN1No, isCongested, isProtocol, rowOf, rowText, needsEntry}
+use Rattle.turns.specs.Words.{Mark, noMark, forbiddenAndCounted, n1NotAllowedAndCounted, isMark, markIn, holds, isN1Across, acrossOf}
+use Rattle.turns.specs.Rejects.{isCard, isNetworkNo, isAreaNo, isN1No, isCongested, isProtocol, rowOf, rowText, needsEntry, acrossN1}
 use Rattle.effects.specs.Effects.{markDeed, rowDeed}
-use Rattle.history.specs.History.{struck, nothing, News, news, causeNews}
+use Rattle.history.specs.History.{struck, toLimit, nothing, News, news, causeNews}
 use Rattle.history.proofs.Said.{banned, barred, quiet}
 use Rattle.history.proofs.Cells.{Seated, Free, Fits, deedNews}
 
@@ -77,22 +79,54 @@ module _ (w : ℕ) (bare at-home below timed p : Bool) where
       by-11 false q = by-73 (eqb c 73) refl q
 
 -- the deed of a row is the row's word for its network, and nothing for another
-still-quiet : (b : Bool) → quiet ≡ cond b quiet quiet
+pub still-quiet : (b : Bool) → quiet ≡ cond b quiet quiet
 still-quiet true = refl
 still-quiet false = refl
 
-pub row-deed : (row : Row) (s : Seat) (n : ℕ) → deedNews (rowDeed row s) n ≡ cond (eqb (s .net) n) (rowNews row (not (eqb (s .protected) 0))) quiet
+pub row-deed : (row : Row) (s : Seat) (held : Bool) (n : ℕ) → deedNews (rowDeed row s) held n ≡ cond (eqb (s .net) n) (rowNews row (not (eqb (s .protected) 0))) quiet
 unfolding rowDeed markDeed rowText markIn
-row-deed CardBelow s n = still-quiet (eqb (s .net) n)
-row-deed CardLimit s n = still-quiet (eqb (s .net) n)
-row-deed CardProtected s n = still-quiet (eqb (s .net) n)
-row-deed Away s n = refl
-row-deed Home s n = still-quiet (eqb (s .net) n)
-row-deed Area s n = still-quiet (eqb (s .net) n)
-row-deed N1 s n = refl
-row-deed Congested s n = still-quiet (eqb (s .net) n)
-row-deed Protocol s n = still-quiet (eqb (s .net) n)
-row-deed Other s n = still-quiet (eqb (s .net) n)
+row-deed CardBelow s held n = still-quiet (eqb (s .net) n)
+row-deed CardLimit s held n = still-quiet (eqb (s .net) n)
+row-deed CardProtected s held n = still-quiet (eqb (s .net) n)
+row-deed Away s held n = refl
+row-deed Home s held n = still-quiet (eqb (s .net) n)
+row-deed Area s held n = still-quiet (eqb (s .net) n)
+row-deed N1 s held n = refl
+row-deed Congested s held n = still-quiet (eqb (s .net) n)
+row-deed Protocol s held n = still-quiet (eqb (s .net) n)
+row-deed Other s held n = still-quiet (eqb (s .net) n)
+
+-- no row but that of 27 reaches the other access's entries, and it only protected
+other-untouched : (w protected c : ℕ) → eqb c 27 ≡ false → (row : Row) → acrossN1 w protected c row ≡ false
+unfolding acrossN1 rowText acrossOf isN1Across holds
+other-untouched w protected c q CardBelow = refl
+other-untouched w protected c q CardLimit = refl
+other-untouched w protected c q CardProtected = refl
+other-untouched w protected c q Away = refl
+other-untouched w protected c q Home = refl
+other-untouched w protected c q Area = refl
+other-untouched w protected c q N1 = rw q
+other-untouched w protected c q Congested = refl
+other-untouched w protected c q Protocol = refl
+other-untouched w protected c q Other = refl
+
+pub row-across : (w protected : ℕ) (bare at-home below timed : Bool) (c : ℕ) → acrossN1 w protected c (rowOf w bare at-home below timed c) ≡ (eqb c 27 && not (eqb protected 0))
+unfolding rowOf isCard isNetworkNo isAreaNo isN1No acrossN1 rowText acrossOf isN1Across holds
+row-across w protected bare at-home below timed c = go (eqb c 27) refl
+  where
+    flipped : (b : Bool) → flip b ≡ not b
+    flipped true = refl
+    flipped false = refl
+
+    go : (b : Bool) → eqb c 27 ≡ b → acrossN1 w protected c (rowOf w bare at-home below timed c) ≡ (eqb c 27 && not (eqb protected 0))
+    go true q = rw (eqb-true c 27 q) (flipped (eqb protected 0))
+    go false q = other-untouched w protected c q (rowOf w bare at-home below timed c) ∙ ap (λ (s : Bool). s && not (eqb protected 0)) (sym q)
+
+-- the deed on the other access is the history's word for it
+pub across-deed : (s : Bool) (net : ℕ) (held : Bool) (n : ℕ)
+    → deedNews (cond {A = Deed} s (deed.ToLimit net) deed.Nothing) held n ≡ cond (eqb net n && held) (news nothing (cond s toLimit nothing)) quiet
+across-deed true net held n = refl
+across-deed false net held n = still-quiet (eqb net n && held)
 
 -- the entry that a row needs is there or free
 mark-fits : (m : Mark) (s : Seat) (count : ℕ) (nets : List ℕ) → Seated s count nets → (isMark m ≡ true → Free s count nets) → Fits (markDeed m s) count nets

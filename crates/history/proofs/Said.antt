@@ -7,7 +7,7 @@ use native.Mathlib.Omega.{arith}
 use lib.Dec.{ltb}
 use borrow.Author.Tests.{ltb-true, ltb-false, lt-ltb, le-ltb, ne-eqb}
 use Rattle.entries.specs.Entries.{liftMark}
-use Rattle.history.specs.History.{Cell, Limits, Word, struck, cleared, tested, nothing, News, news, isStruck, some, many, counterOf, isBegun, stands, markOf, bansIn, barsIn, saidBy}
+use Rattle.history.specs.History.{Cell, Limits, Word, struck, toLimit, cleared, tested, nothing, News, news, isCounted, some, many, counterOf, isBegun, stands, markOf, bansIn, barsIn, saidBy}
 
 -- the news of each event
 abbrev pub banned : Bool → News
@@ -18,6 +18,9 @@ barred p = news nothing (struck p)
 
 abbrev pub accepted : News
 accepted = news cleared nothing
+
+abbrev pub reached : News
+reached = news nothing toLimit
 
 abbrev pub ended : News
 ended = news tested tested
@@ -42,12 +45,14 @@ blank = cell 0 0 0 0
 -- what a word makes of a list's counter, and of its mark
 unfoldable pub countAfter : ℕ → Word → ℕ → ℕ
 countAfter limit (struck p) n = raise limit p n
+countAfter limit toLimit n = limit
 countAfter limit cleared n = n
 countAfter limit tested n = n
 countAfter limit nothing n = n
 
 unfoldable pub markAfter : ℕ → Word → ℕ → ℕ → ℕ
 markAfter limit (struck p) n mark = 1
+markAfter limit toLimit n mark = mark
 markAfter limit cleared n mark = 0
 markAfter limit tested n mark = liftMark limit n mark
 markAfter limit nothing n mark = mark
@@ -78,9 +83,10 @@ lift limit (suc n) s = rw (lt-ltb 0 (suc n) (omega arith), ne-eqb (suc n) 0 (λ 
     go false s = refl
 
 counted : (limit : ℕ) (d : Word) (ds : List Word) → counterOf limit (d ∷ ds) ≡ countAfter limit d (counterOf limit ds)
-unfolding counterOf countAfter some many isStruck
+unfolding counterOf countAfter some many isCounted
 counted limit (struck true) ds = refl
-counted limit (struck false) ds = one-more (some (isStruck true) ds) limit (many (isStruck false) ds)
+counted limit (struck false) ds = one-more (some (isCounted true) ds) limit (many (isCounted false) ds)
+counted limit toLimit ds = refl
 counted limit cleared ds = refl
 counted limit tested ds = refl
 counted limit nothing ds = refl
@@ -88,6 +94,7 @@ counted limit nothing ds = refl
 marked : (limit : ℕ) (d : Word) (ds : List Word) → markOf (stands limit (d ∷ ds)) ≡ markAfter limit d (counterOf limit ds) (markOf (stands limit ds))
 unfolding stands markAfter
 marked limit (struck p) ds = refl
+marked limit toLimit ds = refl
 marked limit cleared ds = refl
 marked limit tested ds = lift limit (counterOf limit ds) (stands limit ds)
 marked limit nothing ds = refl

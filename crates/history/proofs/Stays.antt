@@ -18,14 +18,16 @@ use Rattle.record.specs.Setters.{inState, withStatus, withAttempts, forgotten, 
 use Rattle.record.specs.Sides.{accessOf, otherOf}
 use Rattle.entries.specs.declared.Seen.{Seen}
 use Rattle.entries.specs.declared.Seat.{Seat}
+use Rattle.entries.specs.declared.Deed.{Deed}
+use Rattle.entries.specs.declared.Deed.the-variants as deed
 use Rattle.entries.specs.Entries.{seenIn, seatOf}
 use Rattle.messages.specs.declared.Reading.{Reading}
 use Rattle.messages.specs.declared.Reading.the-variants as reading
 use Rattle.messages.specs.Message.{readingOf}
 use Rattle.turns.specs.Timers.{isDeviceTimer}
-use Rattle.turns.specs.Words.{isUpdating, Text, says, asT3510Out, Mark, noMark, forbiddenAndCounted, n1NotAllowedAndCounted, Across, untouched, cardCounterToLimit, counterAfter, isMark, markIn, acrossOf, applied}
+use Rattle.turns.specs.Words.{isUpdating, Text, says, asT3510Out, Mark, noMark, forbiddenAndCounted, n1NotAllowedAndCounted, Across, untouched, cardCounterToLimit, n1CounterToLimitIfProtected, counterAfter, isMark, markIn, acrossOf, applied}
 use Rattle.turns.specs.declared.Draws.{Draws}
-use Rattle.turns.specs.Rejects.{t3346Time, rowText}
+use Rattle.turns.specs.Rejects.{t3346Time, rowText, acrossN1}
 use Rattle.turns.specs.Turns.{started, updated, keySet, renewed, startFailed, updateFailed, failed, t3510Out, t3511Out, t3502Out, t3346Out, clockTurn, turned, rowTurn, otherTurned, otherTurn}
 use Rattle.turns.specs.Turns as turns
 use Rattle.checks.specs.Answers.{rowNow}
@@ -89,6 +91,11 @@ across-left : (o : Across) (limit : ℕ) (a : Access) → Left (a .net) (a .entr
 unfolding otherTurned counted
 across-left untouched limit a = (refl, refl)
 across-left cardCounterToLimit limit a = (refl, refl)
+across-left (n1CounterToLimitIfProtected x) limit a = (refl, refl)
+
+across-count : (s : Bool) (net count : ℕ) → count ≡ countBy (cond {A = Deed} s (deed.ToLimit net) deed.Nothing) count
+across-count true net count = refl
+across-count false net count = refl
 
 mark-count : (m : Mark) (s : Seat) (count : ℕ) → cond (isMark m) (grown (s .found) count) count ≡ countBy (markDeed m s) count
 unfolding markDeed isMark
@@ -181,7 +188,9 @@ module _ (r : Record) where
     mine =
         text-left (rowText (rowNow h b protected k)) b (h .dev .cardlimit) (k .cause) (seenAt r (Message b protected draws) .found) (t3346Time protected (k .t3346length) (draws .t3346)) (accessOf h b) .1
         ∙ mark-count (markIn (rowText (rowNow h b protected k))) (seatOf (seenAt r (Message b protected draws)) (accessOf h b .net) protected) (accessOf h b .entries);
-    theirs = across-left (acrossOf (rowText (rowNow h b protected k))) (h .dev .cardlimit) (otherOf h b) .1;
+    theirs =
+        across-left (acrossOf (rowText (rowNow h b protected k))) (h .dev .cardlimit) (otherOf h b) .1
+        ∙ across-count (acrossN1 b protected (k .cause) (rowNow h b protected k)) (accessOf h b .net) (otherOf h b .entries);
   }
   message-counts b protected draws (reading.Bad f at) = record { mine = refl; theirs = refl }
 

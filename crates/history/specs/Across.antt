@@ -1,11 +1,13 @@
--- What an event of one access does to the other access: nothing, but for the card counter after a protected 3, 6 or 7. Assumes nothing.
+-- What an event of one access does to the other access: nothing, but for the card counter after a protected 3, 6 or 7, and the N1 counter of one
+-- entry after a protected 27. Assumes nothing.
 use Prim.Native.Nat.{ℕ}
 use mathlib.Core.Bool.{Bool, true, false, cond}
 use lib.Dec.{eqb}
 use Rattle.messages.specs.declared.Reading.{Reading}
 use Rattle.messages.specs.declared.Reading.the-variants as reading
+use Rattle.entries.specs.Entries.{n1ToLimit}
 use Rattle.record.specs.Setters.{counted}
-use Rattle.record.specs.Tests.{both, either, flip}
+use Rattle.record.specs.Tests.{either, flip}
 use Rattle.rules.specs.declared.Event.{Event}
 use Rattle.rules.specs.declared.Event.the-variants.{Card, Start, Message, Timer, Power, Key, Update, Unknown}
 use Rattle.history.specs.Apart.{Half}
@@ -21,23 +23,30 @@ isOwn (Key w set) = true
 isOwn (Update w regtype net code uplink sessions) = true
 isOwn Unknown = false
 
--- a reject with cause 3, 6 or 7
-unfoldable pub refusesCard : Reading → Bool
-refusesCard (reading.Accept g) = false
-refusesCard (reading.Reject k) = either (eqb (k .cause) 3) (either (eqb (k .cause) 6) (eqb (k .cause) 7))
-refusesCard (reading.Bad f at) = false
+-- what reaches the other access
+pub data Reach : Type 0 where
+  untouched cardCounterToLimit n1CounterToLimit : Reach
 
--- "3, 6, 7 protected: .. both accesses' card counters to the limit"
-unfoldable pub crosses : Event → Reading → Bool
-crosses (Card home) m = false
-crosses (Start w manual net code) m = false
-crosses (Message w protected draw) m = both (refusesCard m) (flip (eqb protected 0))
-crosses (Timer number w) m = false
-crosses Power m = false
-crosses (Key w set) m = false
-crosses (Update w regtype net code uplink sessions) m = false
-crosses Unknown m = false
+-- of a protected reject: "3, 6, 7 protected: .. both accesses' card counters to the limit"; "a protected 27 sets the network's N1 counter to the limit for both accesses" (document 02, R-14)
+unfoldable pub reachOf : Reading → Reach
+reachOf (reading.Accept g) = untouched
+reachOf (reading.Reject k) =
+    cond (either (eqb (k .cause) 3) (either (eqb (k .cause) 6) (eqb (k .cause) 7))) cardCounterToLimit
+    (cond (eqb (k .cause) 27) n1CounterToLimit untouched)
+reachOf (reading.Bad f at) = untouched
 
--- an access's record, with its card counter at the limit if it is crossed
-unfoldable pub halfAfter : Bool → ℕ → Half → Half
-halfAfter crossed limit x = record { numbers = cond crossed (counted limit (x .numbers)) (x .numbers); entries = x .entries; guti = x .guti; equivalents = x .equivalents }
+unfoldable pub crosses : Event → Reading → Reach
+crosses (Card home) m = untouched
+crosses (Start w manual net code) m = untouched
+crosses (Message w protected draw) m = cond (eqb protected 0) untouched (reachOf m)
+crosses (Timer number w) m = untouched
+crosses Power m = untouched
+crosses (Key w set) m = untouched
+crosses (Update w regtype net code uplink sessions) m = untouched
+crosses Unknown m = untouched
+
+-- an access's record after what reached it: the limits are those of the card and N1 counters, net is the network that the other access registers with
+unfoldable pub halfAfter : Reach → ℕ → ℕ → ℕ → Half → Half
+halfAfter untouched cardlimit n1limit net x = x
+halfAfter cardCounterToLimit cardlimit n1limit net x = record { numbers = counted cardlimit (x .numbers); entries = x .entries; guti = x .guti; equivalents = x .equivalents }
+halfAfter n1CounterToLimit cardlimit n1limit net x = record { numbers = x .numbers; entries = n1ToLimit net (x .numbers .entries) n1limit (x .entries); guti = x .guti; equivalents = x .equivalents }

@@ -1,10 +1,10 @@
--- What a record holds of one network on one access. Assumes nothing.
+-- What a record holds of one network on one access, and whether it has an entry there. Assumes nothing.
 use Prim.Native.Nat.{ℕ}
-use mathlib.Core.Bool.{cond}
+use mathlib.Core.Bool.{Bool, cond}
 use mathlib.Core.List.{List}
 use lib.Dec.{eqb}
 use Rattle.entries.specs.declared.Entries.{Entries}
-use Rattle.entries.specs.Entries.{entriesHeld, placeIn, peekAt}
+use Rattle.entries.specs.Entries.{entriesHeld, placeIn, hasEntry, peekAt}
 use Rattle.record.specs.declared.Record.{Record}
 use Rattle.record.specs.Sides.{accessOf}
 use Rattle.history.specs.History.{Cell}
@@ -28,3 +28,6 @@ entriesIn r w = cond (eqb w 0) (r .e0) (r .e1)
 -- network n on access w
 unfoldable pub cellOf : Record → ℕ → ℕ → Cell
 cellOf r w n = cellIn (accessOf (r .hot) w .entries) (entriesIn r w) n
+
+unfoldable pub heldIn : Record → ℕ → ℕ → Bool
+heldIn r w n = hasEntry (accessOf (r .hot) w .entries) n (entriesIn r w .nets)

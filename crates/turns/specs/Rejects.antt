@@ -9,7 +9,7 @@ use Rattle.turns.specs.declared.Order.{Order}
 use Rattle.turns.specs.declared.Order.the-variants.{Leave, Run}
 use Rattle.turns.specs.declared.Row.{Row}
 use Rattle.turns.specs.declared.Row.the-variants.{CardBelow, CardLimit, CardProtected, Away, Home, Area, N1, Congested, Protocol, Other}
-use Rattle.turns.specs.Words.{Text, says, asT3510Out, always, never, over0, on, kept, zeroed, five, upByOne, toLimit, isUpdating, into, byAccess, byUpdate, nowhere, roaming, regionalElseRoaming, noMark, forbiddenAndCounted, n1NotAllowedAndCounted, untouched, cardCounterToLimit, stopT3510, stopT3510RunT3346, isMark, markIn, isRoaming, isRegional, listOf}
+use Rattle.turns.specs.Words.{Text, says, asT3510Out, always, never, over0, on, kept, zeroed, five, upByOne, toLimit, isUpdating, into, byAccess, byUpdate, nowhere, roaming, regionalElseRoaming, noMark, forbiddenAndCounted, n1NotAllowedAndCounted, untouched, cardCounterToLimit, n1CounterToLimitIfProtected, stopT3510, stopT3510RunT3346, isMark, markIn, isRoaming, isRegional, listOf, isN1Across, acrossOf}
 
 -- causes 3, 6, 7
 unfoldable pub isCard : ℕ → Bool
@@ -144,7 +144,8 @@ rowText Area = says (record {
   otherAccess = untouched;
   timers = stopT3510;
 })
--- 27; 72 over access 1: "5U3, clear identity, attempt counter 0, N1 mark, N1 counter as the ban counter; state 2. Only the receiving access is touched"
+-- 27; 72 over access 1: "5U3, clear identity, attempt counter 0, N1 mark, N1 counter as the ban counter; state 2. Only the receiving access is touched",
+-- but for document 02, R-14: "a protected 27 sets the network's N1 counter to the limit for both accesses"
 rowText N1 = says (record {
   status = u3;
   clearIdentity = always;
@@ -154,7 +155,7 @@ rowText N1 = says (record {
   areaList = nowhere;
   mark = n1NotAllowedAndCounted;
   cardCounter = kept;
-  otherAccess = untouched;
+  otherAccess = n1CounterToLimitIfProtected (on 27);
   timers = stopT3510;
 })
 -- 22 with a nonzero T3346 (document 02, R-6): "attempt counter 0, 5U2, state 3 (5 in an update), T3346 runs on that access"
@@ -175,7 +176,7 @@ rowText Protocol = asT3510Out five
 -- any other pair: "as T3510 out; the T3247 rule above holds"
 rowText Other = asT3510Out upByOne
 
--- Read off the text: a network that is marked needs an entry; the lists that the area goes to
+-- Read off the text: a network that is marked needs an entry; the lists that the area goes to; whether the other access's N1 counter goes to the limit
 unfoldable pub needsEntry : Row → Bool
 needsEntry r = isMark (markIn (rowText r))
 
@@ -184,3 +185,6 @@ toRoaming w cause r = isRoaming (listOf (rowText r)) w cause
 
 unfoldable pub toRegional : ℕ → ℕ → Row → Bool
 toRegional w cause r = isRegional (listOf (rowText r)) w cause
+
+unfoldable pub acrossN1 : ℕ → ℕ → ℕ → Row → Bool
+acrossN1 w protected cause r = isN1Across (acrossOf (rowText r)) w protected cause

@@ -8,7 +8,7 @@ use Rattle.record.specs.New.{newAccess, u1, u2}
 use Rattle.turns.specs.declared.Orders.{Orders}
 use Rattle.turns.specs.declared.Turn.{Turn}
 use Rattle.turns.specs.declared.Row.{Row}
-use Rattle.turns.specs.Words.{Text, says, asT3510Out, Across, untouched, cardCounterToLimit, counterAfter, isUpdating, ordersAfter, applied, acrossOf}
+use Rattle.turns.specs.Words.{Text, says, asT3510Out, Across, untouched, cardCounterToLimit, n1CounterToLimitIfProtected, counterAfter, isUpdating, ordersAfter, applied, acrossOf}
 use Rattle.turns.specs.Rejects.{rowText}
 use Rattle.turns.specs.Timers.{quiet, starting, answered, retrying, resting, t3511Stops, t3502Stops, t3346Stops, halted}
 use Rattle.record.specs.Setters.{inState, withStatus, withAttempts, forgotten, emptied, counted, pending, keyed, taught}
@@ -91,10 +91,11 @@ turned (asT3510Out n) w limit cause found time a = failed (counterAfter n w caus
 unfoldable pub rowTurn : Row → ℕ → ℕ → ℕ → Bool → ℕ → Access → Turn
 rowTurn r w limit cause found time a = turned (rowText r) w limit cause found time a
 
--- the other access
+-- the other access's numbers
 unfoldable pub otherTurned : Across → ℕ → Access → Turn
 otherTurned untouched limit a = still a
 otherTurned cardCounterToLimit limit a = still (counted limit a)
+otherTurned (n1CounterToLimitIfProtected x) limit a = still a
 
 unfoldable pub otherTurn : Row → ℕ → Access → Turn
 otherTurn r limit a = otherTurned (acrossOf (rowText r)) limit a

@@ -73,9 +73,15 @@ isMark noMark = false
 isMark forbiddenAndCounted = true
 isMark n1NotAllowedAndCounted = true
 
--- what reaches the other access
+-- what reaches the other access; what a protected reject does there to the entry of the network, where there is one: `n1ToLimit`, in crate entries
 pub data Across : Type 0 where
   untouched cardCounterToLimit : Across
+  n1CounterToLimitIfProtected : When → Across
+
+unfoldable pub isN1Across : Across → ℕ → ℕ → ℕ → Bool
+isN1Across untouched w protected cause = false
+isN1Across cardCounterToLimit w protected cause = false
+isN1Across (n1CounterToLimitIfProtected x) w protected cause = both (holds x w cause) (flip (eqb protected 0))
 
 -- the access's timers; T3346 runs for its time
 pub data Timing : Type 0 where

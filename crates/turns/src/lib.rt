@@ -13,6 +13,7 @@ pub use flags::is_device_timer;
 pub use flags::runs_in;
 pub use flags::runs_on;
 pub use flags::told_of;
+pub use rows::across_n1;
 pub use rows::is_card;
 pub use rows::is_registered;
 pub use rows::needs_entry;

@@ -1,4 +1,4 @@
-// The table of rejects: which row a reject falls under, and what the row says of lists and of T3247.
+// The table of rejects: which row a reject falls under, and what the row says of lists, of T3247 and of the other access's N1 counter.
 use crate::Row;
 use record::Access;
 use record::and;
@@ -8,7 +8,7 @@ ghost use mathlib.Core.Path.{_≡_};
 ghost use mathlib.Core.Bool.{cond, false};
 ghost use lib.Dec.{eqb};
 ghost use Rattle.turns.specs.Words.{isUpdating};
-ghost use Rattle.turns.specs.Rejects.{isRegistered, isCard, isNetworkNo, isAreaNo, isN1No, isCongested, isProtocol, rowOf, startsT3247, needsEntry, toRoaming, toRegional};
+ghost use Rattle.turns.specs.Rejects.{isRegistered, isCard, isNetworkNo, isAreaNo, isN1No, isCongested, isProtocol, rowOf, startsT3247, needsEntry, toRoaming, toRegional, acrossN1};
 ghost use Rattle.turns.specs.declared.Row.the-variants.{CardBelow, CardLimit, CardProtected, Away, Home, Area, N1, Congested, Protocol, Other};
 
 pub fn is_card(cause: u8) -> bool
@@ -180,6 +180,23 @@ pub fn to_regional(w: u8, cause: u8, row: Row) -> bool
         Row::Home => false,
         Row::Area => cause == 12,
         Row::N1 => false,
+        Row::Congested => false,
+        Row::Protocol => false,
+        Row::Other => false,
+    }
+}
+
+pub fn across_n1(w: u8, protected: u8, cause: u8, row: Row) -> bool
+    ensures { λ r. ⌜ r ≡ acrossN1 w protected cause row ⌝ }
+{
+    match row {
+        Row::CardBelow => false,
+        Row::CardLimit => false,
+        Row::CardProtected => false,
+        Row::Away => false,
+        Row::Home => false,
+        Row::Area => false,
+        Row::N1 => and(cause == 27, not(protected == 0)),
         Row::Congested => false,
         Row::Protocol => false,
         Row::Other => false,

@@ -294,7 +294,7 @@ pub fn row_turn(row: Row, w: u8, limit: u8, cause: u8, found: bool, time: u32, a
     }
 }
 
-// The other access: only a protected 3, 6 or 7 reaches it.
+// The other access's numbers: only a protected 3, 6 or 7 reaches them.
 pub fn other_turn(row: Row, limit: u8, a: Access) -> Turn
     ensures { λ r. ⌜ r ≡ events.otherTurn row limit a ⌝ }
 {

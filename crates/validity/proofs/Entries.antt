@@ -13,7 +13,7 @@ use borrow.Author.Tests.{leb-true, leb-false, le-leb, ltb-true, ltb-false, lt-lt
 use Rattle.laws.specs.Upto.{upto, seekTo}
 use Rattle.entries.specs.declared.Entries.{Entries}
 use Rattle.entries.specs.declared.Seat.{Seat}
-use Rattle.entries.specs.Entries.{sameNet, entriesHeld, placeIn, hasEntry, liftMark, bumped, putAt, clearUnless, raised, banned, barredBy, unforbidden, swept, powered}
+use Rattle.entries.specs.Entries.{sameNet, entriesHeld, placeIn, hasEntry, liftMark, bumped, putAt, clearUnless, raised, banned, barredBy, unforbidden, n1ToLimit, swept, powered}
 use Rattle.record.specs.Tests.{upTo, isFlag}
 use Rattle.record.specs.Network.{isNetwork}
 use Rattle.ranges.specs.Valid.{itself}
@@ -118,6 +118,15 @@ module _ (n net at : ℕ) (found : Bool) (nets : List ℕ) (s : Sought n net at 
           s .miss i (omega arith) (sym (getD-set-other nets at i net 0 (eqb-false i at p)) ∙ e ∙ ap (λ (k : ℕ). getD (set nets at net) k 0) q′ ∙ here)
       go false false p q e = f i j l (below j h (eqb-false j at q)) (sym (getD-set-other nets at i net 0 (eqb-false i at p)) ∙ e ∙ getD-set-other nets at j net 0 (eqb-false j at q))
 
+-- a number stored at a place, where there is an entry
+stored-all : (p : ℕ → Bool) (n : ℕ) (xs : List ℕ) (found : Bool) (at v : ℕ) → p v ≡ true → p 0 ≡ true → All p n xs → All p n (cond found (putAt xs at v) xs)
+unfolding putAt
+stored-all p n xs false at v e z f i h = f i h
+stored-all p n xs true at v e z f i h = elim (ltb at 16) as (λ b. p (getD (cond b (set xs at v) xs) i 0) ≡ true) [
+  | true ↦ set-reads xs at v i (λ x. p x ≡ true) (λ l. e) (λ l. z) (λ ne. f i h)
+  | false ↦ f i h
+]
+
 module _ (banlimit n1limit n : ℕ) (t : Entries) (w : Columns t) (g : Held banlimit n1limit n t) where
   module _ (k : Seat) (s : Sought n (k .net) (k .at) (k .found) (t .nets)) (net : isNetwork (k .net) ≡ true) where
     pub banned-held : Held banlimit n1limit (grown (k .found) n) (banned k banlimit t)
@@ -143,18 +152,23 @@ module _ (banlimit n1limit n : ℕ) (t : Entries) (w : Columns t) (g : Held banl
     }
 
   pub accepted-held : (k : Seat) → Held banlimit n1limit n (unforbidden k t)
-  unfolding unforbidden putAt
+  unfolding unforbidden
   accepted-held k = record {
     nets = g .nets;
     bans = g .bans;
     n1s = g .n1s;
-    forbidden = λ i h. elim (k .found) as (λ b. isFlag (getD (cond b (cond (ltb (k .at) 16) (set (t .forbidden) (k .at) 0) (t .forbidden)) (t .forbidden)) i 0) ≡ true) [
-      | true ↦ elim (ltb (k .at) 16) as (λ b. isFlag (getD (cond b (set (t .forbidden) (k .at) 0) (t .forbidden)) i 0) ≡ true) [
-        | true ↦ set-reads (t .forbidden) (k .at) 0 i (λ x. isFlag x ≡ true) (λ l. refl) (λ l. refl) (λ ne. g .forbidden i h)
-        | false ↦ g .forbidden i h
-      ]
-      | false ↦ g .forbidden i h
-    ];
+    forbidden = stored-all isFlag n (t .forbidden) (k .found) (k .at) 0 refl refl (g .forbidden);
+    barred = g .barred;
+    once = g .once;
+  }
+
+  pub limit-held : (net : ℕ) → Held banlimit n1limit n (n1ToLimit net n n1limit t)
+  unfolding n1ToLimit
+  limit-held net = record {
+    nets = g .nets;
+    bans = g .bans;
+    n1s = stored-all (upTo n1limit) n (t .n1s) (hasEntry n net (t .nets)) (placeIn n net (t .nets)) n1limit (le-leb n1limit n1limit (omega arith)) (le-leb 0 n1limit (omega arith)) (g .n1s);
+    forbidden = g .forbidden;
     barred = g .barred;
     once = g .once;
   }

@@ -1,4 +1,4 @@
--- The record after a plan is good if its parts are. An event of one access leaves the other's entries and equivalents alone. Assumes nothing.
+-- The record after a plan is good if its parts are. An event of one access leaves the other's equivalents alone, and of its entries what its deed there leaves. Assumes nothing.
 use Prim.Native.Nat.{ℕ}
 use mathlib.Core.Path.{_≡_, refl}
 use mathlib.Core.Bool.{Bool, true, false}
@@ -6,7 +6,7 @@ use mathlib.Core.List.{List}
 use lib.Dec.{eqb}
 use Rattle.entries.specs.declared.Entries.{Entries}
 use Rattle.entries.specs.declared.Deed.{Deed}
-use Rattle.entries.specs.declared.Deed.the-variants as deed
+use Rattle.entries.specs.Entries.{entriesAfter}
 use Rattle.areas.specs.declared.Task.{Task}
 use Rattle.areas.specs.Areas.{listAfter, countAfter}
 use Rattle.record.specs.declared.Device.{Device}
@@ -31,7 +31,7 @@ use Rattle.validity.proofs.Good.{Fair, Held, Listing, Half, Good}
 use Rattle.validity.proofs.Setters.{flag-after}
 use Rattle.validity.proofs.Turns.{after, Turned}
 use Rattle.validity.proofs.Areas.{Short, list-kept}
-use Rattle.validity.proofs.Refusal.{carry, table-idle}
+use Rattle.validity.proofs.Refusal.{carry}
 
 -- the area lists' counts are no part of what the rest is held to
 pub good-next : (r : Record) (octets : List ℕ) (p : Plan)
@@ -128,22 +128,26 @@ scheduled-fair d time due h i f = record {
   home = f .home;
 }
 
--- an event of one access: the device's numbers stay but for its timers, T3512's time and whether an update is due, and so do the other access's entries
-abbrev ownEffect : Record → ℕ → ℕ → Turn → Turn → Order → Order → Deed → Task → Task → Keep → Bool → Effect
-ownEffect r time due mine theirs o p d roaming regional k restart = record {
+-- an event of one access: the device's numbers stay but for its timers, T3512's time and whether an update is due
+abbrev ownEffect : Record → ℕ → ℕ → Turn → Turn → Order → Order → Deed → Deed → Task → Task → Keep → Bool → Effect
+ownEffect r time due mine theirs o p d d′ roaming regional k restart = record {
   dev = scheduled time due (r .hot .dev);
   mine = mine;
   theirs = theirs;
   t3247 = o;
   t3512 = p;
-  work = record { mine = d; theirs = deed.Nothing; roaming = roaming; regional = regional; keep = k };
+  work = record { mine = d; theirs = d′; roaming = roaming; regional = regional; keep = k };
   restart = restart;
 }
 
 module _ (r : Record) (g : Good r) (z : Sized r) (octets : List ℕ) (time due : ℕ) (h : upTo 35712000 time ≡ true) (i : isFlag due ≡ true) (mine theirs : Turn) (o p : Order)
-    (d : Deed) (roaming regional : Task) (k : Keep) (restart : Bool) (c : NoCard k) (u : Short roaming) (v : Short regional) where
+    (d d′ : Deed) (roaming regional : Task) (k : Keep) (restart : Bool) (c : NoCard k) (u : Short roaming) (v : Short regional) where
   abbrev planned : ℕ → Plan
-  planned w = takenPlan (r .hot) w (ownEffect r time due mine theirs o p d roaming regional k restart)
+  planned w = takenPlan (r .hot) w (ownEffect r time due mine theirs o p d d′ roaming regional k restart)
+
+  -- the entries of the other access, with its deed done
+  abbrev beside : Access → Entries → Entries
+  beside a t = entriesAfter d′ (a .entries) (r .hot .dev .banlimit) (r .hot .dev .n1limit) t
 
   fair : Fair (ticked (flagAfter o (r .hot .dev .t3247)) (flagAfter p (r .hot .dev .t3512)) (scheduled time due (r .hot .dev)))
   unfolding scheduled
@@ -151,27 +155,27 @@ module _ (r : Record) (g : Good r) (z : Sized r) (octets : List ℕ) (time due :
 
   pub own-first : Half (r .hot .dev) (after mine) (equivalentsAfter k true octets (r .equivalents0)) (tableAfter (planned 0) 0 (r .hot .a0 .entries) (r .hot) (r .e0))
       → Turned (r .hot .dev .card) (r .hot .dev .cardlimit) (r .hot .a1 .equivalents) (r .hot .a1 .entries) (after theirs)
+      → Held (r .hot .dev .banlimit) (r .hot .dev .n1limit) (r .hot .a1 .entries) (beside (r .hot .a1) (r .e1))
       → Good (carry r octets (planned 0) .next)
-  unfolding takenPlan hotAfter hotOf ticked scheduled suciOf deedOf deedOn
-  own-first a b =
-      let t = table-idle (planned 0) 1 (r .hot .a1 .entries) (r .hot) (r .e1) refl in
-      let half = half-turned (r .hot .dev) (r .hot .a1 .equivalents) (r .hot .a1 .entries) (after theirs) (r .equivalents1) (r .e1) b (g .half1 .equals) (g .half1 .held) in
+  unfolding takenPlan hotAfter hotOf ticked scheduled suciOf tableAfter deedOf deedOn
+  own-first a b e =
+      let half = half-turned (r .hot .dev) (r .hot .a1 .equivalents) (r .hot .a1 .entries) (after theirs) (r .equivalents1) (beside (r .hot .a1) (r .e1)) b (g .half1 .equals) e in
       good-next r octets (planned 0) fair
       (record { fit = a .fit; timely = a .timely; carded = a .carded; equals = a .equals; held = a .held })
-      (rw (t, equivalents-stay k c octets (r .equivalents1)) (record { fit = half .fit; timely = half .timely; carded = half .carded; equals = half .equals; held = half .held }))
+      (rw (equivalents-stay k c octets (r .equivalents1)) (record { fit = half .fit; timely = half .timely; carded = half .carded; equals = half .equals; held = half .held }))
       (list-kept roaming (r .hot .dev .roaming) (r .roaming) (z .roaming) (g .roaming) u)
       (list-kept regional (r .hot .dev .regional) (r .regional) (z .regional) (g .regional) v)
       (rw (suci-stays k c octets (r .suci)) (g .suci))
 
   pub own-second : Half (r .hot .dev) (after mine) (equivalentsAfter k true octets (r .equivalents1)) (tableAfter (planned 1) 1 (r .hot .a1 .entries) (r .hot) (r .e1))
       → Turned (r .hot .dev .card) (r .hot .dev .cardlimit) (r .hot .a0 .equivalents) (r .hot .a0 .entries) (after theirs)
+      → Held (r .hot .dev .banlimit) (r .hot .dev .n1limit) (r .hot .a0 .entries) (beside (r .hot .a0) (r .e0))
       → Good (carry r octets (planned 1) .next)
-  unfolding takenPlan hotAfter hotOf ticked scheduled suciOf deedOf deedOn
-  own-second a b =
-      let t = table-idle (planned 1) 0 (r .hot .a0 .entries) (r .hot) (r .e0) refl in
-      let half = half-turned (r .hot .dev) (r .hot .a0 .equivalents) (r .hot .a0 .entries) (after theirs) (r .equivalents0) (r .e0) b (g .half0 .equals) (g .half0 .held) in
+  unfolding takenPlan hotAfter hotOf ticked scheduled suciOf tableAfter deedOf deedOn
+  own-second a b e =
+      let half = half-turned (r .hot .dev) (r .hot .a0 .equivalents) (r .hot .a0 .entries) (after theirs) (r .equivalents0) (beside (r .hot .a0) (r .e0)) b (g .half0 .equals) e in
       good-next r octets (planned 1) fair
-      (rw (t, equivalents-stay k c octets (r .equivalents0)) (record { fit = half .fit; timely = half .timely; carded = half .carded; equals = half .equals; held = half .held }))
+      (rw (equivalents-stay k c octets (r .equivalents0)) (record { fit = half .fit; timely = half .timely; carded = half .carded; equals = half .equals; held = half .held }))
       (record { fit = a .fit; timely = a .timely; carded = a .carded; equals = a .equals; held = a .held })
       (list-kept roaming (r .hot .dev .roaming) (r .roaming) (z .roaming) (g .roaming) u)
       (list-kept regional (r .hot .dev .regional) (r .regional) (z .regional) (g .regional) v)

@@ -12,6 +12,7 @@ use Rattle.laws.specs.Upto.{copied}
 use Rattle.entries.specs.declared.Entries.{Entries}
 use Rattle.entries.specs.declared.Seen.{Seen}
 use Rattle.entries.specs.declared.Seat.{Seat}
+use Rattle.entries.specs.declared.Deed.{Deed}
 use Rattle.entries.specs.declared.Deed.the-variants as deed
 use Rattle.entries.specs.Entries.{placeIn, hasEntry, seenIn, seatOf, unforbidden, entriesAfter}
 use Rattle.areas.specs.declared.Task.{Task}
@@ -28,7 +29,7 @@ use Rattle.turns.specs.declared.Turn.{Turn}
 use Rattle.turns.specs.declared.Row.{Row}
 use Rattle.turns.specs.declared.Draws.{Draws}
 use Rattle.turns.specs.Words.{Mark, noMark, forbiddenAndCounted, n1NotAllowedAndCounted, isMark, markIn}
-use Rattle.turns.specs.Rejects.{rejectT3247, t3346Time, rowText, needsEntry, toRoaming, toRegional}
+use Rattle.turns.specs.Rejects.{rejectT3247, t3346Time, rowText, needsEntry, toRoaming, toRegional, acrossN1}
 use Rattle.turns.specs.Turns.{still, accepted, rowTurn, otherTurn}
 use Rattle.rules.specs.declared.Ask.the-variants as ask
 use Rattle.rules.specs.declared.Plan.{Plan}
@@ -43,7 +44,7 @@ use Rattle.validity.proofs.Good.{Fit, Timely, Carded, Held, Good}
 use Rattle.validity.proofs.Setters.{grown, network-short}
 use Rattle.validity.proofs.Areas.{Short}
 use Rattle.validity.proofs.Turns.{after, Turned, still-turned, accepted-turned, row-turned, other-turned}
-use Rattle.validity.proofs.Entries.{sought, banned-held, barred-held, accepted-held}
+use Rattle.validity.proofs.Entries.{sought, banned-held, barred-held, accepted-held, limit-held}
 use Rattle.validity.proofs.Messages.{copied-short}
 use Rattle.validity.proofs.Refusal.{carry, table-idle}
 use Rattle.validity.proofs.Next.{half-turned, own-first, own-second}
@@ -81,17 +82,17 @@ module _ (r : Record) (g : Good r) where
     pub bare-good : (w : ℕ) → isFlag w ≡ true → (time due : ℕ) → upTo 35712000 time ≡ true → isFlag due ≡ true → (t : Turn) (p : Order) (restart : Bool)
         → Turned (r .hot .dev .card) (r .hot .dev .cardlimit) (accessOf (r .hot) w .equivalents) (accessOf (r .hot) w .entries) (after t)
         → Good (carry r octets (takenPlan (r .hot) w (bare w time due t p restart)) .next)
-    unfolding accessOf otherOf takenPlan deedOf deedOn equivalentsAfter
+    unfolding accessOf otherOf takenPlan entriesAfter deedOf deedOn equivalentsAfter
     bare-good zero h time due l f t p restart u =
-        own-first r g z octets time due l f t (still (r .hot .a1)) Leave p deed.Nothing task.Nothing task.Nothing keep.Nothing restart tt tt tt
+        own-first r g z octets time due l f t (still (r .hot .a1)) Leave p deed.Nothing deed.Nothing task.Nothing task.Nothing keep.Nothing restart tt tt tt
         (rw (table-idle (takenPlan (r .hot) 0 (bare 0 time due t p restart)) 0 (r .hot .a0 .entries) (r .hot) (r .e0) refl)
         (half-turned (r .hot .dev) (r .hot .a0 .equivalents) (r .hot .a0 .entries) (after t) (r .equivalents0) (r .e0) u (g .half0 .equals) (g .half0 .held)))
-        second-still
+        second-still (g .half1 .held)
     bare-good (suc zero) h time due l f t p restart u =
-        own-second r g z octets time due l f t (still (r .hot .a0)) Leave p deed.Nothing task.Nothing task.Nothing keep.Nothing restart tt tt tt
+        own-second r g z octets time due l f t (still (r .hot .a0)) Leave p deed.Nothing deed.Nothing task.Nothing task.Nothing keep.Nothing restart tt tt tt
         (rw (table-idle (takenPlan (r .hot) 1 (bare 1 time due t p restart)) 1 (r .hot .a1 .entries) (r .hot) (r .e1) refl)
         (half-turned (r .hot .dev) (r .hot .a1 .equivalents) (r .hot .a1 .entries) (after t) (r .equivalents1) (r .e1) u (g .half1 .equals) (g .half1 .held)))
-        first-still
+        first-still (g .half0 .held)
     bare-good (suc (suc w)) h time due l f t p restart u = absurd (no-third w h)
 
     -- the same with both as they were
@@ -123,21 +124,21 @@ module _ (r : Record) (g : Good r) where
         → Good (carry r octets (takenPlan (r .hot) w (acceptEffect (r .hot) w a s)) .next)
     unfolding accessOf otherOf takenPlan acceptEffect acceptDevice acceptT3512 scheduled tableAfter entriesAfter deedOf deedOn equivalentsAfter
     accept-good zero h a s p q l o c =
-        own-first r g z octets (t3512Time a (r .hot .dev)) 0 (time-fits a l) refl (accepted (a .given) (a .count) (lengthOf a) (r .hot .a0)) (still (r .hot .a1)) Leave (cond (eqb (t3512Time a (r .hot .dev)) 0) Leave (Run (t3512Time a (r .hot .dev)))) (deed.Accept (seatOf s (r .hot .a0 .net) 1)) task.Nothing task.Nothing (keep.Gift a) false tt tt tt
+        own-first r g z octets (t3512Time a (r .hot .dev)) 0 (time-fits a l) refl (accepted (a .given) (a .count) (lengthOf a) (r .hot .a0)) (still (r .hot .a1)) Leave (cond (eqb (t3512Time a (r .hot .dev)) 0) Leave (Run (t3512Time a (r .hot .dev)))) (deed.Accept (seatOf s (r .hot .a0 .net) 1)) deed.Nothing task.Nothing task.Nothing (keep.Gift a) false tt tt tt
         (half-turned (r .hot .dev) (a .count) (r .hot .a0 .entries) (after (accepted (a .given) (a .count) (lengthOf a) (r .hot .a0)))
         (copied (atMost 15 (a .count)) (networksOf (atMost 15 (a .count)) (drop (a .triplets) octets)) (r .equivalents0)) (unforbidden (seatOf s (r .hot .a0 .net) 1) (r .e0))
         (accepted-turned (r .hot .dev .card) (r .hot .dev .cardlimit) (r .hot .a0) (g .half0 .fit) c (a .given) (a .count) (lengthOf a) p (length-fits a q))
         (copied-short (a .count) (a .triplets) octets (r .equivalents0) p o)
         (accepted-held (r .hot .dev .banlimit) (r .hot .dev .n1limit) (r .hot .a0 .entries) (r .e0) (z .e0) (g .half0 .held) (seatOf s (r .hot .a0 .net) 1)))
-        second-still
+        second-still (g .half1 .held)
     accept-good (suc zero) h a s p q l o c =
-        own-second r g z octets (r .hot .dev .t3512length) (r .hot .dev .due) (g .fair .t3512length) (g .fair .due) (accepted (a .given) (a .count) (lengthOf a) (r .hot .a1)) (still (r .hot .a0)) Leave Leave (deed.Accept (seatOf s (r .hot .a1 .net) 1)) task.Nothing task.Nothing (keep.Gift a) false tt tt tt
+        own-second r g z octets (r .hot .dev .t3512length) (r .hot .dev .due) (g .fair .t3512length) (g .fair .due) (accepted (a .given) (a .count) (lengthOf a) (r .hot .a1)) (still (r .hot .a0)) Leave Leave (deed.Accept (seatOf s (r .hot .a1 .net) 1)) deed.Nothing task.Nothing task.Nothing (keep.Gift a) false tt tt tt
         (half-turned (r .hot .dev) (a .count) (r .hot .a1 .entries) (after (accepted (a .given) (a .count) (lengthOf a) (r .hot .a1)))
         (copied (atMost 15 (a .count)) (networksOf (atMost 15 (a .count)) (drop (a .triplets) octets)) (r .equivalents1)) (unforbidden (seatOf s (r .hot .a1 .net) 1) (r .e1))
         (accepted-turned (r .hot .dev .card) (r .hot .dev .cardlimit) (r .hot .a1) (g .half1 .fit) c (a .given) (a .count) (lengthOf a) p (length-fits a q))
         (copied-short (a .count) (a .triplets) octets (r .equivalents1) p o)
         (accepted-held (r .hot .dev .banlimit) (r .hot .dev .n1limit) (r .hot .a1 .entries) (r .e1) (z .e1) (g .half1 .held) (seatOf s (r .hot .a1 .net) 1)))
-        first-still
+        first-still (g .half0 .held)
     accept-good (suc (suc w)) h a s p q l o c = absurd (no-third w h)
 
 -- the seat of a network in these entries
@@ -153,6 +154,13 @@ row-held banlimit n1limit n t w g e noMark net protected f i = g
 row-held banlimit n1limit n t w g e forbiddenAndCounted net protected f i = banned-held banlimit n1limit n t w g (seatIn n net protected (t .nets)) (sought n net (t .nets) e (f refl)) i
 row-held banlimit n1limit n t w g e n1NotAllowedAndCounted net protected f i = barred-held banlimit n1limit n t w g (seatIn n net protected (t .nets)) (sought n net (t .nets) e (f refl)) i
 
+-- the other access's entries: the network's N1 counter at its limit, or nothing
+across-held : (banlimit n1limit n : ℕ) (t : Entries) → Columns t → Held banlimit n1limit n t → (b : Bool) (net : ℕ)
+    → Held banlimit n1limit n (entriesAfter (cond {A = Deed} b (deed.ToLimit net) deed.Nothing) n banlimit n1limit t)
+unfolding entriesAfter
+across-held banlimit n1limit n t w g true net = limit-held banlimit n1limit n t w g net
+across-held banlimit n1limit n t w g false net = g
+
 -- a reject asks about the pending network
 abbrev pub pendingSeen : Record → ℕ → Seen
 pendingSeen r w = seenOf (ask.Network w (accessOf (r .hot) w .net)) (r .hot) (r .e0) (r .e1)
@@ -167,6 +175,9 @@ module _ (r : Record) (g : Good r) (z : Sized r) (octets : List ℕ) (protected 
   abbrev task-if : Bool → Access → Task
   task-if b a = cond b (task.Put (a .net) (a .code) protected) task.Nothing
 
+  abbrev across-if : ℕ → Access → Deed
+  across-if w a = cond (acrossN1 w protected (k .cause) row) (deed.ToLimit (a .net)) deed.Nothing
+
   put-short : (b : Bool) (a : Access) → Fit (r .hot .dev .cardlimit) a → Short (task-if b a)
   put-short true a f = (network-short (a .net) (f .pending .0), f .pending .1)
   put-short false a f = tt
@@ -176,7 +187,7 @@ module _ (r : Record) (g : Good r) (z : Sized r) (octets : List ℕ) (protected 
   unfolding accessOf otherOf takenPlan rejectEffect scheduled rowWork rowDeed needsEntry tableAfter deedOf deedOn seenOf seenBy sightOf seenIn equivalentsAfter
   reject-good zero h f =
       own-first r g z octets (r .hot .dev .t3512length) (r .hot .dev .due) (g .fair .t3512length) (g .fair .due) (rowTurn row 0 (r .hot .dev .cardlimit) (k .cause) (pendingSeen r 0 .found) time (r .hot .a0)) (otherTurn row (r .hot .dev .cardlimit) (r .hot .a1))
-      (rejectT3247 (r .hot .dev .t3247) protected (k .cause) (draws .t3247)) Leave (rowDeed row (seatOf (pendingSeen r 0) (r .hot .a0 .net) protected)) (task-if (toRoaming 0 (k .cause) row) (r .hot .a0)) (task-if (toRegional 0 (k .cause) row) (r .hot .a0)) keep.Nothing false tt
+      (rejectT3247 (r .hot .dev .t3247) protected (k .cause) (draws .t3247)) Leave (rowDeed row (seatOf (pendingSeen r 0) (r .hot .a0 .net) protected)) (across-if 0 (r .hot .a0)) (task-if (toRoaming 0 (k .cause) row) (r .hot .a0)) (task-if (toRegional 0 (k .cause) row) (r .hot .a0)) keep.Nothing false tt
       (put-short (toRoaming 0 (k .cause) row) (r .hot .a0) (g .half0 .fit)) (put-short (toRegional 0 (k .cause) row) (r .hot .a0) (g .half0 .fit))
       (half-turned (r .hot .dev) (r .hot .a0 .equivalents) (cond (needsEntry row) (grown (pendingSeen r 0 .found) (r .hot .a0 .entries)) (r .hot .a0 .entries))
       (after (rowTurn row 0 (r .hot .dev .cardlimit) (k .cause) (pendingSeen r 0 .found) time (r .hot .a0))) (r .equivalents0) (tableAfter (rejectPlan 0) 0 (r .hot .a0 .entries) (r .hot) (r .e0))
@@ -184,9 +195,10 @@ module _ (r : Record) (g : Good r) (z : Sized r) (octets : List ℕ) (protected 
       (g .half0 .equals)
       (row-held (r .hot .dev .banlimit) (r .hot .dev .n1limit) (r .hot .a0 .entries) (r .e0) (z .e0) (g .half0 .held) (g .half0 .fit .entries) (markIn (rowText row)) (r .hot .a0 .net) protected f (g .half0 .fit .pending .0)))
       (other-turned (r .hot .dev .card) (r .hot .dev .cardlimit) (r .hot .a1) (g .half1 .fit) (g .half1 .timely) (g .half1 .carded) row)
+      (across-held (r .hot .dev .banlimit) (r .hot .dev .n1limit) (r .hot .a1 .entries) (r .e1) (z .e1) (g .half1 .held) (acrossN1 0 protected (k .cause) row) (r .hot .a0 .net))
   reject-good (suc zero) h f =
       own-second r g z octets (r .hot .dev .t3512length) (r .hot .dev .due) (g .fair .t3512length) (g .fair .due) (rowTurn row 1 (r .hot .dev .cardlimit) (k .cause) (pendingSeen r 1 .found) time (r .hot .a1)) (otherTurn row (r .hot .dev .cardlimit) (r .hot .a0))
-      (rejectT3247 (r .hot .dev .t3247) protected (k .cause) (draws .t3247)) Leave (rowDeed row (seatOf (pendingSeen r 1) (r .hot .a1 .net) protected)) (task-if (toRoaming 1 (k .cause) row) (r .hot .a1)) (task-if (toRegional 1 (k .cause) row) (r .hot .a1)) keep.Nothing false tt
+      (rejectT3247 (r .hot .dev .t3247) protected (k .cause) (draws .t3247)) Leave (rowDeed row (seatOf (pendingSeen r 1) (r .hot .a1 .net) protected)) (across-if 1 (r .hot .a1)) (task-if (toRoaming 1 (k .cause) row) (r .hot .a1)) (task-if (toRegional 1 (k .cause) row) (r .hot .a1)) keep.Nothing false tt
       (put-short (toRoaming 1 (k .cause) row) (r .hot .a1) (g .half1 .fit)) (put-short (toRegional 1 (k .cause) row) (r .hot .a1) (g .half1 .fit))
       (half-turned (r .hot .dev) (r .hot .a1 .equivalents) (cond (needsEntry row) (grown (pendingSeen r 1 .found) (r .hot .a1 .entries)) (r .hot .a1 .entries))
       (after (rowTurn row 1 (r .hot .dev .cardlimit) (k .cause) (pendingSeen r 1 .found) time (r .hot .a1))) (r .equivalents1) (tableAfter (rejectPlan 1) 1 (r .hot .a1 .entries) (r .hot) (r .e1))
@@ -194,4 +206,5 @@ module _ (r : Record) (g : Good r) (z : Sized r) (octets : List ℕ) (protected 
       (g .half1 .equals)
       (row-held (r .hot .dev .banlimit) (r .hot .dev .n1limit) (r .hot .a1 .entries) (r .e1) (z .e1) (g .half1 .held) (g .half1 .fit .entries) (markIn (rowText row)) (r .hot .a1 .net) protected f (g .half1 .fit .pending .0)))
       (other-turned (r .hot .dev .card) (r .hot .dev .cardlimit) (r .hot .a0) (g .half0 .fit) (g .half0 .timely) (g .half0 .carded) row)
+      (across-held (r .hot .dev .banlimit) (r .hot .dev .n1limit) (r .hot .a0 .entries) (r .e0) (z .e0) (g .half0 .held) (acrossN1 1 protected (k .cause) row) (r .hot .a1 .net))
   reject-good (suc (suc w)) h f = absurd (no-third w h)

@@ -5,8 +5,9 @@ use mathlib.Core.Bool.{Bool, true, false, cond}
 use mathlib.Core.List.{List}
 use Rattle.entries.specs.declared.Entries.{Entries}
 use Rattle.entries.specs.declared.Seat.{Seat}
+use Rattle.entries.specs.declared.Deed.{Deed}
 use Rattle.entries.specs.declared.Deed.the-variants as deed
-use Rattle.entries.specs.Entries.{seenIn, entriesAfter}
+use Rattle.entries.specs.Entries.{seenIn, n1ToLimit, entriesAfter}
 use Rattle.areas.specs.Areas.{areaOf, placed, placedCount, listAfter, countAfter}
 use Rattle.messages.specs.declared.Reject.{Reject}
 use Rattle.messages.specs.declared.Reading.the-variants as reading
@@ -17,7 +18,7 @@ use Rattle.record.specs.Sides.{accessOf, otherOf, hotOf}
 use Rattle.record.specs.Tests.{isFlag}
 use Rattle.turns.specs.declared.Draws.{Draws}
 use Rattle.turns.specs.Words.{Mark, noMark, forbiddenAndCounted, n1NotAllowedAndCounted, markIn}
-use Rattle.turns.specs.Rejects.{rowText, toRoaming, toRegional}
+use Rattle.turns.specs.Rejects.{rowText, toRoaming, toRegional, acrossN1}
 use Rattle.turns.specs.Timers.{flagAfter}
 use Rattle.turns.specs.Turns.{rowTurn, otherTurn}
 use Rattle.checks.specs.Answers.{rowNow}
@@ -47,9 +48,11 @@ count-put true net code protected n xs = refl
 count-put false net code protected n xs = refl
 
 -- the entries of the other access
-entry-kept : (count banlimit n1limit : ℕ) (t : Entries) → entriesAfter deed.Nothing count banlimit n1limit t ≡ t
+entry-across : (b : Bool) (net count banlimit n1limit : ℕ) (t : Entries)
+    → entriesAfter (cond {A = Deed} b (deed.ToLimit net) deed.Nothing) count banlimit n1limit t ≡ cond b (n1ToLimit net count n1limit t) t
 unfolding entriesAfter
-entry-kept count banlimit n1limit t = refl
+entry-across true net count banlimit n1limit t = refl
+entry-across false net count banlimit n1limit t = refl
 
 -- the entries of the receiving access
 entry-marked : (m : Mark) (k : Seat) (count banlimit n1limit : ℕ) (t : Entries)
@@ -65,10 +68,10 @@ module _ (r : Record) (protected : ℕ) (draws : Draws) (g : Reject) (octets : L
 
   -- over access 0, and over access 1
   carried : (w : ℕ) → isFlag w ≡ true → carry r octets (rejectPlan w) .next ≡ rejectRecord r w protected draws g
-  unfolding joinedOf together carriedOut doneOf withCounts takenPlan hotAfter hotOf ticked flagAfter rejectEffect rowTurn otherTurn rowWork rowDeed toRoaming toRegional accessOf otherOf seenOf seenBy sightOf seenIn keptAfter gutiAfter equivalentsAfter suciAfter rejectRecord recordAfter tableAfter deedOf deedOn
+  unfolding joinedOf together carriedOut doneOf withCounts takenPlan hotAfter hotOf ticked flagAfter rejectEffect rowTurn otherTurn rowWork rowDeed toRoaming toRegional acrossN1 accessOf otherOf seenOf seenBy sightOf seenIn keptAfter gutiAfter equivalentsAfter suciAfter rejectRecord recordAfter tableAfter deedOf deedOn
   carried zero h = rw (
     entry-marked (markIn (rowText (rowNow (r .hot) 0 protected g))) (seat protected (r .hot .a0) (r .e0)) (r .hot .a0 .entries) (r .hot .dev .banlimit) (r .hot .dev .n1limit) (r .e0),
-    entry-kept (r .hot .a1 .entries) (r .hot .dev .banlimit) (r .hot .dev .n1limit) (r .e1),
+    entry-across (acrossN1 0 protected (g .cause) (rowNow (r .hot) 0 protected g)) (r .hot .a0 .net) (r .hot .a1 .entries) (r .hot .dev .banlimit) (r .hot .dev .n1limit) (r .e1),
     list-put (toRoaming 0 (g .cause) (rowNow (r .hot) 0 protected g)) (r .hot .a0 .net) (r .hot .a0 .code) protected (r .hot .dev .roaming) (r .roaming),
     count-put (toRoaming 0 (g .cause) (rowNow (r .hot) 0 protected g)) (r .hot .a0 .net) (r .hot .a0 .code) protected (r .hot .dev .roaming) (r .roaming),
     list-put (toRegional 0 (g .cause) (rowNow (r .hot) 0 protected g)) (r .hot .a0 .net) (r .hot .a0 .code) protected (r .hot .dev .regional) (r .regional),
@@ -76,7 +79,7 @@ module _ (r : Record) (protected : ℕ) (draws : Draws) (g : Reject) (octets : L
   )
   carried (suc zero) h = rw (
     entry-marked (markIn (rowText (rowNow (r .hot) 1 protected g))) (seat protected (r .hot .a1) (r .e1)) (r .hot .a1 .entries) (r .hot .dev .banlimit) (r .hot .dev .n1limit) (r .e1),
-    entry-kept (r .hot .a0 .entries) (r .hot .dev .banlimit) (r .hot .dev .n1limit) (r .e0),
+    entry-across (acrossN1 1 protected (g .cause) (rowNow (r .hot) 1 protected g)) (r .hot .a1 .net) (r .hot .a0 .entries) (r .hot .dev .banlimit) (r .hot .dev .n1limit) (r .e0),
     list-put (toRoaming 1 (g .cause) (rowNow (r .hot) 1 protected g)) (r .hot .a1 .net) (r .hot .a1 .code) protected (r .hot .dev .roaming) (r .roaming),
     count-put (toRoaming 1 (g .cause) (rowNow (r .hot) 1 protected g)) (r .hot .a1 .net) (r .hot .a1 .code) protected (r .hot .dev .roaming) (r .roaming),
     list-put (toRegional 1 (g .cause) (rowNow (r .hot) 1 protected g)) (r .hot .a1 .net) (r .hot .a1 .code) protected (r .hot .dev .regional) (r .regional),

@@ -14,7 +14,7 @@ use Rattle.record.specs.Sides.{accessOf, otherOf}
 use Rattle.record.specs.Tests.{isFlag}
 use Rattle.turns.specs.declared.Draws.{Draws}
 use Rattle.turns.specs.Timers.{toldOf, clocksOf}
-use Rattle.turns.specs.Words.{Text, says, asT3510Out, Across, untouched, cardCounterToLimit, counterAfter, isUpdating, acrossOf}
+use Rattle.turns.specs.Words.{Text, says, asT3510Out, Across, untouched, cardCounterToLimit, n1CounterToLimitIfProtected, counterAfter, isUpdating, acrossOf}
 use Rattle.turns.specs.Rejects.{t3346Time, rowText}
 use Rattle.turns.specs.Turns.{startFailed, updateFailed, failed, turned, rowTurn, otherTurned, otherTurn}
 use Rattle.checks.specs.Answers.{rowNow}
@@ -45,6 +45,7 @@ across-told : (o : Across) (limit : ℕ) (a b : Access) → clocksOf (otherTurne
 unfolding otherTurned clocksOf toldOf
 across-told untouched limit a b = refl
 across-told cardCounterToLimit limit a b = refl
+across-told (n1CounterToLimitIfProtected x) limit a b = refl
 
 module _ (r : Record) (protected : ℕ) (draws : Draws) (g : Reject) (octets : List ℕ) where
   abbrev rejectPlan : ℕ → Plan

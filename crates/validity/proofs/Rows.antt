@@ -6,6 +6,7 @@ use mathlib.Core.Bool.{Bool, true, false, cond}
 use mathlib.Core.List.{List}
 use lib.Dec.{ltb, eqb}
 use Rattle.laws.specs.Bounds.{oneMore}
+use Rattle.entries.specs.declared.Entries.{Entries}
 use Rattle.areas.specs.Areas.{areaOf}
 use Rattle.messages.specs.declared.Reject.{Reject}
 use Rattle.messages.specs.declared.Reading.the-variants as reading
@@ -15,12 +16,12 @@ use Rattle.record.specs.declared.Record.{Record}
 use Rattle.record.specs.Answers.{isTaken}
 use Rattle.record.specs.Setters.{inState, withStatus, withAttempts, forgotten, emptied, counted}
 use Rattle.record.specs.Sides.{accessOf}
-use Rattle.record.specs.Tests.{both}
+use Rattle.record.specs.Tests.{both, flip}
 use Rattle.turns.specs.declared.Draws.{Draws}
 use Rattle.turns.specs.declared.Row.{Row}
 use Rattle.turns.specs.declared.Row.the-variants.{CardBelow, CardLimit, CardProtected, Away, Home, Area, N1, Congested, Protocol, Other}
 use Rattle.turns.specs.Timers.{flagAfter, clocked}
-use Rattle.turns.specs.Words.{holds, counterAfter, isUpdating, stateAfter, isRoaming, isRegional, isMark, ordersAfter, listOf, markIn, acrossOf, applied}
+use Rattle.turns.specs.Words.{holds, counterAfter, isUpdating, stateAfter, isRoaming, isRegional, isMark, ordersAfter, listOf, markIn, isN1Across, acrossOf, applied}
 use Rattle.turns.specs.Rejects.{rejectT3247, t3346Time, rowText}
 use Rattle.turns.specs.Turns.{startFailed, updateFailed, failed, turned, otherTurned}
 use Rattle.checks.specs.Answers.{rowNow}
@@ -53,16 +54,22 @@ in-update a = go (eqb (a .state) 4)
     go true = refl
     go false = refl
 
+-- the other access's entries after 27, protected
+across-n1 : (is27 bare : Bool) (t t′ : Entries) → cond (both is27 (flip bare)) t t′ ≡ cond is27 (cond bare t′ t) t′
+across-n1 true true t t′ = refl
+across-n1 true false t t′ = refl
+across-n1 false bare t t′ = refl
+
 module _ (w protected cause t3247 time area : ℕ) (r : Record) where
   row-record : (row : Row) → recordAfter (rowText row) w protected cause t3247 time area r ≡ rowRecord row w protected cause t3247 area r
-  unfolding recordAfter rowText rowRecord figuresRecord rowFigures rowRest turned applied isUpdating otherTurned counted clocked flagAfter holds counterAfter stateAfter isRoaming isRegional isMark ordersAfter listOf markIn acrossOf markedIn
+  unfolding recordAfter rowText rowRecord figuresRecord rowFigures rowRest turned applied isUpdating otherTurned counted clocked flagAfter holds counterAfter stateAfter isRoaming isRegional isMark ordersAfter listOf markIn isN1Across acrossOf markedIn
   row-record CardBelow = refl
   row-record CardLimit = refl
   row-record CardProtected = refl
   row-record Away = refl
   row-record Home = refl
   row-record Area = refl
-  row-record N1 = refl
+  row-record N1 = rw (across-n1 (eqb cause 27) (eqb protected 0) _ (r .e0), across-n1 (eqb cause 27) (eqb protected 0) _ (r .e1))
   row-record Congested = rw (in-update (r .hot .a0), in-update (r .hot .a1))
   row-record Protocol = rw (out-figures 5 false (r .hot .a0), out-figures 5 false (r .hot .a1))
   row-record Other = rw (out-figures (oneMore 5 (r .hot .a0 .attempts)) false (r .hot .a0), out-figures (oneMore 5 (r .hot .a1 .attempts)) false (r .hot .a1))

@@ -12,7 +12,7 @@ use Rattle.entries.specs.declared.Entries.{Entries}
 use Rattle.entries.specs.declared.Seat.{Seat}
 use Rattle.entries.specs.declared.Deed.{Deed}
 use Rattle.entries.specs.declared.Deed.the-variants as deed
-use Rattle.entries.specs.Entries.{entriesHeld, liftMark, bumped, putAt, clearUnless, raised, banned, barredBy, unforbidden, swept, powered, none, entriesAfter}
+use Rattle.entries.specs.Entries.{entriesHeld, placeIn, hasEntry, liftMark, bumped, putAt, clearUnless, raised, banned, barredBy, unforbidden, n1ToLimit, swept, powered, none, entriesAfter}
 use Rattle.areas.specs.declared.Task.{Task}
 use Rattle.areas.specs.declared.Task.the-variants as task
 use Rattle.areas.specs.Areas.{areaOf, isProtected, areaPlace, listedIn, marked, remarked, placed, stayed, sweptList, listAfter}
@@ -96,6 +96,16 @@ module _ (t : Entries) (w : Columns t) where
     barred = w .barred;
   }
 
+  limit-columns : (net count limit : ℕ) → Columns (n1ToLimit net count limit t)
+  unfolding n1ToLimit
+  limit-columns net count limit = record {
+    nets = w .nets;
+    bans = w .bans;
+    n1s = cond-length (hasEntry count net (t .nets)) (putAt (t .n1s) (placeIn count net (t .nets)) limit) (t .n1s) 16 (put-length (t .n1s) (placeIn count net (t .nets)) limit 16 (w .n1s)) (w .n1s);
+    forbidden = w .forbidden;
+    barred = w .barred;
+  }
+
   swept-columns : (count banlimit n1limit : ℕ) → Columns (swept count banlimit n1limit t)
   unfolding swept
   swept-columns count banlimit n1limit = record {
@@ -122,6 +132,7 @@ entries-columns deed.Nothing count banlimit n1limit t w = w
 entries-columns (deed.Ban s) count banlimit n1limit t w = banned-columns t w s banlimit
 entries-columns (deed.Bar s) count banlimit n1limit t w = barred-columns t w s n1limit
 entries-columns (deed.Accept s) count banlimit n1limit t w = accepted-columns t w s
+entries-columns (deed.ToLimit net) count banlimit n1limit t w = limit-columns t w net count n1limit
 entries-columns deed.Sweep count banlimit n1limit t w = swept-columns t w count banlimit n1limit
 entries-columns deed.Power count banlimit n1limit t w = cycled-columns t w count banlimit
 entries-columns deed.Fresh count banlimit n1limit t w = none-columns

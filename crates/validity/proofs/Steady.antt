@@ -22,7 +22,7 @@ use Rattle.ranges.specs.Valid.{validOf}
 use Rattle.turns.specs.declared.Turn.{Turn}
 use Rattle.turns.specs.declared.Draws.{Draws}
 use Rattle.turns.specs.Timers.{isDeviceTimer, runsOn, flagAfter, clocked}
-use Rattle.turns.specs.Words.{Across, untouched, cardCounterToLimit, acrossOf}
+use Rattle.turns.specs.Words.{Across, untouched, cardCounterToLimit, n1CounterToLimitIfProtected, acrossOf}
 use Rattle.turns.specs.Rejects.{rowText}
 use Rattle.turns.specs.Turns.{started, updated, keySet, accepted, t3511Out, t3502Out, t3346Out, clockTurn, otherTurned, otherTurn}
 use Rattle.checks.specs.Answers.{mayStart, rowNow, runs}
@@ -68,6 +68,7 @@ across-state : (o : Across) (limit : ℕ) (a : Access) → otherTurned o limit a
 unfolding otherTurned counted
 across-state untouched limit a = refl
 across-state cardCounterToLimit limit a = refl
+across-state (n1CounterToLimitIfProtected x) limit a = refl
 
 module _ (r : Record) (g : Good r) (s : Steady r) where
   abbrev h : Hot

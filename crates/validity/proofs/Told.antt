@@ -24,7 +24,7 @@ use Rattle.turns.specs.declared.Order.the-variants.{Leave, Stop, Run}
 use Rattle.turns.specs.declared.Turn.{Turn}
 use Rattle.turns.specs.declared.Draws.{Draws}
 use Rattle.turns.specs.Timers.{isDeviceTimer, flagAfter, clocked, toldOf, clocksOf}
-use Rattle.turns.specs.Words.{Text, says, asT3510Out, Across, untouched, cardCounterToLimit, counterAfter, isUpdating, acrossOf, applied}
+use Rattle.turns.specs.Words.{Text, says, asT3510Out, Across, untouched, cardCounterToLimit, n1CounterToLimitIfProtected, counterAfter, isUpdating, acrossOf, applied}
 use Rattle.turns.specs.Rejects.{t3346Time, rowText}
 use Rattle.turns.specs.Turns.{still, started, updated, keySet, accepted, startFailed, updateFailed, failed, t3510Out, t3511Out, t3502Out, t3346Out, clockTurn, cycled, renewed, turned, rowTurn, otherTurned, otherTurn}
 use Rattle.checks.specs.Answers.{rowNow}
@@ -84,6 +84,7 @@ across-owns : (o : Across) (limit : ℕ) (a : Access) → Owns (otherTurned o li
 unfolding otherTurned counted
 across-owns untouched limit a = record { t3510 = refl; t3511 = refl; t3502 = refl; t3346 = refl }
 across-owns cardCounterToLimit limit a = record { t3510 = refl; t3511 = refl; t3502 = refl; t3346 = refl }
+across-owns (n1CounterToLimitIfProtected x) limit a = record { t3510 = refl; t3511 = refl; t3502 = refl; t3346 = refl }
 
 -- the same of both accesses, by the effect of an event of access b
 record Owned (h : Hot) (b : ℕ) (x : Effect) : Type 0 where

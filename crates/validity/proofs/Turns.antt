@@ -17,7 +17,7 @@ use Rattle.turns.specs.declared.Turn.{Turn}
 use Rattle.turns.specs.declared.Row.{Row}
 use Rattle.turns.specs.declared.Row.the-variants.{CardBelow, CardLimit, CardProtected, Away, Home, Area, N1, Congested, Protocol, Other}
 use Rattle.turns.specs.Timers.{flagAfter, quiet, starting, answered, retrying, resting, t3511Stops, t3502Stops, t3346Stops, halted, clocked}
-use Rattle.turns.specs.Words.{Text, says, asT3510Out, Words, Counter, kept, upByOne, toLimit, zeroed, Across, untouched, cardCounterToLimit, Timing, stopT3510, stopT3510RunT3346, holds, counterAfter, isUpdating, stateAfter, ordersAfter, isMark, markIn, acrossOf, applied}
+use Rattle.turns.specs.Words.{Text, says, asT3510Out, Words, Counter, kept, upByOne, toLimit, zeroed, Across, untouched, cardCounterToLimit, n1CounterToLimitIfProtected, Timing, stopT3510, stopT3510RunT3346, holds, counterAfter, isUpdating, stateAfter, ordersAfter, isMark, markIn, acrossOf, applied}
 use Rattle.turns.specs.Rejects.{rowText, needsEntry}
 use Rattle.record.specs.Setters.{inState, withStatus, withAttempts, forgotten, emptied, counted, pending, keyed, taught}
 use Rattle.turns.specs.Turns.{turnOf, still, started, updated, keySet, accepted, startFailed, updateFailed, failed, t3510Out, t3511Out, t3502Out, t3346Out, cycled, renewed, turned, rowTurn, otherTurned, otherTurn}
@@ -121,6 +121,7 @@ module _ (card limit : ℕ) (a : Access) (g : Fit limit a) where
     unfolding otherTurned
     across-turned untouched = still-turned
     across-turned cardCounterToLimit = counted-turned
+    across-turned (n1CounterToLimitIfProtected x) = still-turned
 
     pub other-turned : (r : Row) → Turned card limit (a .equivalents) (a .entries) (after (otherTurn r limit a))
     unfolding otherTurn

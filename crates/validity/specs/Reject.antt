@@ -4,7 +4,7 @@ use mathlib.Core.Bool.{cond}
 use lib.Dec.{eqb}
 use Rattle.entries.specs.declared.Entries.{Entries}
 use Rattle.entries.specs.declared.Seat.{Seat}
-use Rattle.entries.specs.Entries.{placeIn, hasEntry, banned, barredBy}
+use Rattle.entries.specs.Entries.{placeIn, hasEntry, banned, barredBy, n1ToLimit}
 use Rattle.areas.specs.Areas.{areaOf, placed, placedCount}
 use Rattle.record.specs.declared.Access.{Access}
 use Rattle.record.specs.declared.Record.{Record}
@@ -13,7 +13,7 @@ use Rattle.messages.specs.declared.Reject.{Reject}
 use Rattle.turns.specs.declared.Turn.{Turn}
 use Rattle.turns.specs.declared.Draws.{Draws}
 use Rattle.turns.specs.Timers.{flagAfter, clocked}
-use Rattle.turns.specs.Words.{Text, Mark, noMark, forbiddenAndCounted, n1NotAllowedAndCounted, isRoaming, isRegional, listOf, markIn, acrossOf}
+use Rattle.turns.specs.Words.{Text, Mark, noMark, forbiddenAndCounted, n1NotAllowedAndCounted, isRoaming, isRegional, listOf, markIn, isN1Across, acrossOf}
 use Rattle.turns.specs.Rejects.{rejectT3247, t3346Time, rowText}
 use Rattle.turns.specs.Turns.{turned, otherTurned}
 use Rattle.checks.specs.Answers.{rowNow}
@@ -32,12 +32,14 @@ markedIn n1NotAllowedAndCounted k banlimit n1limit t = barredBy k n1limit t
 abbrev pub after : Turn → Access
 after t = clocked (t .orders) (t .access)
 
--- access me of an event of access w, with T3346's time, and its entries
+-- access me of an event of access w, with T3346's time, and its entries; net is the pending network of access w
 abbrev accessAfter : Text → ℕ → ℕ → ℕ → ℕ → ℕ → ℕ → Access → Entries → Access
 accessAfter t w me protected cause limit time a e = cond (eqb w me) (after (turned t w limit cause (seat protected a e .found) time a)) (after (otherTurned (acrossOf t) limit a))
 
-abbrev rejectEntries : Text → ℕ → ℕ → ℕ → ℕ → ℕ → Access → Entries → Entries
-rejectEntries t w me protected banlimit n1limit a e = cond (eqb w me) (markedIn (markIn t) (seat protected a e) banlimit n1limit e) e
+abbrev rejectEntries : Text → ℕ → ℕ → ℕ → ℕ → ℕ → ℕ → ℕ → Access → Entries → Entries
+rejectEntries t w me protected cause banlimit n1limit net a e =
+    cond (eqb w me) (markedIn (markIn t) (seat protected a e) banlimit n1limit e)
+    (cond (isN1Across (acrossOf t) w protected cause) (n1ToLimit net (a .entries) n1limit e) e)
 
 unfoldable pub recordAfter : Text → ℕ → ℕ → ℕ → ℕ → ℕ → ℕ → Record → Record
 recordAfter t w protected cause t3247 time area r = record {
@@ -61,8 +63,8 @@ recordAfter t w protected cause t3247 time area r = record {
     a0 = accessAfter t w 0 protected cause (r .hot .dev .cardlimit) time (r .hot .a0) (r .e0);
     a1 = accessAfter t w 1 protected cause (r .hot .dev .cardlimit) time (r .hot .a1) (r .e1);
   };
-  e0 = rejectEntries t w 0 protected (r .hot .dev .banlimit) (r .hot .dev .n1limit) (r .hot .a0) (r .e0);
-  e1 = rejectEntries t w 1 protected (r .hot .dev .banlimit) (r .hot .dev .n1limit) (r .hot .a1) (r .e1);
+  e0 = rejectEntries t w 0 protected cause (r .hot .dev .banlimit) (r .hot .dev .n1limit) (accessOf (r .hot) w .net) (r .hot .a0) (r .e0);
+  e1 = rejectEntries t w 1 protected cause (r .hot .dev .banlimit) (r .hot .dev .n1limit) (accessOf (r .hot) w .net) (r .hot .a1) (r .e1);
   roaming = cond (isRoaming (listOf t) w cause) (placed area protected (r .hot .dev .roaming) (r .roaming)) (r .roaming);
   regional = cond (isRegional (listOf t) w cause) (placed area protected (r .hot .dev .regional) (r .regional)) (r .regional);
   guti0 = r .guti0;

@@ -1,14 +1,15 @@
--- Document 01's table of rejects, and document 02's row of R-6, a second time, in plain numbers and with no word of the first one: the whole record after each row.
+-- Document 01's table of rejects, with document 02's R-6 and R-14, a second time, in plain numbers and with no word of the first one: the whole record after each row.
 -- Assumes nothing.
 use Prim.Native.Nat.{ℕ}
 use mathlib.Core.Bool.{Bool, true, false, cond}
 use lib.Dec.{ltb, eqb}
 use Rattle.laws.specs.Bounds.{oneMore}
 use Rattle.entries.specs.declared.Entries.{Entries}
-use Rattle.entries.specs.Entries.{banned, barredBy}
+use Rattle.entries.specs.Entries.{banned, barredBy, n1ToLimit}
 use Rattle.areas.specs.Areas.{placed, placedCount}
 use Rattle.record.specs.declared.Access.{Access}
 use Rattle.record.specs.declared.Record.{Record}
+use Rattle.record.specs.Sides.{accessOf}
 use Rattle.turns.specs.declared.Order.{Order}
 use Rattle.turns.specs.declared.Order.the-variants.{Leave, Stop, Run}
 use Rattle.turns.specs.declared.Orders.{Orders}
@@ -81,28 +82,29 @@ rowFigures Protocol w cause limit a = outFigures 5 a
 rowFigures Other w cause limit a = outFigures (oneMore 5 (a .attempts)) a
 
 -- The rest of a row: whether the network is banned, whether it is barred for N1, whether the area goes to the roaming and to the regional list,
--- and whether the other access's card counter goes to the limit.
+-- and of the other access whether its card counter goes to the limit, and whether a protected reject takes the network's N1 counter there.
 pub record Rest : Type 0 where
   pub bans : Bool
   pub bars : Bool
   pub roaming : Bool
   pub regional : Bool
-  pub across : Bool
+  pub acrossCard : Bool
+  pub acrossN1 : Bool
 
-abbrev rest : Bool → Bool → Bool → Bool → Bool → Rest
-rest bans bars roaming regional across = record { bans = bans; bars = bars; roaming = roaming; regional = regional; across = across }
+abbrev rest : Bool → Bool → Bool → Bool → Bool → Bool → Rest
+rest bans bars roaming regional acrossCard acrossN1 = record { bans = bans; bars = bars; roaming = roaming; regional = regional; acrossCard = acrossCard; acrossN1 = acrossN1 }
 
 unfoldable pub rowRest : Row → ℕ → ℕ → Rest
-rowRest CardBelow w cause = rest false false (eqb w 0) false false
-rowRest CardLimit w cause = rest false false false false false
-rowRest CardProtected w cause = rest false false false false true
-rowRest Away w cause = rest true false false false false
-rowRest Home w cause = rest false false (eqb w 0) false false
-rowRest Area w cause = rest false false (cond (eqb cause 12) false true) (eqb cause 12) false
-rowRest N1 w cause = rest false true false false false
-rowRest Congested w cause = rest false false false false false
-rowRest Protocol w cause = rest false false false false false
-rowRest Other w cause = rest false false false false false
+rowRest CardBelow w cause = rest false false (eqb w 0) false false false
+rowRest CardLimit w cause = rest false false false false false false
+rowRest CardProtected w cause = rest false false false false true false
+rowRest Away w cause = rest true false false false false false
+rowRest Home w cause = rest false false (eqb w 0) false false false
+rowRest Area w cause = rest false false (cond (eqb cause 12) false true) (eqb cause 12) false false
+rowRest N1 w cause = rest false true false false false (eqb cause 27)
+rowRest Congested w cause = rest false false false false false false
+rowRest Protocol w cause = rest false false false false false false
+rowRest Other w cause = rest false false false false false false
 
 -- the receiving access; found says whether the pending network has an entry
 abbrev pub withFigures : Figures → Bool → Bool → Access → Access
@@ -156,13 +158,14 @@ crossed across limit a = record {
   entries = a .entries;
 }
 
--- access me of a reject over access w, and its entries
+-- access me of a reject over access w, and its entries; net is the pending network of access w
 abbrev accessBy : (Access → Figures) → Rest → ℕ → ℕ → ℕ → ℕ → Access → Entries → Access
-accessBy l x w me protected limit a e = cond (eqb w me) (withFigures (l a) (cond (x .bans) true (x .bars)) (seat protected a e .found) a) (crossed (x .across) limit a)
+accessBy l x w me protected limit a e = cond (eqb w me) (withFigures (l a) (cond (x .bans) true (x .bars)) (seat protected a e .found) a) (crossed (x .acrossCard) limit a)
 
-abbrev entriesBy : Rest → ℕ → ℕ → ℕ → ℕ → ℕ → Access → Entries → Entries
-entriesBy x w me protected banlimit n1limit a e =
-    cond (eqb w me) (cond (x .bans) (banned (seat protected a e) banlimit e) (cond (x .bars) (barredBy (seat protected a e) n1limit e) e)) e
+abbrev entriesBy : Rest → ℕ → ℕ → ℕ → ℕ → ℕ → ℕ → Access → Entries → Entries
+entriesBy x w me protected banlimit n1limit net a e =
+    cond (eqb w me) (cond (x .bans) (banned (seat protected a e) banlimit e) (cond (x .bars) (barredBy (seat protected a e) n1limit e) e))
+    (cond (x .acrossN1) (cond (eqb protected 0) e (n1ToLimit net (a .entries) n1limit e)) e)
 
 unfoldable pub figuresRecord : (Access → Figures) → Rest → ℕ → ℕ → ℕ → ℕ → Record → Record
 figuresRecord l x w protected t3247 area r = record {
@@ -186,8 +189,8 @@ figuresRecord l x w protected t3247 area r = record {
     a0 = accessBy l x w 0 protected (r .hot .dev .cardlimit) (r .hot .a0) (r .e0);
     a1 = accessBy l x w 1 protected (r .hot .dev .cardlimit) (r .hot .a1) (r .e1);
   };
-  e0 = entriesBy x w 0 protected (r .hot .dev .banlimit) (r .hot .dev .n1limit) (r .hot .a0) (r .e0);
-  e1 = entriesBy x w 1 protected (r .hot .dev .banlimit) (r .hot .dev .n1limit) (r .hot .a1) (r .e1);
+  e0 = entriesBy x w 0 protected (r .hot .dev .banlimit) (r .hot .dev .n1limit) (accessOf (r .hot) w .net) (r .hot .a0) (r .e0);
+  e1 = entriesBy x w 1 protected (r .hot .dev .banlimit) (r .hot .dev .n1limit) (accessOf (r .hot) w .net) (r .hot .a1) (r .e1);
   roaming = cond (x .roaming) (placed area protected (r .hot .dev .roaming) (r .roaming)) (r .roaming);
   regional = cond (x .regional) (placed area protected (r .hot .dev .regional) (r .regional)) (r .regional);
   guti0 = r .guti0;

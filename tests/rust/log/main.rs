@@ -71,9 +71,11 @@ enum Phase {
     Lost,
     /// A network that asks for time, at starts and at updates.
     Busy,
+    /// Networks that bar N1 over one access and then over the other.
+    Both,
 }
 
-const PHASES: [Phase; 17] = [
+const PHASES: [Phase; 18] = [
     Phase::Mixed,
     Phase::Mixed,
     Phase::Mixed,
@@ -91,6 +93,7 @@ const PHASES: [Phase; 17] = [
     Phase::Busy,
     Phase::Busy,
     Phase::Busy,
+    Phase::Both,
 ];
 
 /// The cause with which a network may ask for time.
@@ -382,6 +385,7 @@ impl Generator {
             Phase::Moving => self.random.pick(&[11, 73, 12, 13, 15, 27, 72, 22, 97, 7]),
             Phase::Lost => self.random.pick(&[22, 9, 10, 98, 22, 5, 96, 72]),
             Phase::Busy => self.random.pick(&[22, 22, 22, 22, 22, 22, 22, 11, 15, 27, 9, 111]),
+            Phase::Both => self.random.pick(&[27, 27, 27, 27, 72, 11]),
             _ if self.wild && self.random.odds(10) => self.random.octet(),
             _ => self.random.pick(&CAUSES),
         }

@@ -11,14 +11,14 @@ put-net-requires c κs = search needs
 raise-requires : tie.Need-raise-requires
 raise-requires c κs = search needs
 
-clear-requires : tie.Need-clear-requires
-clear-requires c κs = search needs
+put-when-requires : tie.Need-put-when-requires
+put-when-requires c κs = search needs
 
 put-requires : tie.Need-put-requires
 put-requires c κs = search needs
 
-clear-requires-2 : tie.Need-clear-requires-2
-clear-requires-2 c κs = search needs
+put-when-requires-2 : tie.Need-put-when-requires-2
+put-when-requires-2 c κs = search needs
 
 returns : tie.Need-returns
 unfolding banned
@@ -26,13 +26,13 @@ returns c =
     rw (
       c .before .before .before .before .before .before .before .before .put-net .ensures,
       c .before .before .before .before .before .before .raise .ensures,
-      c .before .before .before .before .clear .ensures,
+      c .before .before .before .before .put-when .ensures,
       c .before .before .put .ensures,
-      c .clear2 .ensures,
+      c .put-when2 .ensures,
     )
     (simp fresh)
 
 pub strike-spec : {M : Type 1} → statement M
 strike-spec =
     tie.close
-    (tie.spec put-net-requires raise-requires clear-requires put-requires clear-requires-2 returns)
+    (tie.spec put-net-requires raise-requires put-when-requires put-requires put-when-requires-2 returns)

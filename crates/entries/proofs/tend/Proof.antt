@@ -1,5 +1,5 @@
 -- `tend` meets its contract: the deed picks the definition, and the callee's contract is that definition. Assumes nothing.
-use Rattle.entries.specs.Entries.{unforbidden, swept, powered, entriesAfter}
+use Rattle.entries.specs.Entries.{unforbidden, n1ToLimit, swept, powered, entriesAfter}
 use Rattle.entries.proofs.Laws.{turn}
 use borrow.Author.Needs.{needs}
 use Rattle.entries.proofs.tend.Statement.{statement}
@@ -23,8 +23,14 @@ strike-requires-2 c κs = search needs
 enum-known-k-3 : tie.Need-enum-known-k-3
 enum-known-k-3 c = search needs
 
-clear-requires : tie.Need-clear-requires
-clear-requires c κs = search needs
+put-when-requires : tie.Need-put-when-requires
+put-when-requires c κs = search needs
+
+enum-known-k-4 : tie.Need-enum-known-k-4
+enum-known-k-4 c = search needs
+
+to-limit-requires : tie.Need-to-limit-requires
+to-limit-requires c κs = search needs
 
 enum-told-2 : tie.Need-enum-told-2
 enum-told-2 c = search needs
@@ -58,19 +64,23 @@ returns-3 c = rw (c .before .before .before .before .before .before .before .k2 
 
 returns-4 : tie.Need-returns-4
 unfolding entriesAfter unforbidden
-returns-4 c = rw (c .before .before .before .k3 .given .1, c .clear .ensures)
+returns-4 c = rw (c .before .before .before .k3 .given .1, c .put-when .ensures)
 
 returns-5 : tie.Need-returns-5
-unfolding entriesAfter swept
-returns-5 c = rw (c .before .before .before .before .before .enum-told2 .given .1, c .sweep-both .ensures .0, c .sweep-both .ensures .1)
+unfolding entriesAfter n1ToLimit
+returns-5 c = rw (c .before .before .before .before .k4 .given .1, c .to-limit .ensures)
 
 returns-6 : tie.Need-returns-6
-unfolding entriesAfter powered
-returns-6 c = rw (c .before .before .before .before .enum-told3 .given .1, c .cycle .ensures .0, c .cycle .ensures .1)
+unfolding entriesAfter swept
+returns-6 c = rw (c .before .before .before .before .before .enum-told2 .given .1, c .sweep-both .ensures .0, c .sweep-both .ensures .1)
 
 returns-7 : tie.Need-returns-7
+unfolding entriesAfter powered
+returns-7 c = rw (c .before .before .before .before .enum-told3 .given .1, c .cycle .ensures .0, c .cycle .ensures .1)
+
+returns-8 : tie.Need-returns-8
 unfolding entriesAfter
-returns-7 c = rw (c .before .before .before .before .before .before .enum-told4 .given .1) (c .wipe .ensures)
+returns-8 c = rw (c .before .before .before .before .before .before .enum-told4 .given .1) (c .wipe .ensures)
 
 pub tend-spec : {M : Type 1} → statement M
 tend-spec =
@@ -82,7 +92,9 @@ tend-spec =
     enum-known-k-2
     strike-requires-2
     enum-known-k-3
-    clear-requires
+    put-when-requires
+    enum-known-k-4
+    to-limit-requires
     enum-told-2
     sweep-both-requires
     enum-told-3
@@ -95,4 +107,5 @@ tend-spec =
     returns-4
     returns-5
     returns-6
-    returns-7)
+    returns-7
+    returns-8)

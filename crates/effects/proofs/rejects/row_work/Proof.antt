@@ -10,6 +10,12 @@ seat-of-requires c κs = search needs
 row-deed-requires : tie.Need-row-deed-requires
 row-deed-requires c κs = search needs
 
+across-n1-requires : tie.Need-across-n1-requires
+across-n1-requires c κs = search needs
+
+to-limit-if-requires : tie.Need-to-limit-if-requires
+to-limit-if-requires c κs = search needs
+
 to-roaming-requires : tie.Need-to-roaming-requires
 to-roaming-requires c κs = search needs
 
@@ -24,7 +30,7 @@ put-if-requires-2 c κs = search needs
 
 returns : tie.Need-returns
 unfolding rowWork
-returns c = rw (c .put-if2 .ensures, c .before .to-regional .ensures, c .before .before .put-if .ensures, c .before .before .before .to-roaming .ensures, c .before .before .before .before .row-deed .ensures, c .before .before .before .before .before .seat-of .ensures)
+returns c = rw (c .put-if2 .ensures, c .before .to-regional .ensures, c .before .before .put-if .ensures, c .before .before .before .to-roaming .ensures, c .before .before .before .before .to-limit-if .ensures, c .before .before .before .before .before .across-n1 .ensures, c .before .before .before .before .before .before .row-deed .ensures, c .before .before .before .before .before .before .before .seat-of .ensures)
 
 pub row-work-spec : {M : Type 1} → statement M
 row-work-spec =
@@ -32,6 +38,8 @@ row-work-spec =
     (tie.spec
     seat-of-requires
     row-deed-requires
+    across-n1-requires
+    to-limit-if-requires
     to-roaming-requires
     put-if-requires
     to-regional-requires
