@@ -197,4 +197,18 @@ enum { TJERNFAUG_LONGEST_REQUEST = 193 };
  */
 uint32_t tjernfaug_request(const struct tjernfaug_record *r, uint8_t access, uint8_t *buffer, size_t len);
 
+/* How many networks are heard at most, for the size of both lists. */
+enum { TJERNFAUG_MOST_CELLS = 64 };
+
+/*
+ * Of the networks heard, those that the access may try, in the order heard and each once, written from permitted[0] on. r and what lies behind them stay as they were.
+ * A network is its three octets, the first one highest, as in the record; one with bad digits is passed on as any other. The lengths count numbers, not octets.
+ * One is left out exactly if it is marked forbidden or N1 not allowed on this access, or was heard before in this list. Areas play no part.
+ * How many it permits, 0 to TJERNFAUG_MOST_CELLS; or 256 plus the refusal's number, and then the whole list is as it was:
+ *   257  access is not 0 or 1, more than TJERNFAUG_MOST_CELLS are heard, a number is above FFFFFF hex, or r is invalid
+ *   268  permitted_len is below heard_len, even if all that it permits would fit
+ */
+uint32_t tjernfaug_cells(const struct tjernfaug_record *r, uint8_t access, const uint32_t *heard, size_t heard_len,
+                         uint32_t *permitted, size_t permitted_len);
+
 #endif

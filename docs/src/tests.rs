@@ -1,6 +1,7 @@
-// Scenarios worked out by hand from document 01 and requests: rustc
-// --test docs/src/main.rs
+// Scenarios worked out by hand from document 01 and requests:
+// rustc --test docs/src/main.rs
 
+use crate::cells;
 use crate::log::{apply, Input, Next};
 use crate::message::{self, Fault, Message, Reject, Span};
 use crate::record::*;
@@ -3471,4 +3472,250 @@ fn a_protected_27_marks_the_receiving_access_alone() {
             assert_eq!(record.start(b as u8, manual, area(AWAY)).answer, 0);
         }
     }
+}
+
+// Request R-2: choosing among the cells heard.
+
+/// Networks of `choosing`: forbidden, N1 not allowed, both, an entry without marks.
+const BANNED: u32 = 0x123456;
+const NO_N1: u32 = 0x123457;
+const BOTH: u32 = 0x123458;
+const CLEAN: u32 = 0x123459;
+
+/// The entries of access `a`; the other one has none.
+fn choosing(a: usize) -> Record {
+    let mut record = limited(3);
+    for (third, forbidden, n1_barred) in
+        [(0x56, true, false), (0x57, false, true), (0x58, true, true), (0x59, false, false)]
+    {
+        let network = [0x12, 0x34, third];
+        record.access[a].entries.push(Entry { network, ban: 1, n1: 1, forbidden, n1_barred });
+    }
+    record
+}
+
+/// The permitted networks or the refusal, with a list of this length; what lies behind them stays.
+fn chosen(record: &Record, access: u8, heard: &[u32], length: usize) -> Result<Vec<u32>, u8> {
+    // No two alike, so that none moves unseen.
+    let before: Vec<u32> = (0..length as u32).map(|place| 0xA5A5_0000 + place).collect();
+    let mut list = before.clone();
+    let count = cells::permitted(record, access, heard, &mut list);
+    let written = count.unwrap_or(0);
+    assert_eq!(list[written..], before[written..]);
+    list.truncate(written);
+    count.map(|_| list)
+}
+
+/// Either mark, on the access that is asked for.
+#[test]
+fn a_mark_leaves_a_network_out() {
+    for a in 0..2 {
+        let record = choosing(a);
+        for (network, out) in [
+            (BANNED, true),
+            (NO_N1, true),
+            (BOTH, true),
+            (CLEAN, false),
+            // No entry: another network, the octets in another order, one octet or bit unlike.
+            (0x00F110, false),
+            (0x563412, false),
+            (0x345612, false),
+            (0x003456, false),
+            (0x120056, false),
+            (0x123400, false),
+            (0x923456, false),
+            (0x000000, false),
+        ] {
+            let heard = [network];
+            let left = if out { &[][..] } else { &heard };
+            assert_eq!(chosen(&record, a as u8, &heard, 1), Ok(left.into()), "{network:06X}");
+            assert_eq!(chosen(&record, 1 - a as u8, &heard, 1), Ok(heard.into()));
+        }
+    }
+}
+
+/// In the order heard and each once, whatever the entries' order, into a list that just fits and
+/// into longer ones.
+#[test]
+fn the_order_heard_and_each_once() {
+    let record = choosing(0);
+    for (heard, permitted) in [
+        (&[][..], &[][..]),
+        (&[1], &[1]),
+        (&[1, 1], &[1]),
+        (&[1, 1, 1], &[1]),
+        (&[2, 1, 3], &[2, 1, 3]),
+        (&[1, 2, 1], &[1, 2]),
+        (&[2, 1, 1, 2], &[2, 1]),
+        (&[3, 2, 3, 1, 2], &[3, 2, 1]),
+        (&[BANNED, BANNED], &[]),
+        (&[NO_N1, BANNED, BOTH, NO_N1, BOTH], &[]),
+        (&[BANNED, 1], &[1]),
+        (&[1, BANNED], &[1]),
+        (&[BANNED, 1, BANNED, 2, 1], &[1, 2]),
+        (&[1, NO_N1, 1], &[1]),
+        (&[CLEAN, BOTH, CLEAN], &[CLEAN]),
+        (&[9, BOTH, CLEAN, NO_N1, 5, BANNED, 9, 7], &[9, CLEAN, 5, 7]),
+    ] {
+        for more in [0, 1, 10, 80] {
+            let got = chosen(&record, 0, heard, heard.len() + more);
+            assert_eq!(got, Ok(permitted.into()), "{heard:X?}");
+        }
+    }
+}
+
+/// A list shorter than the one heard, though all that is permitted would fit.
+#[test]
+fn a_list_too_short_for_the_cells() {
+    let record = choosing(1);
+    for (heard, length) in [
+        (&[1][..], 0),
+        (&[BANNED], 0),
+        (&[1, 2], 1),
+        (&[1, 1], 1),
+        (&[BOTH, NO_N1, 1], 2),
+        (&[1, 2, 3, 4], 0),
+        (&[7; 64], 63),
+    ] {
+        assert_eq!(chosen(&record, 1, heard, length), Err(12), "{heard:X?} {length}");
+        assert!(chosen(&record, 1, heard, heard.len()).is_ok());
+    }
+}
+
+/// An access, a count or a number outside its range, with a list that fits, and before 12.
+#[test]
+fn ranges_of_cells() {
+    let record = choosing(0);
+    let many: Vec<u32> = (1..=65).collect();
+    assert_eq!(chosen(&record, 0, &many[..64], 64), Ok(many[..64].into()));
+    assert_eq!(chosen(&record, 0, &[5; 64], 64), Ok(vec![5]));
+    for length in [0, 1, 64, 65, 80] {
+        assert_eq!(chosen(&record, 0, &many, length), Err(1));
+        assert_eq!(chosen(&record, 0, &[BANNED; 65], length), Err(1));
+        for access in [2, 3, 128, 255] {
+            assert_eq!(chosen(&record, access, &[1], length), Err(1));
+            assert_eq!(chosen(&record, access, &[], length), Err(1));
+        }
+        for wide in [0x0100_0000, 0x0112_3456, 0x8000_0001, 0xFFFF_FFFF] {
+            for heard in [&[wide][..], &[wide, 1], &[1, wide], &[BANNED, 1, 1, wide, wide, 2]] {
+                assert_eq!(chosen(&record, 0, heard, length), Err(1), "{wide:X}");
+            }
+        }
+    }
+    let mut last = many[..64].to_vec();
+    last[63] = 0x0100_0000;
+    assert_eq!(chosen(&record, 0, &last, 64), Err(1));
+}
+
+/// Three octets that are no network code have no entry: they are passed on as any other.
+#[test]
+fn bad_digits_are_passed_on() {
+    let heard = [0xFFFFFF, 0x00FA10, BANNED, 0xA0F110, 0x00E110, 0x00FA10, 0x0000A0];
+    let permitted = vec![0xFFFFFF, 0x00FA10, 0xA0F110, 0x00E110, 0x0000A0];
+    assert_eq!(chosen(&choosing(0), 0, &heard, 7), Ok(permitted));
+}
+
+/// All sixteen entries count, the last one too.
+#[test]
+fn a_full_table_of_marks() {
+    let mut record = limited(3);
+    record.access[1].entries = held(&sixteen());
+    let heard: Vec<u32> =
+        sixteen().iter().map(|&[first, ..]| (first as u32) << 16).chain([0x160000]).collect();
+    assert_eq!(chosen(&record, 1, &heard, 17), Ok(vec![0x160000]));
+    record.access[1].entries[15].forbidden = false;
+    assert_eq!(chosen(&record, 1, &heard, 17), Ok(vec![0x160000]));
+    record.access[1].entries[15].n1_barred = false;
+    assert_eq!(chosen(&record, 1, &heard, 17), Ok(vec![0x150000, 0x160000]));
+    assert_eq!(chosen(&record, 0, &heard, 17), Ok(heard));
+}
+
+/// The marks that events set and lift. An area listed, the state and the other access play no part.
+#[test]
+fn the_marks_of_events_choose() {
+    let mut record = Record::new(Limits { card: 3, ban: 3, n1: 3 }, &[0x00], &[0xF0, 0xF0]);
+    let tried = |record: &Record| [0, 1].map(|a| chosen(record, a, &[0x00F220], 1).unwrap().len());
+    assert_eq!(tried(&record), [1, 1]);
+    record.card(HOME, &SUCI);
+    barred(&mut record, 0, 0, 12);
+    assert_eq!((record.regional.len(), tried(&record)), (1, [1, 1]));
+    assert_eq!(out(&mut record, 4, 0).answer, 0);
+    barred(&mut record, 0, 0, 11);
+    assert_eq!(tried(&record), [0, 1]);
+    barred(&mut record, 1, 0, 72);
+    assert_eq!(tried(&record), [0, 0]);
+    assert_eq!(out(&mut record, 4, 0).answer, 0);
+    assert_eq!(tried(&record), [1, 1]);
+    // The other access counts, but has no mark.
+    barred(&mut record, 0, 1, 27);
+    assert_eq!(marks_of(&record, 1), [(0, 3, false, false)]);
+    assert_eq!(tried(&record), [0, 1]);
+    record.power();
+    assert_eq!(tried(&record), [1, 1]);
+    assert_eq!(start(&mut record, 0, AWAY), 0);
+    assert_eq!(tried(&record), [1, 1]);
+    assert_eq!(reject(&mut record, 0, 1, 11).answer, 0);
+    record.power();
+    assert_eq!(tried(&record), [0, 1]);
+    assert_eq!(record.start(0, 1, area(AWAY)).answer, 0);
+    assert_eq!(accept(&mut record, 0), 0);
+    assert_eq!(tried(&record), [1, 1]);
+}
+
+/// Document 02's sentences: just those without a mark, each once, in the order first heard.
+#[test]
+fn cells_at_random() {
+    let mut draws = Draws(2);
+    for _ in 0..20_000 {
+        let record = choosing(draws.below(2) as usize);
+        let a = draws.below(2);
+        let heard: Vec<u32> =
+            (0..draws.below(65)).map(|_| 0x123450 + draws.below(80) as u32).collect();
+        let got = chosen(&record, a, &heard, heard.len() + draws.below(3) as usize).unwrap();
+        let places: Vec<usize> =
+            got.iter().map(|one| heard.iter().position(|other| other == one).unwrap()).collect();
+        assert!(places.windows(2).all(|pair| pair[0] < pair[1]), "{heard:X?} {got:X?}");
+        let marked = !record.access[a as usize].entries.is_empty();
+        for network in &heard {
+            let out = marked && (BANNED..=BOTH).contains(network);
+            assert_eq!(got.contains(network), !out, "{network:X} {heard:X?} {got:X?}");
+        }
+    }
+}
+
+/// The lines of `--cells`. One match ends the look: of a marked one heard again, that it was.
+#[test]
+fn cell_lines() {
+    let heard = [0x00F110, BANNED, NO_N1, 0x00F110, BOTH, CLEAN, BANNED, 0xFFFFFF];
+    let mut text = String::new();
+    cells::lines(&mut text, &choosing(0).access[0], &heard);
+    let lines = [
+        "00F110 may be tried",
+        "123456 left out: forbidden",
+        "123457 left out: N1 not allowed",
+        "00F110 left out: heard before",
+        "123458 left out: forbidden and N1 not allowed",
+        "123459 may be tried",
+        "123456 left out: heard before",
+        "FFFFFF may be tried",
+    ];
+    assert_eq!(text, lines.join("\n") + "\n");
+}
+
+/// The arguments of `--cells`.
+#[test]
+fn cells_asked_for() {
+    let asked = |text: &str| {
+        let words: Vec<String> = text.split(' ').map(String::from).collect();
+        crate::asked(&words)
+    };
+    assert_eq!(asked("--cells 0"), Ok(crate::Asked::Cells(0, vec![])));
+    let heard = vec![0x00F220, 0xFFFFFF];
+    assert_eq!(asked("--cells 1 00f220 FFFFFF"), Ok(crate::Asked::Cells(1, heard)));
+    assert!(asked(&format!("--cells 0{}", " 00F220".repeat(64))).is_ok());
+    assert!(asked(&format!("--cells 0{}", " 00F220".repeat(65))).is_err());
+    for words in ["", " 2", " 00", " +1", " 0 ", " 00F220", " 0 0F220", " 0 100F220", " 0 +0F220"] {
+        assert!(asked(&format!("--cells{words}")).is_err(), "{words}");
+    }
+    assert!(asked("--cells 0 00F220 00G220").is_err() && asked("--cell").is_err());
 }

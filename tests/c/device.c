@@ -1,8 +1,8 @@
 /*
  * A device and a false cell. The cell rejects three registrations with cause 11 and no protection; the device waits for T3247 each time and tries again,
- * until the ban counter is at its limit and it stays quiet. At home, in a busy hour, the network asks for ten minutes, and the device waits. Then the network takes
- * it, after an accept that lost its last octet, and it moves: a mobility update in the next area, and a periodic one once T3512 has run out. It writes what it was told
- * to a log, from which the lab's program replays the same states.
+ * until the ban counter is at its limit and it stays quiet. Of the cells that it hears it then tries the first that it may: home. In a busy hour the network asks for ten
+ * minutes there, and the device waits. Then the network takes it, after an accept that lost its last octet, and it moves: a mobility update in the next area, and a periodic
+ * one once T3512 has run out. It writes what it was told to a log, from which the lab's program replays the same states.
  * Usage: device LOG; the states go to standard output as the lab's program prints them.
  */
 #include <stdio.h>
@@ -148,6 +148,21 @@ static int quiet(struct device *d)
     return wrong;
 }
 
+/* The cells heard: the false one's network twice, home, another one, and home again. Over Wi-Fi no network is marked. */
+static int chooses(const struct device *d)
+{
+    static const uint32_t heard[] = {0x00F220, 0x00F110, 0x00F220, 0x00F330, 0x00F110};
+    enum { HEARD = sizeof heard / sizeof *heard };
+    uint32_t permitted[HEARD] = {7, 7, 7, 7, 7};
+    int wrong = tjernfaug_cells(&d->record, 0, heard, HEARD, permitted, HEARD - 1) != REFUSED + SHORT;
+    wrong |= tjernfaug_cells(&d->record, 2, heard, HEARD, permitted, HEARD) != REFUSED + RANGE || permitted[0] != 7;
+    uint32_t count = tjernfaug_cells(&d->record, 0, heard, HEARD, permitted, HEARD);
+    wrong |= count != 2 || permitted[0] != 0x00F110 || permitted[1] != 0x00F330 || permitted[2] != 7;
+    wrong |= tjernfaug_cells(&d->record, 1, heard, HEARD, permitted, HEARD) != 3 || permitted[0] != 0x00F220;
+    fprintf(stderr, "device: %u of 3 networks may be tried\n", count);
+    return wrong;
+}
+
 /* At home in a busy hour: asked for time, the device may not start again until T3346 has run out, and then is asked to. */
 static int busy(struct device *d)
 {
@@ -186,6 +201,7 @@ int main(int argc, char **argv)
         return 2;
     int wrong = tjernfaug_new(&d.record, 3, 3, 3, capability, sizeof capability, security, sizeof security) != TAKEN;
     wrong |= quiet(&d);
+    wrong |= chooses(&d);
     wrong |= busy(&d);
     wrong |= moves(&d);
     wrong |= fclose(d.log) != 0;

@@ -1,6 +1,6 @@
 // The calls that the fuzz run makes, drawn: on a record that lives on events which are often right, and on records changed from it.
 use crate::second::{CAccess, CEntries, CNotice, CRecord, Plain};
-use crate::{BAR, CAUSE, EVENT, NEW, REQUEST};
+use crate::{BAR, CAUSE, CELLS, EVENT, NEW, REQUEST};
 
 const BODY: u32 = 96;
 /// Above the longest request.
@@ -363,6 +363,37 @@ fn writing(d: &mut Draw, live: &CRecord) -> Ask {
     d.request(r, access)
 }
 
+/// A network heard: mostly of an entry of either access, in use or not; else heard before, unlike an entry's in one octet, or one of those that events name.
+fn cell(d: &mut Draw, r: &CRecord, heard: &[u32]) -> u32 {
+    let at = d.below(2) as usize;
+    let count = [16, r.access[at].entries.clamp(1, 16)][d.below(2) as usize];
+    let net = { r.entries[at].nets }[d.below(count as u32) as usize];
+    match d.below(8) {
+        0 if !heard.is_empty() => heard[d.below(heard.len() as u32) as usize],
+        1 => net ^ (1 + d.below(255)) << (8 * d.below(3)),
+        2 => d.net(),
+        _ => net,
+    }
+}
+
+/// Up to 66 cells heard, often few or 64, of which one list in four has any numbers and one in eight a number above 24 bits;
+/// a second list that is shorter by one, equal, longer, or of any length; and an access, one in sixteen of any number.
+fn cells(d: &mut Draw, record: CRecord) -> Ask {
+    let len = [d.below(4), d.below(16), 64 + d.below(4) / 3, d.below(67)][d.below(4) as usize];
+    let (strange, wide) = (d.below(4) == 0, d.below(8) == 0);
+    let mut heard = vec![];
+    for _ in 0..len {
+        heard.push(if strange { d.below(1 << 24) } else { cell(d, &record, &heard) });
+    }
+    if let Some(net) = heard.get_mut(d.below(len.max(1)) as usize).filter(|_| wide) {
+        *net |= 1 << (24 + d.below(8));
+    }
+    let room = [len.saturating_sub(1), len, len + 1 + d.below(6), d.below(71)][d.below(4) as usize];
+    let access = if d.below(16) == 0 { d.octet(256) } else { d.octet(2) };
+    let arrays = [heard.iter().flat_map(|net| net.to_le_bytes()).collect(), d.octets(4 * room)];
+    Ask { small: [access, 0, 0], arrays, ..d.ask(CELLS, record) }
+}
+
 /// The record with one octet of its first `end` bent.
 fn changed(d: &mut Draw, live: &CRecord, end: usize) -> CRecord {
     let (mut r, at) = (*live, d.below(end as u32) as usize);
@@ -400,5 +431,8 @@ pub fn round(d: &mut Draw, live: &CRecord) -> Vec<Ask> {
         d.hand(odd, (5, vec![])),
         d.request(odd, access),
         opening(d, over),
+        cells(d, *live),
+        cells(d, full),
+        cells(d, broken),
     ]
 }

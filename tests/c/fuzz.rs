@@ -1,15 +1,18 @@
 // Random octets through the C interface: as a record, as a kind and a body, and as changes to a record that lives on random events.
 // Held: the header's layout, answer 1 exactly where the record is invalid by a second reading of document 01, a refusal's record unchanged, nothing written outside what is lent,
 // for a valid record the answer, the notice, the record and the request of the second program, which reads that request back as the record's, by its container where it is to have one,
-// and the fault of a message by a reading of R-1 alone, for the event and for the reject reader.
+// its choice among the cells heard, and the fault of a message by a reading of R-1 alone, for the event and for the reject reader.
 //
 // Usage: fuzz SECONDS SEED PROGRAM [ARGUMENTS]
-// The program is tests/c/lend.c. First it tells how many octets a record and a notice have without their gaps, and the header's longest request. A call goes to it as one octet each
-// for the call (0 to have the answers so far), what fills the gaps and six small numbers (three limits, or the access), then the kind and the lengths of two arrays, then the record,
-// the notice and the arrays; back come the answer, how many octets were written before what is lent, and the record, the notice and the arrays as they then are.
-// Numbers have four octets, the low one first.
+// The program is tests/c/lend.c. First it tells how many octets a record and a notice have without their gaps, and the header's longest request and most cells.
+// A call goes to it as one octet each for the call (0 to have the answers so far), what fills the gaps and six small numbers (three limits, or the access), then the kind and the
+// lengths of two arrays, then the record, the notice and the arrays; back come the answer, how many octets were written before what is lent, and the record, the notice and the
+// arrays as they then are.
+// Numbers have four octets, the low one first, in the two lists of cells too.
 // Cases are numbered from SEED on, and each draws by its number alone. With 0 seconds the case SEED runs alone.
 #![allow(dead_code)]
+#[path = "../../docs/src/cells.rs"]
+mod cells;
 mod draws;
 mod faults;
 #[path = "../../docs/src/log.rs"]
@@ -36,7 +39,8 @@ pub const NEW: u8 = 1;
 pub const EVENT: u8 = 2;
 pub const REQUEST: u8 = 3;
 pub const CAUSE: u8 = 4;
-/// Answers that no event has: they are for requests.
+pub const CELLS: u8 = 5;
+/// Answers that no event has: they are for requests, and 12 for cells.
 const NEVER: [u32; 3] = [3, 12, 19];
 /// The place of T3346 among an access's timers in the notice.
 const T3346: usize = 3;
@@ -87,6 +91,8 @@ struct Tally {
     rest: [u64; 10],
     bars: [u64; 8],
     shapes: [[u64; 4]; 2],
+    refusals: [u64; 6],
+    choices: [u64; 13],
 }
 
 fn fail(what: &str) -> ! {
@@ -98,6 +104,10 @@ fn number(from: &mut impl Read) -> io::Result<u32> {
     let mut octets = [0; 4];
     from.read_exact(&mut octets)?;
     Ok(u32::from_le_bytes(octets))
+}
+
+fn numbers(octets: &[u8]) -> Vec<u32> {
+    octets.chunks_exact(4).map(|n| u32::from_le_bytes([n[0], n[1], n[2], n[3]])).collect()
 }
 
 impl Ask {
@@ -122,12 +132,18 @@ impl Ask {
         Ok(got)
     }
 
+    /// The cells that a choice is asked among.
+    fn cells(&self) -> Vec<u32> {
+        numbers(&self.arrays[0])
+    }
+
     fn name(&self) -> String {
         let hex = |octets: &[u8]| octets.iter().map(|octet| format!("{octet:02X}")).collect::<String>();
         match self.call {
             NEW => format!("new, limits {:?}, capabilities {} and {}", self.small, hex(&self.arrays[0]), hex(&self.arrays[1])),
             CAUSE => format!("the reject reader on {}", hex(&self.arrays[0])),
             EVENT => format!("event of kind {}, body {}", self.kind, hex(&self.arrays[0])),
+            CELLS => format!("cells over access {}, heard {:06X?}, list of {}", self.small[0], self.cells(), self.arrays[1].len() / 4),
             _ => format!("request over access {}, buffer of {}", self.small[0], self.arrays[0].len()),
         }
     }
@@ -142,8 +158,8 @@ impl Side {
         if number(&mut side.output).ok() != Some((size_of::<CRecord>() + size_of::<CNotice>()) as u32) {
             fail("the C side does not start, or its record or notice has other fields");
         }
-        if number(&mut side.output).ok() != Some(LONGEST[1]) {
-            fail("the header has another longest request");
+        if [0; 2].map(|_| number(&mut side.output).ok()) != [Some(LONGEST[1]), Some(cells::MOST as u32)] {
+            fail("the header has another longest request, or other most cells");
         }
         side
     }
@@ -254,6 +270,14 @@ fn judge_request(ask: &Ask, got: &Got) -> Result<(), String> {
     hold(read, "the request does not read back")
 }
 
+fn judge_cells(ask: &Ask, got: &Got) -> Result<(), String> {
+    let mut want = numbers(&ask.arrays[1]);
+    let answer = if valid(&ask.record) { second::permitted(&ask.record, ask.small[0], &ask.cells(), &mut want) } else { 257 };
+    equal("the answer for the cells", got.answer, answer)?;
+    alike("the list of permitted cells", &got.arrays[1], &want.iter().flat_map(|net| net.to_le_bytes()).collect::<Vec<u8>>())?;
+    alike("the record that is only read", got.record.octets(), ask.record.octets())
+}
+
 /// What R-5 is about: a mobility update, a periodic one, an update that fell back to state 5, T3512 started, T3512 out.
 fn deeds(ask: &Ask, got: &Got) -> [bool; 5] {
     let taken = |kind: u32| ask.call == EVENT && got.answer == 0 && ask.kind == kind;
@@ -308,6 +332,12 @@ fn rest(ask: &Ask, got: &Got) -> [bool; 10] {
     ]
 }
 
+/// The entry of a network on an access.
+fn place(r: &CRecord, at: usize, net: u32) -> Option<usize> {
+    let nets = r.entries[at].nets;
+    nets[..r.access[at].entries as usize].iter().position(|held| *held == net)
+}
+
 /// What R-14 is about. A protected 27 raised the other access's N1 counter: from access 0, from access 1, in an update, under an N1 mark. That side was skipped:
 /// for lack of an entry, with all sixteen held. Its counter below the limit was left: by a protected 27 that was answer 4, by one without protection.
 fn bars(ask: &Ask, got: &Got) -> [bool; 8] {
@@ -315,8 +345,8 @@ fn bars(ask: &Ask, got: &Got) -> [bool; 8] {
     let (Some(_), [access, protected, ..]) = (reject, &ask.arrays[0][..]) else { return [false; 8] };
     let (at, sure, taken) = (*access as usize, *protected == 1, got.answer == 0);
     let (this, other) = (ask.record.access[at], ask.record.access[1 - at]);
-    let (was, now, net) = (ask.record.entries[1 - at], got.record.entries[1 - at], this.net);
-    let place = { was.nets }[..other.entries as usize].iter().position(|held| *held == net);
+    let (was, now) = (ask.record.entries[1 - at], got.record.entries[1 - at]);
+    let place = place(&ask.record, 1 - at, this.net);
     let raised = place.is_some_and(|i| was.n1s[i] < now.n1s[i]);
     let left = place.is_some_and(|i| was.n1s[i] < ask.record.dev.limits[2]) && !raised;
     let skipped = taken && sure && place.is_none();
@@ -344,6 +374,53 @@ fn shapes(ask: &Ask, got: &Got) -> [[bool; 4]; 2] {
     [0, 1].map(|each| came.map(|came| came && each == shape))
 }
 
+/// What R-2 refuses, each for one reason alone: the access, more than 64 heard, a number above 24 bits, an invalid record, the second list's length. Last, 1 where 12 is a reason too.
+fn refusals(ask: &Ask) -> [bool; 6] {
+    if ask.call != CELLS {
+        return [false; 6];
+    }
+    let heard = ask.cells();
+    let short = ask.arrays[1].len() < ask.arrays[0].len();
+    let why = [ask.small[0] > 1, heard.len() > cells::MOST, heard.iter().any(|net| net >> 24 > 0), !valid(&ask.record), short];
+    let alone = why.iter().filter(|why| **why).count() == 1;
+    let [access, many, wide, invalid, short] = why;
+    [access && alone, many && alone, wide && alone, invalid && alone, short && alone, short && !alone]
+}
+
+/// The two marks of a network on an access; none without an entry.
+fn marks(r: &CRecord, at: usize, net: u32) -> [u8; 2] {
+    place(r, at, net).map_or([0; 2], |i| [r.entries[at].forbidden[i], r.entries[at].barred[i]])
+}
+
+/// What R-2 is about where it is taken. A network left out: forbidden, N1 not allowed, both, heard before, marked and heard before. One permitted: its entry has no mark,
+/// its marks stand on the other access, or at a place not in use. A rest that stays, a list just as long that is filled whole, 64 heard, all 64 permitted, none heard.
+fn choices(ask: &Ask, got: &Got) -> [bool; 13] {
+    if ask.call != CELLS || got.answer > 255 {
+        return [false; 13];
+    }
+    let (r, at, heard, count) = (&ask.record, ask.small[0] as usize, ask.cells(), got.answer as usize);
+    let (len, room, e) = (heard.len(), ask.arrays[1].len() / 4, r.entries[at]);
+    let unused = |net: u32| (r.access[at].entries as usize..16).any(|i| { e.nets }[i] == net && e.forbidden[i] + e.barred[i] > 0);
+    let left = |right: [u8; 2]| heard.iter().any(|net| marks(r, at, *net) == right);
+    let again = |marked: bool| (0..len).any(|i| heard[..i].contains(&heard[i]) && (marks(r, at, heard[i]) != [0; 2]) == marked);
+    let passed = |right: &dyn Fn(u32) -> bool| heard.iter().any(|net| marks(r, at, *net) == [0; 2] && right(*net));
+    [
+        left([1, 0]),
+        left([0, 1]),
+        left([1, 1]),
+        again(false),
+        again(true),
+        passed(&|net| place(r, at, net).is_some()),
+        passed(&|net| marks(r, 1 - at, net) != [0; 2]),
+        passed(&unused),
+        0 < count && count < room,
+        0 < count && count == len && len == room,
+        len == cells::MOST,
+        count == cells::MOST,
+        len == 0,
+    ]
+}
+
 fn judge(ask: &Ask, got: &Got, tally: &mut Tally) -> Result<(), String> {
     equal("the count of octets written before what is lent", got.harm, 0)?;
     if ask.call != EVENT {
@@ -352,11 +429,14 @@ fn judge(ask: &Ask, got: &Got, tally: &mut Tally) -> Result<(), String> {
     if ask.call != REQUEST {
         alike("the first array", &got.arrays[0], &ask.arrays[0])?;
     }
-    alike("the second array", &got.arrays[1], &ask.arrays[1])?;
+    if ask.call != CELLS {
+        alike("the second array", &got.arrays[1], &ask.arrays[1])?;
+    }
     match ask.call {
         NEW => judge_new(ask, got)?,
         EVENT => judge_event(ask, got)?,
         CAUSE => judge_cause(ask, got)?,
+        CELLS => judge_cells(ask, got)?,
         _ => judge_request(ask, got)?,
     }
     tally.news += (ask.call == NEW) as u64;
@@ -364,7 +444,8 @@ fn judge(ask: &Ask, got: &Got, tally: &mut Tally) -> Result<(), String> {
     tally.requests += (ask.call == REQUEST) as u64;
     tally.written += (ask.call == REQUEST && got.answer < 256) as u64;
     let counts = tally.deeds.iter_mut().chain(&mut tally.waits).chain(&mut tally.rest).chain(&mut tally.bars).chain(tally.shapes.as_flattened_mut());
-    let came = [&deeds(ask, got)[..], &waits(ask, got), &rest(ask, got), &bars(ask, got), shapes(ask, got).as_flattened()].concat();
+    let counts = counts.chain(&mut tally.refusals).chain(&mut tally.choices);
+    let came = [&deeds(ask, got)[..], &waits(ask, got), &rest(ask, got), &bars(ask, got), shapes(ask, got).as_flattened(), &refusals(ask), &choices(ask, got)].concat();
     for (count, came) in counts.zip(came) {
         *count += came as u64;
     }
@@ -416,6 +497,15 @@ fn group(side: &mut Side, words: &[String], cases: Range<u64>, tally: &mut Tally
     tally.cases += lives.len() as u64;
 }
 
+fn show_cells(refusals: [u64; 6], choices: [u64; 13]) {
+    let [access, many, wide, invalid, short, before] = refusals;
+    let [forbidden, n1, both, again, marked, clean, other, unused, rest, whole, most, all, none] = choices;
+    println!("fuzz: cells refused for one reason: access {access} times, more than 64 {many}, above 24 bits {wide}, record {invalid}, list too short {short}; 1 before 12 {before} times");
+    println!("fuzz: cells left out: forbidden {forbidden} times, N1 not allowed {n1}, both {both}, heard before {again}, marked and heard before {marked}");
+    println!("fuzz: cells permitted: an entry without marks {clean} times, marked on the other access {other}, marked at a place not in use {unused}");
+    println!("fuzz: 64 cells heard {most} times, all permitted {all}, none heard {none}; a list filled whole {whole} times, its rest left {rest}");
+}
+
 fn main() {
     let words: Vec<String> = std::env::args().skip(1).collect();
     let numbers: Vec<u64> = words.iter().take(2).filter_map(|word| word.parse().ok()).collect();
@@ -430,7 +520,7 @@ fn main() {
         group(&mut side, words, first..first + LIVES, &mut tally);
     }
     side.end();
-    let Tally { cases, answers, causes, invalid, news, made, requests, written, deeds, waits, rest, bars, shapes } = tally;
+    let Tally { cases, answers, causes, invalid, news, made, requests, written, deeds, waits, rest, bars, shapes, refusals, choices } = tally;
     let [mobility, periodic, fell, started, out] = deeds;
     let [given, plain, low, high, moved, anew] = waits;
     let [empty, off, zero, below, above, bad, start, update, ended, power] = rest;
@@ -446,10 +536,11 @@ fn main() {
     println!("fuzz: 20 for {start} starts and {update} updates; T3346 out {ended} times, stopped by {power} power cycles");
     println!("fuzz: a protected 27 raised the other access's N1 counter {mobile} times from access 0 and {wifi} from access 1, {updating} of them in an update, {marked} under an N1 mark");
     println!("fuzz: that side skipped {skipped} times, {full} of them with all sixteen entries held; a counter left there {refused} times by answer 4, {open} by a 27 without protection");
+    show_cells(refusals, choices);
     println!("fuzz: answers 0 to 20 came {answers:?} times, a reject's cause and 269 to 274 {causes:?} times");
     let missing = (0..21).any(|answer| answers[answer] == 0 && !NEVER.contains(&(answer as u32)));
-    let unseen = [&causes[..], &deeds, &waits, &rest, &bars, shapes.as_flattened(), &[invalid, made, news - made]].concat().contains(&0);
+    let unseen = [&causes[..], &deeds, &waits, &rest, &bars, shapes.as_flattened(), &refusals, &choices, &[invalid, made, news - made]].concat().contains(&0);
     if seconds > 0 && (missing || unseen) {
-        fail("some answer, deed or shape of a request never came");
+        fail("some answer, deed, shape of a request or choice of cells never came");
     }
 }

@@ -9,7 +9,7 @@
 #include <sys/mman.h>
 #include "tjernfaug.h"
 
-enum { FLUSH, NEW, EVENT, REQUEST, CAUSE };
+enum { FLUSH, NEW, EVENT, REQUEST, CAUSE, CELLS };
 enum { RECORD, NOTICE, FIRST, SECOND, ROOMS };
 enum { ROOM = 65536, GUARD = 64, MARK = 0x5A };
 
@@ -90,6 +90,15 @@ static void lay(const struct head *h)
         get(lent[i], lens[i]);
 }
 
+/* Two arrays of whole numbers, which are aligned as they end with their rooms. */
+static uint32_t cells(const struct tjernfaug_record *r, uint8_t access)
+{
+    const size_t size = sizeof(uint32_t);
+    if (lens[FIRST] % size || lens[SECOND] % size)
+        exit(2);
+    return tjernfaug_cells(r, access, (const uint32_t *)lent[FIRST], lens[FIRST] / size, (uint32_t *)lent[SECOND], lens[SECOND] / size);
+}
+
 static uint32_t call(const struct head *h)
 {
     struct tjernfaug_record *r = (struct tjernfaug_record *)lent[RECORD];
@@ -99,6 +108,7 @@ static uint32_t call(const struct head *h)
     case EVENT: return tjernfaug_event(r, h->kind, lent[FIRST], lens[FIRST], notice);
     case REQUEST: return tjernfaug_request(r, h->small[0], lent[FIRST], lens[FIRST]);
     case CAUSE: return reject_cause(lent[FIRST], lens[FIRST]);
+    case CELLS: return cells(r, h->small[0]);
     default: exit(2);
     }
 }
@@ -129,9 +139,8 @@ int main(void)
         octets += fields[i].len;
     setvbuf(stdin, NULL, _IOFBF, ROOM);
     setvbuf(stdout, NULL, _IOFBF, ROOM);
-    const uint32_t longest = TJERNFAUG_LONGEST_REQUEST;
-    put(&octets, sizeof octets);
-    put(&longest, sizeof longest);
+    const uint32_t sizes[] = {octets, TJERNFAUG_LONGEST_REQUEST, TJERNFAUG_MOST_CELLS};
+    put(sizes, sizeof sizes);
     fflush(stdout);
     while (fread(&h, sizeof h, 1, stdin) == 1) {
         if (h.call == FLUSH) {

@@ -1,6 +1,6 @@
 // The second program of docs/src on records as the C side sends them. It takes valid records only.
 use crate::record::{Access, Areas, Change, Entry, Limits, List, Listed, Record, Reply, INITIAL, RANGE, T3247, T3346, T3502, T3510, T3511, T3512};
-use crate::{log, request};
+use crate::{cells, log, request};
 
 // The structs of include/tjernfaug.h without their gaps.
 #[repr(C, packed)]
@@ -308,9 +308,19 @@ pub fn event(r: &CRecord, kind: u32, body: &[u8]) -> (u32, CNotice, CRecord) {
     (reply.answer as u32, notice_out(&reply), record_out(&held))
 }
 
-/// A request into the buffer: its length, or 256 plus the answer.
+/// How much was written, or 256 plus the answer.
+fn count(written: Result<usize, u8>) -> u32 {
+    written.map_or_else(|answer| 256 + answer as u32, |count| count as u32)
+}
+
+/// A request into the buffer: its length.
 pub fn write(r: &CRecord, access: u8, buffer: &mut [u8]) -> u32 {
-    request::write(&record_in(r), access, buffer).map_or_else(|answer| 256 + answer as u32, |length| length as u32)
+    count(request::write(&record_in(r), access, buffer))
+}
+
+/// The permitted ones of the networks heard into the list: how many.
+pub fn permitted(r: &CRecord, access: u8, heard: &[u32], list: &mut [u32]) -> u32 {
+    count(cells::permitted(&record_in(r), access, heard, list))
 }
 
 /// Whether octets, read as a request, say what the record says over an access: with a key set it is the container's request that says it.

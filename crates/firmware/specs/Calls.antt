@@ -1,4 +1,4 @@
--- What the calls of C come to: a new record, an event as the event log has it, and a request. Assumes nothing.
+-- What the calls of C come to: a new record, an event as the event log has it, a request, and the networks permitted. Assumes nothing.
 use Prim.Native.Nat.{ℕ, _+_}
 use mathlib.Core.Bool.{cond}
 use mathlib.Core.List.{List}
@@ -6,11 +6,14 @@ use Rattle.record.specs.Answers.{numberOf, isTaken}
 use Rattle.record.specs.New.{madeOf}
 use Rattle.record.specs.declared.Record.{Record}
 use Rattle.record.specs.declared.Made.{Made}
+use Rattle.record.specs.declared.Answer.{Answer}
 use Rattle.events.specs.declared.Outcome.{Outcome}
 use Rattle.events.specs.Step.{stepOf}
 use Rattle.log.specs.Log.{eventOf, besideOf}
 use Rattle.request.specs.declared.Written.{Written}
 use Rattle.request.specs.Writing.{writtenOf}
+use Rattle.cells.specs.declared.Chosen.{Chosen}
+use Rattle.cells.specs.Cells.{choiceOf}
 use Rattle.firmware.specs.declared.Opened.{Opened}
 use Rattle.firmware.specs.declared.Taken.{Taken}
 use Rattle.firmware.specs.Notice.{noticeOf}
@@ -29,10 +32,22 @@ heardBy o = record { answer = numberOf (o .reply .answer); notice = noticeOf (o 
 unfoldable pub heardAs : Record → ℕ → List ℕ → Taken
 heardAs r kind body = heardBy (stepOf r (eventOf kind body) (besideOf kind body))
 
--- how many octets were written, or 256 plus the refusal's number
+-- a number, or 256 plus the refusal's
+abbrev pub numberOr : Answer → ℕ → ℕ
+numberOr a n = cond (isTaken a) n (256 + numberOf a)
+
+-- how many octets were written
 unfoldable pub wroteBy : Written → ℕ
-wroteBy w = cond (isTaken (w .answer)) (w .len) (256 + numberOf (w .answer))
+wroteBy w = numberOr (w .answer) (w .len)
 
 -- a request over an access, into a buffer of n octets
 unfoldable pub wroteOf : Record → ℕ → ℕ → ℕ
 wroteOf r access n = wroteBy (writtenOf r access n)
+
+-- how many networks are permitted
+unfoldable pub pickedBy : Chosen → ℕ
+pickedBy c = numberOr (c .answer) (c .count)
+
+-- of those heard over an access, into a list of n places
+unfoldable pub pickedOf : Record → ℕ → List ℕ → ℕ → ℕ
+pickedOf r access heard n = pickedBy (choiceOf r access heard n)

@@ -3,12 +3,15 @@ use crate::Notice;
 use crate::Opened;
 use crate::Taken;
 use crate::told::notice_of;
+use record::Answer;
 use record::Record;
 ghost use mathlib.Core.Path.{_≡_};
 ghost use mathlib.Core.Bool.{cond};
+ghost use Prim.Native.Nat.{_≤_};
 ghost use lib.ListN.{length};
 ghost use Rattle.request.specs.Writing.{bufferOf};
-ghost use Rattle.firmware.specs.Calls.{newOf, heardAs, wroteOf};
+ghost use Rattle.cells.specs.Cells.{listOf};
+ghost use Rattle.firmware.specs.Calls.{newOf, heardAs, numberOr, wroteOf, pickedOf};
 
 // A refusal keeps the record that was there.
 fn chosen(good: bool, made: Record, r: Record) -> Record
@@ -57,19 +60,33 @@ fn taken(r: Record, kind: u32, body: &[u8]) -> Taken
     }
 }
 
-// A request's length is below 256, so a refusal is told from it.
+// What is counted is below 256, so a refusal is told from it.
+fn counted(a: Answer, n: usize) -> u32
+    requires { ⌜ n ≤ 255 ⌝ }
+    ensures { λ r. ⌜ r ≡ numberOr a n ⌝ }
+{
+    let answer = record::number(a);
+    if answer == 0 {
+        n as u32
+    } else {
+        256 + answer as u32
+    }
+}
+
 fn asked(r: Record, access: u8, buffer: &mut [u8]) -> u32
     ensures { λ a. ⌜ (a ≡ wroteOf r access (length (now (buffer .entry)))) × (now (buffer .exit) ≡ bufferOf r access (now (buffer .entry))) ⌝ }
 {
     let w = request::write(r, access, buffer);
-    let n = w.answer;
-    let len = w.len;
-    let answer = record::number(n);
-    if answer == 0 {
-        len as u32
-    } else {
-        256 + answer as u32
-    }
+    let a = w.answer;
+    counted(a, w.len)
+}
+
+fn picked(r: Record, access: u8, heard: &[u32], permitted: &mut [u32]) -> u32
+    ensures { λ a. ⌜ (a ≡ pickedOf r access (now (heard .entry)) (length (now (permitted .entry)))) × (now (permitted .exit) ≡ listOf r access (now (heard .entry)) (now (permitted .entry))) ⌝ }
+{
+    let c = cells::permitted(r, access, heard, permitted);
+    let a = c.answer;
+    counted(a, c.count)
 }
 
 // A new record; a refusal leaves the one that was there.
@@ -111,4 +128,17 @@ pub extern "C" fn tjernfaug_request(r: &Record, access: u8, buffer: &mut [u8]) -
     ensures { λ a. ⌜ (a ≡ wroteOf (now (r .entry)) access (length (now (buffer .entry)))) × (now (buffer .exit) ≡ bufferOf (now (r .entry)) access (now (buffer .entry))) ⌝ }
 {
     asked(*r, access, buffer)
+}
+
+// Of the networks heard those that may be tried over an access, written to the list's front.
+#[no_mangle]
+pub extern "C" fn tjernfaug_cells(
+    r: &Record,
+    access: u8,
+    heard: &[u32],
+    permitted: &mut [u32],
+) -> u32
+    ensures { λ a. ⌜ (a ≡ pickedOf (now (r .entry)) access (now (heard .entry)) (length (now (permitted .entry)))) × (now (permitted .exit) ≡ listOf (now (r .entry)) access (now (heard .entry)) (now (permitted .entry))) ⌝ }
+{
+    picked(*r, access, heard, permitted)
 }

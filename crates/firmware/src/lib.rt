@@ -5,6 +5,7 @@ mod calls;
 mod lent;
 mod told;
 
+pub use calls::tjernfaug_cells;
 pub use calls::tjernfaug_event;
 pub use calls::tjernfaug_new;
 pub use calls::tjernfaug_request;

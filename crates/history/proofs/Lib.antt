@@ -11,6 +11,7 @@ pub mod Steps
 pub mod News
 pub mod Demand3
 pub mod Listed
+pub mod Permitted
 pub mod Apart
 pub mod Facts
 pub mod Refusals

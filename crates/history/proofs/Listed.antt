@@ -25,7 +25,7 @@ use Rattle.history.proofs.Demand3.{demand3}
 abbrev pub passes : ℕ → Cell → Bool
 passes manual c = both (eqb (c .barred) 0) (either (eqb (c .forbidden) 0) (eqb manual 1))
 
-seen : (r : Record) (w manual net code : ℕ) → w < 2 → isFree manual (seenAt r (Start w manual net code)) ≡ passes manual (cellOf r w net)
+pub seen : (r : Record) (w manual net code : ℕ) → w < 2 → isFree manual (seenAt r (Start w manual net code)) ≡ passes manual (cellOf r w net)
 unfolding isFree askOf seenOf seenBy sightOf seenIn cellOf cellIn entriesIn accessOf
 seen r zero manual net code h = refl
 seen r (suc zero) manual net code h = refl

@@ -5,4 +5,5 @@ pub mod History
 pub mod Apart
 pub mod Across
 pub mod Facts
+pub mod Permitted
 pub mod Replayed
