@@ -8,7 +8,7 @@ use lib.ListN.{length}
 use lib.Dec.{leb, eqb}
 use native.Mathlib.Omega.{arith}
 use borrow.Author.Tests.{leb-true, le-leb, lt-leb, not-true, not-false}
-use Rattle.laws.specs.Upto.{allTo}
+use Rattle.laws.specs.Upto.{over, allTo}
 use Rattle.entries.specs.declared.Entries.{Entries}
 use Rattle.entries.specs.Entries.{entriesHeld}
 use Rattle.record.specs.declared.Access.{Access}
@@ -20,7 +20,7 @@ use Rattle.record.specs.Sides.{accessOf}
 use Rattle.record.proofs.Bounds.{one, rest}
 use Rattle.ranges.specs.Valid.{validOf}
 use Rattle.cells.specs.declared.Chosen.{Chosen}
-use Rattle.cells.specs.Cells.{permittedBy, permittedOf, mayChoose, choiceAnswer, choiceOf, over, listOf}
+use Rattle.cells.specs.Cells.{permittedBy, permittedOf, mayChoose, choiceAnswer, choiceOf, listOf}
 use Rattle.cells.proofs.Steps.{permitted-few}
 
 module _ (r : Record) (access : ℕ) (heard list : List ℕ) (t : Bool) (e : t ≡ mayChoose r access heard) where

@@ -9,8 +9,9 @@ use native.Mathlib.Nat.{eq-or-lt-of-le, le-of-suc-le-suc, le-antisymm}
 use native.Mathlib.Numerals.{add-one}
 use lib.ListN.{length, getD, drop, set, length-append, length-set}
 use lib.Seq.{drop-cons, set-append-seam}
+use Rattle.laws.specs.Upto.{over}
 use Rattle.record.specs.Tests.{either}
-use Rattle.cells.specs.Cells.{someOf, among, marked, leftOut, permittedTo, over}
+use Rattle.cells.specs.Cells.{someOf, among, marked, leftOut, permittedTo}
 
 or-right : (a b : Bool) → b ≡ true → either a b ≡ true
 or-right true b e = refl

@@ -2,9 +2,9 @@
 use Prim.Native.Nat.{ℕ, zero, suc}
 use mathlib.Core.Bool.{Bool, false, cond}
 use mathlib.Core.List.{List, [], _∷_, _++_}
-use lib.ListN.{length, getD, drop}
+use lib.ListN.{length, getD}
 use lib.Dec.{leb, eqb}
-use Rattle.laws.specs.Upto.{allTo}
+use Rattle.laws.specs.Upto.{over, allTo}
 use Rattle.entries.specs.declared.Entries.{Entries}
 use Rattle.entries.specs.Entries.{entriesHeld}
 use Rattle.record.specs.Tests.{both, either, flip, isShort}
@@ -62,10 +62,6 @@ choiceAnswer r access heard n = cond (mayChoose r access heard) (cond (leb (leng
 unfoldable pub choiceOf : Record → ℕ → List ℕ → ℕ → Chosen
 choiceOf r access heard n = record { answer = choiceAnswer r access heard n; count = cond (isTaken (choiceAnswer r access heard n)) (length (permittedOf r access heard)) 0 }
 
--- "The rest of the second list stays"
-unfoldable pub over : List ℕ → List ℕ → List ℕ
-over chosen list = chosen ++ drop (length chosen) list
-
--- the second list after the call
+-- the second list after the call: "The rest of the second list stays"
 unfoldable pub listOf : Record → ℕ → List ℕ → List ℕ → List ℕ
 listOf r access heard list = cond (isTaken (choiceAnswer r access heard (length list))) (over (permittedOf r access heard) list) list

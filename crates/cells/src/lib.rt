@@ -11,7 +11,7 @@ ghost use mathlib.Core.Bool.{cond};
 ghost use Prim.Native.Nat.{_≤_};
 ghost use lib.Dec.{eqb};
 ghost use lib.ListN.{length};
-ghost use Rattle.laws.specs.Upto.{allTo};
+ghost use Rattle.laws.specs.Upto.{over, allTo};
 ghost use Rattle.record.specs.Tests.{isShort};
 ghost use Rattle.cells.specs.Cells as cells;
 
@@ -41,7 +41,7 @@ fn choose(
 ) -> usize
     requires { ⌜ (count ≤ 16) × (length (now heard) ≤ length (now out)) ⌝ }
     ensures { λ r. ⌜ r ≡ length (cells.permittedTo (now (heard .entry)) count (now (nets .entry)) (now (forbidden .entry)) (now (barred .entry)) (length (now (heard .entry)))) ⌝ }
-    ensures { λ r. ⌜ now (out .exit) ≡ cells.over (cells.permittedTo (now (heard .entry)) count (now (nets .entry)) (now (forbidden .entry)) (now (barred .entry)) (length (now (heard .entry)))) (now (out .entry)) ⌝ }
+    ensures { λ r. ⌜ now (out .exit) ≡ over (cells.permittedTo (now (heard .entry)) count (now (nets .entry)) (now (forbidden .entry)) (now (barred .entry)) (length (now (heard .entry)))) (now (out .entry)) ⌝ }
 {
     let mut n: usize = 0;
     let mut i: usize = 0;
@@ -108,7 +108,7 @@ fn entries_of(access: u8, e0: Entries, e1: Entries) -> Entries
 fn sift(heard: &[u32], count: u8, e: Entries, out: &mut [u32]) -> usize
     requires { ⌜ length (now heard) ≤ length (now out) ⌝ }
     ensures { λ r. ⌜ r ≡ length (cells.permittedBy (now (heard .entry)) count e) ⌝ }
-    ensures { λ r. ⌜ now (out .exit) ≡ cells.over (cells.permittedBy (now (heard .entry)) count e) (now (out .entry)) ⌝ }
+    ensures { λ r. ⌜ now (out .exit) ≡ over (cells.permittedBy (now (heard .entry)) count e) (now (out .entry)) ⌝ }
 {
     let n = entries::size(count);
     let nets = e.nets;

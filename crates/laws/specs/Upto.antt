@@ -1,8 +1,8 @@
--- Arrays of numbers, read to a count. Past the end of a list a number reads as 0, so that nothing here asks for a length. Assumes nothing.
+-- Arrays of numbers, read to a count, and lists written over others. Past the end of a list a number reads as 0, so that nothing here asks for a length. Assumes nothing.
 use Prim.Native.Nat.{ℕ, zero, suc}
 use mathlib.Core.Bool.{Bool, true, false, cond}
-use mathlib.Core.List.{List, [], _∷_}
-use lib.ListN.{getD}
+use mathlib.Core.List.{List, [], _∷_, _++_}
+use lib.ListN.{length, getD, drop}
 use lib.Dec.{eqb}
 
 -- the first i elements changed, each by the one beside it
@@ -18,6 +18,10 @@ first x y = x
 
 unfoldable pub copied : ℕ → List ℕ → List ℕ → List ℕ
 copied n xs ys = upto first n xs ys
+
+-- a list written over the front of another, whose rest stays
+unfoldable pub over : List ℕ → List ℕ → List ℕ
+over xs ys = xs ++ drop (length xs) ys
 
 -- the place of the first of n elements that passes, or n
 unfoldable pub seekTo : (ℕ → Bool) → ℕ → List ℕ → ℕ

@@ -6,6 +6,7 @@ use mathlib.Core.List.{List}
 use lib.ListN.{length}
 use lib.Dec.{leb, eqb}
 use borrow.Author.Tests.{eq-eqb, ne-eqb, not-true, not-false}
+use Rattle.laws.specs.Upto.{over}
 use Rattle.record.specs.declared.Access.{Access}
 use Rattle.record.specs.declared.Record.{Record}
 use Rattle.record.specs.declared.Answer.the-variants.{Taken, Range, State, Short}
@@ -16,7 +17,7 @@ use Rattle.record.specs.Sides.{accessOf}
 use Rattle.record.proofs.Bounds.{rest}
 use Rattle.request.specs.declared.Written.{Written}
 use Rattle.request.specs.Layout.{layout}
-use Rattle.request.specs.Writing.{saysOf, fieldsOf, requestOf, writingAnswer, writtenOf, over, bufferOf}
+use Rattle.request.specs.Writing.{saysOf, fieldsOf, requestOf, writingAnswer, writtenOf, bufferOf}
 use Rattle.request.specs.Steps.{sentOf, sentOver}
 use Rattle.request.proofs.Ranges.{ready}
 

@@ -9,6 +9,7 @@ use lib.ListN.{length, take, drop, replicate, length-append, drop-of-length-le}
 use lib.Seq.{take-at, drop-append-add, drop-drop, length-take-le, paste, paste-zero, take-length, take-all}
 use lib.Dec.{ltb, leb, eqb}
 use borrow.Author.Tests.{eq-eqb, ne-eqb, le-leb, lt-leb}
+use Rattle.laws.specs.Upto.{over}
 use Rattle.record.specs.declared.Access.{Access}
 use Rattle.record.specs.declared.Device.{Device}
 use Rattle.record.specs.declared.Answer.the-variants.{Taken, Short}
@@ -16,7 +17,7 @@ use Rattle.record.specs.Tests.{either}
 use Rattle.identity.specs.Identity.{slotOf, partOf, identityOf}
 use Rattle.request.specs.Layout.{Fields, lengthIn, withLead, itemOctets, laid, openingHead, opening, itemsOf, octetsOf, clear, nested, shown, levelsOf, layout}
 use Rattle.request.specs.Layout.Form.{shortForm, longForm, plainForm}
-use Rattle.request.specs.Writing.{octets3, octets2, lastOf, uplinkOf, sessionsOf, sayingOf, over, gutisOf}
+use Rattle.request.specs.Writing.{octets3, octets2, lastOf, uplinkOf, sessionsOf, sayingOf, gutisOf}
 use Rattle.request.specs.Steps.{spliced, Put, tailOctets, sizedOf, heldLengths, sentOf, sentOver}
 use Rattle.request.specs.declared.writing.Lengths.{Lengths}
 

@@ -9,6 +9,7 @@ use lib.ListN.{length, getD, take, drop}
 use lib.Seq.{length-take-le, take-at, drop-at, take-all}
 use lib.Dec.{ltb, leb, eqb}
 use borrow.Author.Tests.{ltb-true, eqb-true}
+use Rattle.laws.specs.Upto.{over}
 use Rattle.record.specs.declared.Access.{Access}
 use Rattle.record.specs.declared.Record.{Record}
 use Rattle.record.specs.declared.Answer.the-variants.{Taken, Range, State, Short}
@@ -22,7 +23,7 @@ use Rattle.request.specs.Reading.{toldBy}
 use Rattle.request.specs.Levels.{askingOf}
 use Rattle.request.specs.Reading.Said.{says}
 use Rattle.record.specs.Sides.{accessOf}
-use Rattle.request.specs.Writing.{gutisOf, lastOf, uplinkOf, sessionsOf, sayingOf, saysOf, fieldsOf, requestOf, writingAnswer, writtenOf, over, bufferOf}
+use Rattle.request.specs.Writing.{gutisOf, lastOf, uplinkOf, sessionsOf, sayingOf, saysOf, fieldsOf, requestOf, writingAnswer, writtenOf, bufferOf}
 use Rattle.request.proofs.Ranges.{Ready, ready}
 use Rattle.request.proofs.Depth.{round-layout}
 

@@ -5,13 +5,13 @@ use mathlib.Core.Bool.{cond}
 use mathlib.Core.List.{List, _++_}
 use lib.ListN.{length, take, drop}
 use lib.Dec.{leb, eqb}
+use Rattle.laws.specs.Upto.{over}
 use Rattle.record.specs.Tests.{either}
 use Rattle.record.specs.declared.Access.{Access}
 use Rattle.record.specs.declared.Device.{Device}
 use Rattle.record.specs.declared.Answer.the-variants.{Taken, Short}
 use Rattle.request.specs.Layout.{itemOctets}
 use Rattle.request.specs.Layout.Form.{shortForm, plainForm}
-use Rattle.request.specs.Writing.{over}
 use Rattle.request.specs.declared.writing.Lengths.{Lengths}
 use Rattle.request.specs.declared.Written.{Written}
 

@@ -2,8 +2,9 @@
 use Prim.Native.Nat.{ℕ, _/_, _%_}
 use mathlib.Core.Bool.{cond}
 use mathlib.Core.List.{List, [], _∷_, _++_}
-use lib.ListN.{length, take, drop}
+use lib.ListN.{length, take}
 use lib.Dec.{leb, eqb}
+use Rattle.laws.specs.Upto.{over}
 use Rattle.record.specs.Tests.{both, either}
 use Rattle.ranges.specs.Valid.{validOf}
 use Rattle.record.specs.Answers.{isTaken}
@@ -83,8 +84,5 @@ unfoldable pub writtenOf : Record → ℕ → ℕ → Written
 writtenOf r access n = record { answer = writingAnswer r access n; len = cond (isTaken (writingAnswer r access n)) (length (requestOf r access)) 0 }
 
 -- "a longer one keeps its further octets"
-unfoldable pub over : List ℕ → List ℕ → List ℕ
-over octets buffer = octets ++ drop (length octets) buffer
-
 unfoldable pub bufferOf : Record → ℕ → List ℕ → List ℕ
 bufferOf r access buffer = cond (isTaken (writingAnswer r access (length buffer))) (over (requestOf r access) buffer) buffer
