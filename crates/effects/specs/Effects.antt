@@ -1,6 +1,6 @@
 -- Effects of a taken event: numbers, timers, work on the arrays, requests. Assumes nothing.
 use Prim.Native.Nat.{ℕ}
-use mathlib.Core.Bool.{Bool, true, false, cond}
+use mathlib.Core.Bool.{Bool, false, cond}
 use lib.Dec.{eqb}
 use Rattle.record.specs.Tests.{flip}
 use Rattle.record.specs.declared.Access.{Access}

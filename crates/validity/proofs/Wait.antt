@@ -28,7 +28,7 @@ use Rattle.turns.specs.declared.Draws.{Draws}
 use Rattle.turns.specs.declared.Row.{Row}
 use Rattle.turns.specs.declared.Row.the-variants.{CardBelow, CardLimit, CardProtected, Away, Home, Area, N1, Congested, Protocol, Other}
 use Rattle.turns.specs.Timers.{isDeviceTimer, flagAfter, clocked}
-use Rattle.turns.specs.Words.{Across, untouched, cardCounterToLimit, n1CounterToLimitIfProtected, counterAfter, isUpdating, stateAfter, ordersAfter, acrossOf, applied}
+use Rattle.turns.specs.Words.{Across, untouched, cardCounterToLimit, n1CounterToLimitIfProtected, isUpdating, stateAfter, ordersAfter, acrossOf, applied}
 use Rattle.turns.specs.Rejects.{t3346Time, rowText}
 use Rattle.turns.specs.Turns.{still, started, updated, keySet, accepted, startFailed, updateFailed, failed, t3510Out, t3511Out, t3502Out, t3346Out, clockTurn, cycled, renewed, turned, rowTurn, otherTurned, otherTurn}
 use Rattle.checks.specs.Answers.{rowNow}
