@@ -167,9 +167,12 @@ uint32_t tjernfaug_new(struct tjernfaug_record *r, uint8_t cardlimit, uint8_t ba
  *   6 key      access, set
  *   7 update   access, type (2 mobility, 3 periodic), network (3), area code (3), uplink data status (2), PDU session status (2), as sent, session 0 clear
  *   8 message  access, protected, draw for T3247 (2, the low one first), draw for T3346 (the same), the message's octets
+ *  10 import   the card's file of forbidden networks, three octets each, FF FF FF unused: the whole body
  * Draw both evenly, for each message anew: 1800 to 3600 s for T3247, 900 to 1800 s for T3346. One outside its range is answer 1, used or not.
  * The answer's number, 0 for taken. Every answer but 0 leaves r as it was; notice is always written.
  * 20 is a start or an update over an access whose T3346 runs: when it has run out, the notice asks for a restart.
+ * An import, allowed in each state, marks the file's networks forbidden on access 0. A new one has counter 0, so that T3247 and a power cycle do not lift its mark; one that has an
+ * entry keeps its counters. It is 1 if len is not a multiple of three or a code is no network code, and 4 if the new networks, each counted once, exceed the free entries.
  * A message at fault is answered by its fault, and the notice's offset tells the octet; of several faults the one at the lowest offset, at a tie the lower number:
  *   13  fewer than the fixed octets: the message's length, or 3, the length octet of an accept whose result has length 0
  *   14  octet 1 not 7E: 0
@@ -210,5 +213,17 @@ enum { TJERNFAUG_MOST_CELLS = 64 };
  */
 uint32_t tjernfaug_cells(const struct tjernfaug_record *r, uint8_t access, const uint32_t *heard, size_t heard_len,
                          uint32_t *permitted, size_t permitted_len);
+
+/* The longest list: sixteen networks of three octets. */
+enum { TJERNFAUG_LONGEST_LIST = 48 };
+
+/*
+ * The networks marked forbidden on access 0, for the card's file: from file[0] on, in the order of the entries, three octets each, then FF to the file's end. r stays as it was.
+ * Those that T3247 would lift are written as well. Imported into a record just given that card, the file gives the same forbidden marks.
+ * How many networks it wrote, 0 to 16; or 256 plus the refusal's number, and then the whole file is as it was:
+ *   257  len is not a multiple of three, or r is invalid
+ *   268  the file is shorter than the list: three octets for each marked network
+ */
+uint32_t tjernfaug_forbidden(const struct tjernfaug_record *r, uint8_t *file, size_t len);
 
 #endif

@@ -1,5 +1,6 @@
 // The registration record of document 01 with the updates of request R-5, the faults of R-1, the
-// waits of R-6 and the counting on both accesses of R-14, and its seven events, updated in place.
+// waits of R-6 and the counting on both accesses of R-14, and its seven events, updated in place;
+// the eighth, R-8's import, is in card.rs.
 
 use crate::message::{self, Accept, Message, Reject};
 
@@ -341,7 +342,7 @@ impl Access {
     }
 
     /// The entry of the network, taken into use if it has none; None if all are held.
-    fn claim(&mut self, network: Network) -> Option<&mut Entry> {
+    pub fn claim(&mut self, network: Network) -> Option<&mut Entry> {
         let held = self.entries.iter().position(|entry| entry.network == network);
         let place = match held {
             Some(place) => place,

@@ -1,6 +1,7 @@
-// Scenarios worked out by hand from document 01 and requests:
+// Scenarios worked out by hand from document 01 and requests:
 // rustc --test docs/src/main.rs
 
+use crate::card;
 use crate::cells;
 use crate::log::{apply, Input, Next};
 use crate::message::{self, Fault, Message, Reject, Span};
@@ -1228,6 +1229,18 @@ impl Draws {
         record.message(a, 1, drawn, &[0x7E, 0, 0x42, 1, 1, timer, 1, self.below(256)])
     }
 
+    /// A file of up to seven places: unused ones, networks of starts, others, and few bad codes.
+    fn import(&mut self, record: &mut Record) -> Reply {
+        let place = |draws: &mut Draws| match draws.below(60) {
+            0 => [0x00, 0xFA, 0x10],
+            1..=9 => UNUSED,
+            10..=19 => network_of(&draws.area()),
+            _ => [draws.below(10), 0xF2, draws.below(2)],
+        };
+        let file: Vec<Network> = (0..self.below(8)).map(|_| place(self)).collect();
+        import(record, &file)
+    }
+
     fn event(&mut self, record: &mut Record) -> Reply {
         let a = self.below(2);
         match self.below(15) {
@@ -1240,6 +1253,7 @@ impl Draws {
                 0 => record.card(HOME, &SUCI),
                 1..=4 => record.power(),
                 5..=20 => record.timer(5, 0),
+                21..=26 => self.import(record),
                 _ => record.timer(4, 0),
             },
         }
@@ -3718,4 +3732,392 @@ fn cells_asked_for() {
         assert!(asked(&format!("--cells{words}")).is_err(), "{words}");
     }
     assert!(asked("--cells 0 00F220 00G220").is_err() && asked("--cell").is_err());
+}
+
+// Request R-8: the card's own forbidden list.
+
+const UNUSED: Network = [0xFF; 3];
+
+fn import(record: &mut Record, networks: &[Network]) -> Reply {
+    card::import(record, networks.as_flattened())
+}
+
+/// The entry of a network that an import named first.
+fn new(network: Network) -> Entry {
+    Entry { network, forbidden: true, ..Entry::default() }
+}
+
+/// The import is taken and tells nothing: access 0 has these entries then, and all else stays.
+fn imports(record: &mut Record, networks: &[Network], entries: &[Entry]) {
+    let mut expected = *record;
+    expected.access[0].entries = List::of(entries);
+    assert_eq!(import(record, networks), Reply::of(0), "{networks:02X?}");
+    assert_eq!(text(record), text(&expected), "{networks:02X?}");
+    valid(record);
+}
+
+/// The import is refused and changes nothing.
+fn turns_down(record: &mut Record, file: &[u8], answer: u8) {
+    let before = text(record);
+    assert_eq!(card::import(record, file), Reply::of(answer), "{file:02X?}");
+    assert_eq!(text(record), before, "{file:02X?}");
+}
+
+/// An entry for each combination of marks, counters below and at their limits.
+fn known() -> Vec<Entry> {
+    let combined = |case: u8| Entry {
+        network: [case, 0, 0],
+        ban: case % 4,
+        n1: (case / 4) % 4,
+        forbidden: case & 4 == 4,
+        n1_barred: case & 1 == 1,
+    };
+    (0..=9).map(combined).collect()
+}
+
+/// In the file's order and each once; an unused place is passed over wherever it stands.
+#[test]
+fn an_import_marks_new_networks() {
+    let [a, b, c] = [AWAY, NEAR, EQUIVALENT];
+    for (file, held) in [
+        (&[a][..], &[a][..]),
+        (&[b, a], &[b, a]),
+        (&[a, a], &[a]),
+        (&[a, b, a, c, b], &[a, b, c]),
+        (&[UNUSED, a], &[a]),
+        (&[a, UNUSED, UNUSED, b, UNUSED], &[a, b]),
+        (&[UNUSED, c, UNUSED, c, b], &[c, b]),
+        (&[HOME, a], &[HOME, a]),
+        (&[[0x00, 0x00, 0x00], [0x99, 0x99, 0x99]], &[[0x00, 0x00, 0x00], [0x99, 0x99, 0x99]]),
+        (&[ALIKE[0], a, ALIKE[1], ALIKE[2]], &[ALIKE[0], a, ALIKE[1], ALIKE[2]]),
+    ] {
+        let entries: Vec<Entry> = held.iter().copied().map(new).collect();
+        imports(&mut limited(3), file, &entries);
+    }
+}
+
+/// Whatever its entry was, the mark is set; counters, N1 mark and place stay. New ones come last.
+#[test]
+fn an_import_marks_networks_that_have_an_entry() {
+    for entry in known() {
+        let mut record = limited(3);
+        record.access[0].entries = List::of(&known());
+        let mut entries = known();
+        entries[entry.network[0] as usize].forbidden = true;
+        imports(&mut record, &[UNUSED, entry.network, entry.network], &entries);
+        entries.push(new(AWAY));
+        imports(&mut record, &[AWAY, entry.network], &entries);
+    }
+    let mut record = limited(3);
+    record.access[0].entries = List::of(&known());
+    let file: Vec<Network> = known().iter().rev().map(|entry| entry.network).collect();
+    let all: Vec<Entry> = known().iter().map(|entry| Entry { forbidden: true, ..*entry }).collect();
+    imports(&mut record, &file, &all);
+}
+
+/// An empty file, and one of unused places alone, as long as a log has them.
+#[test]
+fn an_import_of_no_network() {
+    for length in [0, 1, 2, 16, 17, 21_844] {
+        imports(&mut limited(3), &vec![UNUSED; length], &[]);
+        let mut record = marked();
+        let entries = record.access[0].entries.to_vec();
+        imports(&mut record, &vec![UNUSED; length], &entries);
+    }
+    imports(&mut limited(3), &[AWAY; 21_844], &[new(AWAY)]);
+}
+
+#[test]
+fn lengths_of_a_file() {
+    let whole = [AWAY, UNUSED, NEAR, HOME].concat();
+    for length in (0..whole.len()).filter(|length| length % 3 != 0) {
+        turns_down(&mut limited(3), &whole[..length], 1);
+        turns_down(&mut limited(3), &vec![0xFF; length], 1);
+    }
+}
+
+/// A digit above 9 but for F as the third of the MNC, in any place of the file.
+#[test]
+fn codes_of_a_file() {
+    let mut bad =
+        vec![[0xFF, 0xFF, 0x0F], [0xFF, 0xF0, 0xFF], [0x0F, 0xFF, 0xFF], [0x00, 0xFF, 0xFF]];
+    for (place, half) in (0..3).flat_map(|place| [(place, 0), (place, 4)]) {
+        for digit in (10..=15).filter(|&digit| (place, half, digit) != (1, 4, 15)) {
+            let mut code = [0x12, 0x34, 0x56];
+            code[place] = code[place] & (0xF0 >> half) | digit << half;
+            bad.push(code);
+        }
+    }
+    for code in bad {
+        for file in [&[code][..], &[code, AWAY], &[AWAY, code], &[NEAR, UNUSED, code, HOME]] {
+            turns_down(&mut limited(3), file.as_flattened(), 1);
+        }
+        let mut record = limited(3);
+        record.access[0].entries.push(Entry { network: AWAY, ..Entry::default() });
+        turns_down(&mut record, [AWAY, code].as_flattened(), 1);
+    }
+    imports(&mut limited(3), &[[0x12, 0xF4, 0x56]], &[new([0x12, 0xF4, 0x56])]);
+}
+
+/// With any number of entries held, as many new networks as are free fit, with doubles and with all
+/// that have an entry beside them. One more is 4, and then none of the file is marked.
+#[test]
+fn a_file_that_fills_the_table() {
+    let fresh: [Network; 17] =
+        std::array::from_fn(|index| [index as u8 % 10, 0xF0, index as u8 / 10]);
+    for count in 0..=16 {
+        let mut record = limited(3);
+        let entries: Vec<Entry> = sixteen()[..count]
+            .iter()
+            .map(|&network| Entry { network, ban: 2, n1: 3, ..Entry::default() })
+            .collect();
+        record.access[0].entries = List::of(&entries);
+        let mut all: Vec<Entry> =
+            entries.iter().map(|entry| Entry { forbidden: true, ..*entry }).collect();
+        all.extend(fresh[..16 - count].iter().copied().map(new));
+        let free = &fresh[..16 - count];
+        let more = &fresh[..17 - count];
+        let with = |news: &[Network]| [&sixteen()[..count], news, &[UNUSED], news].concat();
+        turns_down(&mut record, more.as_flattened(), 4);
+        turns_down(&mut record, with(more).as_flattened(), 4);
+        let mut bad = with(more);
+        bad.push([0xA0, 0xF1, 0x10]);
+        turns_down(&mut record, bad.as_flattened(), 1);
+        turns_down(&mut record, &[more.as_flattened(), &[0xFF]].concat(), 1);
+        imports(&mut record, &with(free), &all);
+        turns_down(&mut record, fresh[16..].as_flattened(), 4);
+        imports(&mut record, &with(free), &all);
+    }
+}
+
+/// In each state of either access, with all that an event could change, and without a card.
+#[test]
+fn an_import_in_each_state() {
+    for (a, _, record) in pendings() {
+        for state in 0..=6 {
+            let mut record = laden(record);
+            (record.access[a].state, record.access[a].t3510) = (state, state == 4);
+            record.access[a].t3346 = true;
+            let held = record.access[0].entries[0];
+            imports(&mut record, &[HOME, AWAY], &[held, new(HOME)]);
+        }
+    }
+    let mut bare = Record::new(Limits { card: 1, ban: 1, n1: 1 }, &[0x00], &[0xF0, 0xF0]);
+    imports(&mut bare, &[AWAY, HOME], &[new(AWAY), new(HOME)]);
+    assert_eq!(bare.power(), Reply::of(0));
+    assert_eq!(marks_of(&bare, 0), [(0, 0, true, false); 2]);
+    assert_eq!(bare.card(HOME, &SUCI).answer, 0);
+    assert!(bare.access[0].entries.is_empty());
+}
+
+/// Counter 0: neither T3247 nor a power cycle lifts the mark. Above 0 and below the limit both do,
+/// whoever set it last; at the limit neither does.
+#[test]
+fn what_lifts_an_imported_mark() {
+    for (counter, lifted) in [(0, false), (1, true), (2, true), (3, false)] {
+        let mut record = limited(3);
+        record.t3247 = true;
+        record.access[0].entries.push(Entry { network: AWAY, ban: counter, ..Entry::default() });
+        assert_eq!(import(&mut record, &[NEAR, AWAY]).answer, 0);
+        let mut cycled = record;
+        assert_eq!(cycled.power().answer, 0);
+        assert_eq!(out(&mut record, 4, 0).answer, 0);
+        for mut record in [record, cycled] {
+            assert_eq!(ban(&record), (counter, !lifted));
+            assert_eq!(marks_of(&record, 0)[1], (0, 0, true, false));
+            assert_eq!(start(&mut record, 0, NEAR), 8);
+            assert_eq!(start(&mut record, 0, AWAY), if lifted { 0 } else { 8 });
+        }
+    }
+}
+
+/// A start is 8 and by hand it passes; an accept lifts the mark, and that of no other network.
+#[test]
+fn an_accept_lifts_an_imported_mark() {
+    for network in [AWAY, HOME] {
+        let mut record = limited(3);
+        imports(&mut record, &[NEAR, network], &[new(NEAR), new(network)]);
+        assert_eq!(record.start(0, 0, area(network)), Reply::of(8));
+        assert_eq!(record.start(0, 1, area(network)).answer, 0);
+        assert_eq!(accept(&mut record, 0), 0);
+        assert_eq!(marks_of(&record, 0), [(0, 0, true, false), (0, 0, false, false)]);
+        assert_eq!(record.power().answer, 0);
+        assert_eq!(start(&mut record, 0, network), 0);
+        // While the answer is waited for the file is read once more: the accept still lifts.
+        assert_eq!(import(&mut record, &[network]).answer, 0);
+        assert_eq!(accept(&mut record, 0), 0);
+        assert_eq!(marks_of(&record, 0), [(0, 0, true, false), (0, 0, false, false)]);
+        assert_eq!(import(&mut record, &[network]).answer, 0);
+        assert_eq!(update(&mut record, 0, 2, network), 8);
+    }
+}
+
+/// An unprotected no counts from 1, and T3247 then lifts the card's ban with it, until the file is
+/// read again; at the limit, by a third or a protected one, it stays.
+#[test]
+fn rejects_of_an_imported_network() {
+    let mut record = limited(3);
+    assert_eq!(import(&mut record, &[AWAY]).answer, 0);
+    for count in 1..=3 {
+        assert_eq!(record.start(0, 1, area(AWAY)).answer, 0);
+        assert_eq!(reject(&mut record, 0, 0, 11), reply(0, true, None));
+        assert_eq!(ban(&record), (count, true));
+        assert_eq!(out(&mut record, 4, 0).answer, 0);
+        assert_eq!(ban(&record), (count, count == 3));
+        assert_eq!(import(&mut record, &[AWAY]).answer, 0);
+        assert_eq!(ban(&record), (count, true));
+    }
+    let mut record = limited(3);
+    assert_eq!(import(&mut record, &[AWAY]).answer, 0);
+    assert_eq!(record.start(0, 1, area(AWAY)).answer, 0);
+    assert_eq!(reject(&mut record, 0, 1, 73), reply(0, false, None));
+    barred_elsewhere(&mut record);
+    assert_eq!(out(&mut record, 4, 0).answer, 0);
+    assert_eq!(ban(&record), (3, true));
+    assert_eq!(record.power().answer, 0);
+    assert_eq!(ban(&record), (3, true));
+}
+
+/// An unprotected no of another network, which starts T3247.
+fn barred_elsewhere(record: &mut Record) {
+    assert_eq!(start(record, 0, NEAR), 0);
+    assert_eq!(reject(record, 0, 0, 11).answer, 0);
+}
+
+/// An N1 mark below the limit goes with T3247, and the card's ban stays.
+#[test]
+fn an_imported_network_that_bars_n1() {
+    let mut record = limited(3);
+    assert_eq!(import(&mut record, &[AWAY]).answer, 0);
+    assert_eq!(record.start(0, 1, area(AWAY)).answer, 0);
+    assert_eq!(reject(&mut record, 0, 0, 27), reply(0, true, None));
+    assert_eq!(marks_of(&record, 0), [(0, 1, true, true)]);
+    assert_eq!(record.start(0, 1, area(AWAY)), Reply::of(8));
+    assert_eq!(out(&mut record, 4, 0).answer, 0);
+    assert_eq!(marks_of(&record, 0), [(0, 1, true, false)]);
+    assert_eq!(start(&mut record, 0, AWAY), 8);
+}
+
+/// Access 1 gets no entry and no mark, and its own are no entries of access 0; but an imported
+/// network has one there, which a protected 27 over access 1 counts to the limit.
+#[test]
+fn an_import_is_for_access_0() {
+    let mut record = limited(3);
+    assert_eq!(import(&mut record, &[AWAY]).answer, 0);
+    assert!(record.access[1].entries.is_empty());
+    assert_eq!(start(&mut record, 1, AWAY), 0);
+    assert_eq!(reject(&mut record, 1, 1, 27).answer, 0);
+    assert_eq!(marks_of(&record, 0), [(0, 3, true, false)]);
+    assert_eq!(marks_of(&record, 1), [(0, 3, false, true)]);
+    let mut record = limited(3);
+    record.access[1].entries = held(&sixteen());
+    let entries = sixteen().map(new);
+    imports(&mut record, &sixteen(), &entries);
+}
+
+/// A network that a later file leaves out keeps its mark, and an event's entry stays too.
+#[test]
+fn an_import_only_adds() {
+    let mut record = banned(3, 1, 0);
+    imports(&mut record, &[NEAR], &[Entry { ban: 1, ..new(AWAY) }, new(NEAR)]);
+    for file in [&[][..], &[UNUSED, NEAR], &[UNUSED; 5]] {
+        imports(&mut record, file, &[Entry { ban: 1, ..new(AWAY) }, new(NEAR)]);
+    }
+}
+
+/// Log kind 10: the whole body is the file.
+#[test]
+fn imports_in_logs() {
+    for (text_of, answer, count) in [
+        ("0A 00", 0, 0),
+        ("0A 00 FF FF FF", 0, 0),
+        ("0A 00 00 F2 20", 0, 1),
+        ("0A 00 00 F2 20 FF FF FF 62 F2 20 00 F2 20", 0, 2),
+        ("0A 00 00", 1, 0),
+        ("0A 00 00 F2", 1, 0),
+        ("0A 00 00 F2 20 FF", 1, 0),
+        ("0A 00 00 F2 20 00 FA 10", 1, 0),
+        ("0A 01 00 F2 20", 1, 0),
+        ("00 0A 00 F2 20", 1, 0),
+        ("09 00 00 F2 20", 1, 0),
+        ("0B 00 00 F2 20", 1, 0),
+    ] {
+        let mut record = limited(3);
+        assert_eq!(apply(&mut record, &octets(text_of)), Reply::of(answer), "{text_of}");
+        assert_eq!(record.access[0].entries.len(), count, "{text_of}");
+    }
+    let mut record = limited(3);
+    let most = [&[10, 0], sixteen().as_flattened()].concat();
+    assert_eq!(apply(&mut record, &most).answer, 0);
+    assert_eq!(apply(&mut record, &octets("0A 00 00 F2 20")).answer, 4);
+    assert_eq!(apply(&mut record, &most).answer, 0);
+}
+
+/// A file of this length, written over octets that show what is left: what it holds and the count.
+fn filed(record: &Record, length: usize) -> Result<(Vec<u8>, usize), u8> {
+    let before: Vec<u8> = (0..length).map(|place| 0x40 + place as u8 % 64).collect();
+    let mut file = before.clone();
+    let count = card::write(record, &mut file);
+    assert!(count.is_ok() || file == before);
+    count.map(|count| (file, count))
+}
+
+/// The networks that are forbidden on access 0, in entry order, then FF; with whatever counters.
+#[test]
+fn a_file_written() {
+    let mut record = limited(3);
+    record.access[0].entries = List::of(&known());
+    record.access[1].entries = held(&sixteen());
+    let list: Vec<Network> = (4..=7).map(|first| [first, 0, 0]).collect();
+    for places in 4..=20 {
+        let unused = vec![UNUSED; places - 4];
+        let whole = [list.as_flattened(), unused.as_flattened()].concat();
+        assert_eq!(filed(&record, 3 * places), Ok((whole, 4)));
+    }
+    for places in [0, 1, 16, 21_845] {
+        let unused = vec![0xFF; 3 * places];
+        assert_eq!(filed(&limited(3), 3 * places), Ok((unused, 0)));
+    }
+    record.access[0].entries = held(&sixteen());
+    assert_eq!(filed(&record, 48), Ok((sixteen().concat(), 16)));
+}
+
+/// 1 for a length that is no multiple of three, whether the list would fit or not; then 12.
+#[test]
+fn refusals_of_a_file() {
+    for count in 0..=16 {
+        let mut record = limited(3);
+        record.access[0].entries = held(&sixteen()[..count]);
+        for length in 0..60 {
+            let refused = match length {
+                _ if length % 3 != 0 => Some(1),
+                _ if length < 3 * count => Some(12),
+                _ => None,
+            };
+            assert_eq!(filed(&record, length).err(), refused, "{count} {length}");
+        }
+    }
+}
+
+/// What was written, read into a record just given that card, gives the same forbidden marks: in
+/// the same order, and with counter 0.
+#[test]
+fn a_file_reads_back() {
+    let mut draws = Draws(3);
+    let mut record = limited(2);
+    let mut counts = [0; 17];
+    for _ in 0..50_000 {
+        draws.event(&mut record);
+        let marked: Vec<Network> =
+            record.access[0].entries.iter().filter(|e| e.forbidden).map(|e| e.network).collect();
+        let spare = draws.below(4) as usize;
+        let (file, count) = filed(&record, 3 * (marked.len() + spare)).unwrap();
+        let mut later = Record::new(record.limits, &record.capability, &record.security);
+        assert_eq!(later.card(record.home, &SUCI).answer, 0);
+        let entries: Vec<Entry> = marked.iter().copied().map(new).collect();
+        imports(&mut later, file.as_chunks().0, &entries);
+        assert_eq!(count, marked.len());
+        counts[count] += 1;
+    }
+    assert!(counts.iter().all(|&times| times > 100), "{counts:?}");
 }

@@ -1,15 +1,16 @@
 /*
- * A device and a false cell. The cell rejects three registrations with cause 11 and no protection; the device waits for T3247 each time and tries again,
- * until the ban counter is at its limit and it stays quiet. Of the cells that it hears it then tries the first that it may: home. In a busy hour the network asks for ten
- * minutes there, and the device waits. Then the network takes it, after an accept that lost its last octet, and it moves: a mobility update in the next area, and a periodic
- * one once T3512 has run out. It writes what it was told to a log, from which the lab's program replays the same states.
+ * A device and a false cell. At power-up the device reads its card's file of forbidden networks. The cell rejects three registrations with cause 11 and no protection; the
+ * device waits for T3247 each time and tries again, until the ban counter is at its limit and it stays quiet. Of the cells that it hears it then tries the first that it may:
+ * home. In a busy hour the network asks for ten minutes there, and the device waits. Then the network takes it, after an accept that lost its last octet, and it moves: a
+ * mobility update in the next area, and a periodic one once T3512 has run out. Last it writes the card's file, which forbids the same networks for a record just given that card.
+ * It writes what it was told to a log, from which the lab's program replays the same states.
  * Usage: device LOG; the states go to standard output as the lab's program prints them.
  */
 #include <stdio.h>
 #include <string.h>
 #include "tjernfaug.h"
 
-enum { CARD = 1, START, MESSAGE, TIMER, KEY = 6, UPDATE, DRAWS };
+enum { CARD = 1, START, MESSAGE, TIMER, KEY = 6, UPDATE, DRAWS, IMPORT = 10 };
 enum { T3247 = 4, T3512, T3346 };
 enum { MOBILITY = 2, PERIODIC };
 enum { TAKEN = 0, RANGE = 1, STATE = 6, LISTED = 8, SHORT = 12, CUT, PAST = 17, STRANGE, WAITING = 20, REFUSED = 256 };
@@ -18,6 +19,12 @@ enum { TAKEN = 0, RANGE = 1, STATE = 6, LISTED = 8, SHORT = 12, CUT, PAST = 17, 
 static const uint8_t away[] = {0x00, 0xF2, 0x20, 0x00, 0x00, 0x2A};
 static const uint8_t home[] = {0x00, 0xF1, 0x10, 0x00, 0x00, 0x2A};
 static const uint8_t next[] = {0x00, 0xF1, 0x10, 0x00, 0x00, 0x2B};
+static const uint8_t banned[] = {0x00, 0xF4, 0x40, 0x00, 0x00, 0x2A};
+
+/* The card: home and SUCI. Its file of forbidden networks has four places, of which the second is in use; in the end the first two are. */
+static const uint8_t issued[] = {0x00, 0xF1, 0x10, 0x01, 0x00, 0xF1, 0x10, 0xF0, 0xFF, 0x00, 0x00, 0x07};
+static const uint8_t listed[] = {0xFF, 0xFF, 0xFF, 0x00, 0xF4, 0x40, 0xFF, 0xFF, 0xFF, 0xFF, 0xFF, 0xFF};
+static const uint8_t stored[] = {0x00, 0xF4, 0x40, 0x00, 0xF2, 0x20, 0xFF, 0xFF, 0xFF, 0xFF, 0xFF, 0xFF};
 
 struct device {
     struct tjernfaug_record record;
@@ -41,10 +48,10 @@ static uint32_t hand(struct device *d, uint32_t kind, const uint8_t *body, size_
     return answer;
 }
 
-static uint32_t card(struct device *d)
+static uint32_t opened(struct tjernfaug_record *r)
 {
-    static const uint8_t body[] = {0x00, 0xF1, 0x10, 0x01, 0x00, 0xF1, 0x10, 0xF0, 0xFF, 0x00, 0x00, 0x07};
-    return hand(d, CARD, body, sizeof body);
+    static const uint8_t capability[] = {0x00}, security[] = {0xF0, 0xF0};
+    return tjernfaug_new(r, 3, 3, 3, capability, sizeof capability, security, sizeof security);
 }
 
 static uint32_t start(struct device *d, const uint8_t *area)
@@ -131,10 +138,20 @@ static uint32_t accept(struct device *d, size_t less)
     return hand(d, MESSAGE, body, sizeof body - less);
 }
 
-/* The false cell, until the device is quiet. */
+/* Power-up: the card, then its file. What it forbids is not started. */
+static int reads(struct device *d)
+{
+    int wrong = hand(d, CARD, issued, sizeof issued) != TAKEN || hand(d, IMPORT, listed, sizeof listed - 1) != RANGE;
+    wrong |= hand(d, IMPORT, listed, sizeof listed) != TAKEN || start(d, banned) != LISTED;
+    wrong |= d->record.hot.a0.entries != 1 || d->record.e0.nets[0] != 0x00F440 || d->record.e0.forbidden[0] != 1 || d->record.e0.bans[0] != 0;
+    fprintf(stderr, "device: the card forbids %u network\n", d->record.hot.a0.entries);
+    return wrong;
+}
+
+/* The false cell, until the device is quiet. T3247 has not lifted what the card forbids. */
 static int quiet(struct device *d)
 {
-    int wrong = card(d) != TAKEN;
+    int wrong = 0;
     unsigned rejects = 0;
     while (start(d, away) == TAKEN && rejects < 10) {
         wrong |= d->notice.c0.t3510.told != 2 || d->notice.c0.t3510.seconds != 15 || !clear(d);
@@ -143,23 +160,23 @@ static int quiet(struct device *d)
         wrong |= wait(d, T3247, d->notice.t3247.seconds) != TAKEN || d->notice.t3247.told != 1;
     }
     wrong |= rejects != 3 || d->now != 5400 || start(d, away) != LISTED;
-    wrong |= d->record.e0.bans[0] != 3 || d->record.e0.forbidden[0] != 1 || d->record.hot.dev.t3247 != 0;
+    wrong |= d->record.e0.bans[1] != 3 || d->record.e0.forbidden[1] != 1 || d->record.hot.dev.t3247 != 0 || start(d, banned) != LISTED;
     fprintf(stderr, "device: %u rejects, quiet after %lu s\n", rejects, d->now);
     return wrong;
 }
 
-/* The cells heard: the false one's network twice, home, another one, and home again. Over Wi-Fi no network is marked. */
+/* The cells heard: the false one's network twice, home, the one that the card forbids, another one, and home again. Over Wi-Fi no network is marked. */
 static int chooses(const struct device *d)
 {
-    static const uint32_t heard[] = {0x00F220, 0x00F110, 0x00F220, 0x00F330, 0x00F110};
+    static const uint32_t heard[] = {0x00F220, 0x00F110, 0x00F220, 0x00F440, 0x00F330, 0x00F110};
     enum { HEARD = sizeof heard / sizeof *heard };
-    uint32_t permitted[HEARD] = {7, 7, 7, 7, 7};
+    uint32_t permitted[HEARD] = {7, 7, 7, 7, 7, 7};
     int wrong = tjernfaug_cells(&d->record, 0, heard, HEARD, permitted, HEARD - 1) != REFUSED + SHORT;
     wrong |= tjernfaug_cells(&d->record, 2, heard, HEARD, permitted, HEARD) != REFUSED + RANGE || permitted[0] != 7;
     uint32_t count = tjernfaug_cells(&d->record, 0, heard, HEARD, permitted, HEARD);
     wrong |= count != 2 || permitted[0] != 0x00F110 || permitted[1] != 0x00F330 || permitted[2] != 7;
-    wrong |= tjernfaug_cells(&d->record, 1, heard, HEARD, permitted, HEARD) != 3 || permitted[0] != 0x00F220;
-    fprintf(stderr, "device: %u of 3 networks may be tried\n", count);
+    wrong |= tjernfaug_cells(&d->record, 1, heard, HEARD, permitted, HEARD) != 4 || permitted[0] != 0x00F220;
+    fprintf(stderr, "device: %u of 4 networks may be tried\n", count);
     return wrong;
 }
 
@@ -193,17 +210,37 @@ static int moves(struct device *d)
     return wrong;
 }
 
+/* The card's file, with the false cell's network too; one that is too short, or ends within a place, stays. A record just given that card reads it and writes the same. */
+static int stores(const struct device *d)
+{
+    static struct tjernfaug_record later;
+    struct tjernfaug_notice notice;
+    uint8_t file[sizeof stored], again[sizeof stored];
+    memset(file, 0xA5, sizeof file);
+    memset(again, 0xA5, sizeof again);
+    int wrong = tjernfaug_forbidden(&d->record, file, 3) != REFUSED + SHORT || tjernfaug_forbidden(&d->record, file, 7) != REFUSED + RANGE;
+    wrong |= memcmp(file, again, sizeof file) != 0;
+    uint32_t count = tjernfaug_forbidden(&d->record, file, sizeof file);
+    wrong |= count != 2 || memcmp(file, stored, sizeof file) != 0;
+    wrong |= opened(&later) != TAKEN || tjernfaug_event(&later, CARD, issued, sizeof issued, &notice) != TAKEN;
+    wrong |= tjernfaug_event(&later, IMPORT, file, sizeof file, &notice) != TAKEN;
+    wrong |= tjernfaug_forbidden(&later, again, sizeof again) != count || memcmp(file, again, sizeof file) != 0;
+    fprintf(stderr, "device: %u networks in the card's file\n", count);
+    return wrong;
+}
+
 int main(int argc, char **argv)
 {
     static struct device d;
-    static const uint8_t capability[] = {0x00}, security[] = {0xF0, 0xF0};
     if (argc != 2 || !(d.log = fopen(argv[1], "wb")))
         return 2;
-    int wrong = tjernfaug_new(&d.record, 3, 3, 3, capability, sizeof capability, security, sizeof security) != TAKEN;
+    int wrong = opened(&d.record) != TAKEN;
+    wrong |= reads(&d);
     wrong |= quiet(&d);
     wrong |= chooses(&d);
     wrong |= busy(&d);
     wrong |= moves(&d);
+    wrong |= stores(&d);
     wrong |= fclose(d.log) != 0;
     if (wrong)
         fprintf(stderr, "device: that is wrong\n");

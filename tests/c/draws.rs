@@ -1,6 +1,6 @@
 // The calls that the fuzz run makes, drawn: on a record that lives on events which are often right, and on records changed from it.
-use crate::second::{CAccess, CEntries, CNotice, CRecord, Plain};
-use crate::{BAR, CAUSE, CELLS, EVENT, NEW, REQUEST};
+use crate::second::{triple, CAccess, CEntries, CNotice, CRecord, Plain};
+use crate::{BAR, CAUSE, CELLS, EVENT, FORBIDDEN, IMPORT, NEW, REQUEST, UNUSED};
 
 const BODY: u32 = 96;
 /// Above the longest request.
@@ -233,17 +233,65 @@ fn reply(d: &mut Draw, access: u8, net: [u8; 3]) -> (u32, Vec<u8>) {
     heard(d, access, protected, &octets)
 }
 
+/// The card's file of these places: one in eight with an octet bent, one in eight that ends within a place.
+fn file(d: &mut Draw, places: &[u32]) -> Vec<u8> {
+    let mut octets: Vec<u8> = places.iter().flat_map(|net| triple(*net)).collect();
+    let (at, more) = (d.below(octets.len().max(1) as u32) as usize, 1 + d.below(2));
+    match (d.below(8), octets.get(at)) {
+        (0, Some(&octet)) => octets[at] = bent(d, octet),
+        (1, _) => octets.extend(d.octets(more)),
+        _ => {}
+    }
+    octets
+}
+
+/// A few networks that events name, and unused places.
+fn few(d: &mut Draw) -> Vec<u32> {
+    (0..d.below(5)).map(|_| [UNUSED, d.net(), d.net()][d.below(3) as usize]).collect()
+}
+
+/// Some or all networks of access 0's entries, and new ones: few, as many as there are free entries, or one more; then doubles and unused places among them.
+fn filling(d: &mut Draw, r: &CRecord) -> Vec<u32> {
+    let nets = r.entries[0].nets;
+    let held = &nets[..r.access[0].entries.min(16) as usize];
+    let (free, share) = (16 - held.len(), 1 + d.below(2));
+    let new = (0..33).map(|i| 0x00F600 + (i / 10 * 16 + i % 10)).filter(|net| !held.contains(net));
+    let count = [d.below(4) as usize, free, free, free + 1][d.below(4) as usize];
+    let known = held.iter().copied().filter(|_| d.below(share) == 0);
+    let mut places: Vec<u32> = known.chain(new.take(count)).collect();
+    for _ in 0..d.below(4) {
+        let (from, to) = (d.below(2 * places.len() as u32 + 1) as usize, d.below(places.len() as u32 + 1) as usize);
+        places.insert(to, places.get(from).copied().unwrap_or(UNUSED));
+    }
+    places
+}
+
+/// An import into a record of any card or, one in eight, of none.
+fn import(d: &mut Draw, mut r: CRecord) -> Ask {
+    if d.below(8) == 0 {
+        r.dev.card = 0;
+        r.access.iter_mut().for_each(|a| (a.state, a.t3510) = (0, 0));
+    }
+    let places = filling(d, &r);
+    let body = file(d, &places);
+    d.hand(r, (IMPORT, body))
+}
+
 /// An event that is often right: its kind, and the octets that matter from small sets.
 fn event(d: &mut Draw) -> (u32, Vec<u8>) {
     let net = NETS[d.below(6) as usize];
     let (access, sure, any) = (d.octet(2), d.octet(2), d.octet(256));
-    match d.below(20) {
+    match d.below(21) {
         0 if d.below(20) == 0 => (1, card(any)),
         0 => (5, vec![]),
         1 => (6, vec![access, any & 7]),
         2..=4 => (4, vec![[1, 2, 3, 4, 5, 6, d.octet(8)][d.below(7) as usize], access]),
         5..=11 => reply(d, access, net),
         12..=14 => (7, update(d, access, net)),
+        15 => {
+            let places = few(d);
+            (IMPORT, file(d, &places))
+        }
         _ => (2, [&[access, sure][..], &net, &[0x00, 0x00, any & 15]].concat()),
     }
 }
@@ -257,7 +305,7 @@ fn bent(d: &mut Draw, octet: u8) -> u8 {
 /// Any octets as a body; or a right one whose kind has a high bit too, which has an octet more or less, or another one in an octet's place.
 fn wild(d: &mut Draw) -> (u32, Vec<u8>) {
     if d.below(4) > 0 {
-        let (kind, len) = (d.below(10), d.below(BODY + 1));
+        let (kind, len) = (d.below(12), d.below(BODY + 1));
         return (kind, d.octets(len));
     }
     let (kind, mut body) = event(d);
@@ -394,6 +442,19 @@ fn cells(d: &mut Draw, record: CRecord) -> Ask {
     Ask { small: [access, 0, 0], arrays, ..d.ask(CELLS, record) }
 }
 
+/// A file for the list of forbidden networks, in one of four all that are held: empty, shorter by a network, just as long, longer by some, or of any length.
+fn forbidden(d: &mut Draw, mut record: CRecord) -> Ask {
+    if d.below(4) == 0 {
+        record.entries[0].forbidden = [1; 16];
+    }
+    let held = record.access[0].entries.min(16) as usize;
+    let list = 3 * record.entries[0].forbidden[..held].iter().filter(|mark| **mark == 1).count() as u32;
+    let (more, any) = (3 * (1 + d.below(4)), d.below(61));
+    let len = [0, list.saturating_sub(3), list, list + more, any, any][d.below(6) as usize];
+    let file = d.octets(len);
+    Ask { arrays: [file, vec![]], ..d.ask(FORBIDDEN, record) }
+}
+
 /// The record with one octet of its first `end` bent.
 fn changed(d: &mut Draw, live: &CRecord, end: usize) -> CRecord {
     let (mut r, at) = (*live, d.below(end as u32) as usize);
@@ -412,7 +473,7 @@ pub fn round(d: &mut Draw, live: &CRecord) -> Vec<Ask> {
     let (broken, odd, net) = (changed(d, &full, end), strained(d, &full), NETS[d.below(6) as usize]);
     let (moving, octets, busy, bar) = ((7, update(d, access, net)), message(d), reject(d, BUSY), reject(d, BAR));
     let (said, asked, barred) = (heard(d, access, 1, &octets), heard(d, access, sure, &busy), heard(d, access, sure, &bar));
-    let over = [*live, full, scattered][d.below(3) as usize];
+    let (over, marked) = ([*live, full, scattered][d.below(3) as usize], [*live, full, full, broken][d.below(4) as usize]);
     vec![
         d.hand(*live, often),
         writing(d, live),
@@ -434,5 +495,7 @@ pub fn round(d: &mut Draw, live: &CRecord) -> Vec<Ask> {
         cells(d, *live),
         cells(d, full),
         cells(d, broken),
+        import(d, full),
+        forbidden(d, marked),
     ]
 }

@@ -1,16 +1,18 @@
 // Random octets through the C interface: as a record, as a kind and a body, and as changes to a record that lives on random events.
 // Held: the header's layout, answer 1 exactly where the record is invalid by a second reading of document 01, a refusal's record unchanged, nothing written outside what is lent,
 // for a valid record the answer, the notice, the record and the request of the second program, which reads that request back as the record's, by its container where it is to have one,
-// its choice among the cells heard, and the fault of a message by a reading of R-1 alone, for the event and for the reject reader.
+// its choice among the cells heard, its file of forbidden networks, and the fault of a message by a reading of R-1 alone, for the event and for the reject reader.
 //
 // Usage: fuzz SECONDS SEED PROGRAM [ARGUMENTS]
-// The program is tests/c/lend.c. First it tells how many octets a record and a notice have without their gaps, and the header's longest request and most cells.
+// The program is tests/c/lend.c. First it tells how many octets a record and a notice have without their gaps, and the header's longest request, most cells and longest list.
 // A call goes to it as one octet each for the call (0 to have the answers so far), what fills the gaps and six small numbers (three limits, or the access), then the kind and the
 // lengths of two arrays, then the record, the notice and the arrays; back come the answer, how many octets were written before what is lent, and the record, the notice and the
 // arrays as they then are.
 // Numbers have four octets, the low one first, in the two lists of cells too.
 // Cases are numbered from SEED on, and each draws by its number alone. With 0 seconds the case SEED runs alone.
 #![allow(dead_code)]
+#[path = "../../docs/src/card.rs"]
+mod card;
 #[path = "../../docs/src/cells.rs"]
 mod cells;
 mod draws;
@@ -40,16 +42,23 @@ pub const EVENT: u8 = 2;
 pub const REQUEST: u8 = 3;
 pub const CAUSE: u8 = 4;
 pub const CELLS: u8 = 5;
-/// Answers that no event has: they are for requests, and 12 for cells.
+pub const FORBIDDEN: u8 = 6;
+/// The kind of R-8's event.
+pub const IMPORT: u32 = 10;
+/// A place of the card's file without a network.
+pub const UNUSED: u32 = 0xFFFFFF;
+/// Answers that no event has: they are for requests, and 12 for cells and files.
 const NEVER: [u32; 3] = [3, 12, 19];
 /// The place of T3346 among an access's timers in the notice.
 const T3346: usize = 3;
 /// The cause that bars N1, R-14's.
 pub const BAR: u8 = 27;
-/// A request's answer where the buffer is too short.
+/// The answer of a call where what is lent is too short.
 const SHORT: u32 = 268;
 /// The longest request without a container and with one.
 const LONGEST: [u32; 2] = [80, 193];
+/// The longest list of forbidden networks.
+const LIST: u32 = 48;
 const LIVES: u64 = 32;
 const ROUNDS: usize = 48;
 
@@ -93,6 +102,8 @@ struct Tally {
     shapes: [[u64; 4]; 2],
     refusals: [u64; 6],
     choices: [u64; 13],
+    imports: [u64; 14],
+    files: [u64; 11],
 }
 
 fn fail(what: &str) -> ! {
@@ -144,6 +155,7 @@ impl Ask {
             CAUSE => format!("the reject reader on {}", hex(&self.arrays[0])),
             EVENT => format!("event of kind {}, body {}", self.kind, hex(&self.arrays[0])),
             CELLS => format!("cells over access {}, heard {:06X?}, list of {}", self.small[0], self.cells(), self.arrays[1].len() / 4),
+            FORBIDDEN => format!("the card's file of {}", self.arrays[0].len()),
             _ => format!("request over access {}, buffer of {}", self.small[0], self.arrays[0].len()),
         }
     }
@@ -158,8 +170,8 @@ impl Side {
         if number(&mut side.output).ok() != Some((size_of::<CRecord>() + size_of::<CNotice>()) as u32) {
             fail("the C side does not start, or its record or notice has other fields");
         }
-        if [0; 2].map(|_| number(&mut side.output).ok()) != [Some(LONGEST[1]), Some(cells::MOST as u32)] {
-            fail("the header has another longest request, or other most cells");
+        if [0; 3].map(|_| number(&mut side.output).ok()) != [Some(LONGEST[1]), Some(cells::MOST as u32), Some(LIST)] {
+            fail("the header has another longest request or list, or other most cells");
         }
         side
     }
@@ -275,6 +287,14 @@ fn judge_cells(ask: &Ask, got: &Got) -> Result<(), String> {
     let answer = if valid(&ask.record) { second::permitted(&ask.record, ask.small[0], &ask.cells(), &mut want) } else { 257 };
     equal("the answer for the cells", got.answer, answer)?;
     alike("the list of permitted cells", &got.arrays[1], &want.iter().flat_map(|net| net.to_le_bytes()).collect::<Vec<u8>>())?;
+    alike("the record that is only read", got.record.octets(), ask.record.octets())
+}
+
+fn judge_file(ask: &Ask, got: &Got) -> Result<(), String> {
+    let mut want = ask.arrays[0].clone();
+    let answer = if valid(&ask.record) { second::forbidden(&ask.record, &mut want) } else { 257 };
+    equal("the answer for the card's file", got.answer, answer)?;
+    alike("the card's file", &got.arrays[0], &want)?;
     alike("the record that is only read", got.record.octets(), ask.record.octets())
 }
 
@@ -421,31 +441,95 @@ fn choices(ask: &Ask, got: &Got) -> [bool; 13] {
     ]
 }
 
-fn judge(ask: &Ask, got: &Got, tally: &mut Tally) -> Result<(), String> {
+/// The networks that the card's file names, doubles too.
+fn named(file: &[u8]) -> Vec<u32> {
+    file.chunks_exact(3).map(|code| u32::from_be_bytes([0, code[0], code[1], code[2]])).filter(|net| *net != UNUSED).collect()
+}
+
+/// What R-8 is about where an import is read: new networks, one of them twice, an unused place before one, a mark set where the counter was above 0, no network at all;
+/// a table just filled, all of a full one known; with no card, in state 4, in state 5. Refused: for its length alone, for a code alone, 4 for one network, 1 where 4 is a reason too.
+fn imports(ask: &Ask, got: &Got) -> [bool; 14] {
+    if (ask.call, ask.kind) != (EVENT, IMPORT) || !valid(&ask.record) {
+        return [false; 14];
+    }
+    let (r, body, e, now) = (&ask.record, &ask.arrays[0], ask.record.entries[0], got.record.entries[0]);
+    let (nets, held, taken) = (named(body), r.access[0].entries as usize, got.answer == 0);
+    let fresh: Vec<u32> = nets.iter().copied().filter(|net| place(r, 0, *net).is_none()).collect();
+    let count = (0..fresh.len()).filter(|&i| !fresh[..i].contains(&fresh[i])).count();
+    let (part, many, code) = (body.len() % 3 > 0, count > 16 - held, nets.iter().any(|net| !valid::network(*net)));
+    let first = body.chunks_exact(3).position(|code| code == [0xFF; 3]);
+    [
+        taken && count > 0,
+        taken && count < fresh.len(),
+        taken && first.is_some_and(|i| !named(&body[3 * i..]).is_empty()),
+        taken && (0..held).any(|i| e.bans[i] > 0 && e.forbidden[i] < now.forbidden[i]),
+        taken && nets.is_empty(),
+        taken && count > 0 && held + count == 16,
+        taken && held == 16 && !nets.is_empty(),
+        taken && r.dev.card == 0,
+        taken && r.access[0].state == 4,
+        taken && r.access[0].state == 5,
+        part && !code && !many,
+        code && !part && !many,
+        got.answer == 4 && held + count == 17,
+        got.answer == 1 && many,
+    ]
+}
+
+/// What R-8 is about where the card's file is written: no network, some that fill it, some and FF behind them, sixteen, a file of no length, a network that T3247 would lift.
+/// Refused: for its length alone, for the record alone, shorter by one network, of no length, 1 where 12 is a reason too.
+fn files(ask: &Ask, got: &Got) -> [bool; 11] {
+    if ask.call != FORBIDDEN {
+        return [false; 11];
+    }
+    let (e, len) = (ask.record.entries[0], ask.arrays[0].len());
+    let marked: Vec<usize> = (0..ask.record.access[0].entries.min(16) as usize).filter(|&i| e.forbidden[i] == 1).collect();
+    let (list, taken, right, part) = (3 * marked.len(), got.answer < 256, valid(&ask.record), len % 3 > 0);
+    [
+        taken && list == 0,
+        taken && 0 < list && list == len,
+        taken && 0 < list && list < len,
+        taken && list == LIST as usize,
+        taken && len == 0,
+        taken && marked.iter().any(|&i| 0 < e.bans[i] && e.bans[i] < ask.record.dev.limits[1]),
+        part && right && len >= list,
+        !right && !part && len >= list,
+        got.answer == SHORT && len + 3 == list,
+        got.answer == SHORT && len == 0,
+        part && right && len < list,
+    ]
+}
+
+fn judge(ask: &Ask, got: &Got) -> Result<(), String> {
     equal("the count of octets written before what is lent", got.harm, 0)?;
     if ask.call != EVENT {
         alike("the notice, which is not lent,", got.notice.octets(), ask.notice.octets())?;
     }
-    if ask.call != REQUEST {
+    if ask.call != REQUEST && ask.call != FORBIDDEN {
         alike("the first array", &got.arrays[0], &ask.arrays[0])?;
     }
     if ask.call != CELLS {
         alike("the second array", &got.arrays[1], &ask.arrays[1])?;
     }
     match ask.call {
-        NEW => judge_new(ask, got)?,
-        EVENT => judge_event(ask, got)?,
-        CAUSE => judge_cause(ask, got)?,
-        CELLS => judge_cells(ask, got)?,
-        _ => judge_request(ask, got)?,
+        NEW => judge_new(ask, got),
+        EVENT => judge_event(ask, got),
+        CAUSE => judge_cause(ask, got),
+        CELLS => judge_cells(ask, got),
+        FORBIDDEN => judge_file(ask, got),
+        _ => judge_request(ask, got),
     }
+}
+
+fn count(ask: &Ask, got: &Got, tally: &mut Tally) {
     tally.news += (ask.call == NEW) as u64;
     tally.made += (ask.call == NEW && got.answer == 0) as u64;
     tally.requests += (ask.call == REQUEST) as u64;
     tally.written += (ask.call == REQUEST && got.answer < 256) as u64;
     let counts = tally.deeds.iter_mut().chain(&mut tally.waits).chain(&mut tally.rest).chain(&mut tally.bars).chain(tally.shapes.as_flattened_mut());
-    let counts = counts.chain(&mut tally.refusals).chain(&mut tally.choices);
+    let counts = counts.chain(&mut tally.refusals).chain(&mut tally.choices).chain(&mut tally.imports).chain(&mut tally.files);
     let came = [&deeds(ask, got)[..], &waits(ask, got), &rest(ask, got), &bars(ask, got), shapes(ask, got).as_flattened(), &refusals(ask), &choices(ask, got)].concat();
+    let came = came.into_iter().chain(imports(ask, got)).chain(files(ask, got));
     for (count, came) in counts.zip(came) {
         *count += came as u64;
     }
@@ -456,7 +540,6 @@ fn judge(ask: &Ask, got: &Got, tally: &mut Tally) -> Result<(), String> {
         tally.answers[got.answer as usize] += 1;
         tally.invalid += !valid(&ask.record) as u64;
     }
-    Ok(())
 }
 
 fn accuse(what: &str, case: u64, round: usize, ask: &Ask) -> ! {
@@ -487,7 +570,7 @@ fn group(side: &mut Side, words: &[String], cases: Range<u64>, tally: &mut Tally
         let cases: Vec<u64> = owners.iter().map(|&at| lives[at].case).collect();
         side.batch(&asks, |i, got| {
             let Some(got) = got else { search(words, &asks[i..], &cases[i..], round) };
-            let judged = catch_unwind(AssertUnwindSafe(|| judge(&asks[i], &got, tally)));
+            let judged = catch_unwind(AssertUnwindSafe(|| judge(&asks[i], &got).map(|()| count(&asks[i], &got, tally))));
             judged.unwrap_or(Err("the second program panics".to_string())).unwrap_or_else(|what| accuse(&what, cases[i], round, &asks[i]));
             if i == 0 || owners[i] != owners[i - 1] {
                 lives[owners[i]].live = got.record;
@@ -506,6 +589,30 @@ fn show_cells(refusals: [u64; 6], choices: [u64; 13]) {
     println!("fuzz: 64 cells heard {most} times, all permitted {all}, none heard {none}; a list filled whole {whole} times, its rest left {rest}");
 }
 
+fn show_card(imports: [u64; 14], files: [u64; 11]) {
+    let [new, twice, gap, raised, none, filled, known, bare, pending, registered, part, code, full, before] = imports;
+    let [empty, whole, behind, most, nothing, liftable, length, record, short, no, first] = files;
+    println!("fuzz: imports of new networks {new} times, one twice {twice}, behind an unused place {gap}, marked again with a counter {raised}, of none {none}");
+    println!("fuzz: imports that fill the table {filled} times, of known ones into a full one {known}; without a card {bare}, in state 4 {pending}, in state 5 {registered}");
+    println!("fuzz: imports refused for one reason: length {part} times, code {code}, one network too many {full}; 1 before 4 {before} times");
+    println!("fuzz: files without a network {empty} times, just filled {whole}, FF behind {behind}, sixteen networks {most}, no length {nothing}, one that T3247 would lift {liftable}");
+    println!("fuzz: files refused for one reason: length {length} times, record {record}, shorter by a network {short}, no length {no}; 1 before 12 {first} times");
+}
+
+/// What are about.
+fn show_events(deeds: [u64; 5], waits: [u64; 6], rest: [u64; 10], bars: [u64; 8]) {
+    let [mobility, periodic, fell, started, out] = deeds;
+    let [given, plain, low, high, moved, anew] = waits;
+    let [empty, off, zero, below, above, bad, start, update, ended, power] = rest;
+    let [mobile, wifi, updating, marked, skipped, full, refused, open] = bars;
+    println!("fuzz: {mobility} mobility and {periodic} periodic updates taken, {fell} failed; T3512 started {started} times, out {out} times");
+    println!("fuzz: T3346 started {given} times as given, {plain} for kind 3's draw, {low} and {high} for one at its ends; {moved} times in an update, {anew} where it ran");
+    println!("fuzz: T3346 empty {empty} times, deactivated {off}, zero {zero}; its draw refused {below} times below its range, {above} above it; {bad} records invalid by it alone");
+    println!("fuzz: 20 for {start} starts and {update} updates; T3346 out {ended} times, stopped by {power} power cycles");
+    println!("fuzz: a protected 27 raised the other access's N1 counter {mobile} times from access 0 and {wifi} from access 1, {updating} of them in an update, {marked} under an N1 mark");
+    println!("fuzz: that side skipped {skipped} times, {full} of them with all sixteen entries held; a counter left there {refused} times by answer 4, {open} by a 27 without protection");
+}
+
 fn main() {
     let words: Vec<String> = std::env::args().skip(1).collect();
     let numbers: Vec<u64> = words.iter().take(2).filter_map(|word| word.parse().ok()).collect();
@@ -520,27 +627,19 @@ fn main() {
         group(&mut side, words, first..first + LIVES, &mut tally);
     }
     side.end();
-    let Tally { cases, answers, causes, invalid, news, made, requests, written, deeds, waits, rest, bars, shapes, refusals, choices } = tally;
-    let [mobility, periodic, fell, started, out] = deeds;
-    let [given, plain, low, high, moved, anew] = waits;
-    let [empty, off, zero, below, above, bad, start, update, ended, power] = rest;
-    let [mobile, wifi, updating, marked, skipped, full, refused, open] = bars;
+    let Tally { cases, answers, causes, invalid, news, made, requests, written, deeds, waits, rest, bars, shapes, refusals, choices, imports, files } = tally;
     println!("fuzz: {cases} cases, {} events, {invalid} of them on an invalid record", answers.iter().sum::<u64>());
     println!("fuzz: {made} of {news} new records made, {written} of {requests} requests written");
     for (shape, [written, fitted, longest, lacked]) in ["no container", "a container"].iter().zip(shapes) {
         println!("fuzz: with {shape} {written} requests written, {fitted} of them into a buffer that just fits and {longest} at their longest, {lacked} refused for one octet");
     }
-    println!("fuzz: {mobility} mobility and {periodic} periodic updates taken, {fell} failed; T3512 started {started} times, out {out} times");
-    println!("fuzz: T3346 started {given} times as given, {plain} for kind 3's draw, {low} and {high} for one at its ends; {moved} times in an update, {anew} where it ran");
-    println!("fuzz: T3346 empty {empty} times, deactivated {off}, zero {zero}; its draw refused {below} times below its range, {above} above it; {bad} records invalid by it alone");
-    println!("fuzz: 20 for {start} starts and {update} updates; T3346 out {ended} times, stopped by {power} power cycles");
-    println!("fuzz: a protected 27 raised the other access's N1 counter {mobile} times from access 0 and {wifi} from access 1, {updating} of them in an update, {marked} under an N1 mark");
-    println!("fuzz: that side skipped {skipped} times, {full} of them with all sixteen entries held; a counter left there {refused} times by answer 4, {open} by a 27 without protection");
+    show_events(deeds, waits, rest, bars);
     show_cells(refusals, choices);
+    show_card(imports, files);
     println!("fuzz: answers 0 to 20 came {answers:?} times, a reject's cause and 269 to 274 {causes:?} times");
     let missing = (0..21).any(|answer| answers[answer] == 0 && !NEVER.contains(&(answer as u32)));
-    let unseen = [&causes[..], &deeds, &waits, &rest, &bars, shapes.as_flattened(), &refusals, &choices, &[invalid, made, news - made]].concat().contains(&0);
+    let unseen = [&causes[..], &deeds, &waits, &rest, &bars, shapes.as_flattened(), &refusals, &choices, &imports, &files, &[invalid, made, news - made]].concat().contains(&0);
     if seconds > 0 && (missing || unseen) {
-        fail("some answer, deed, shape of a request or choice of cells never came");
+        fail("some answer, deed, shape of a request, choice of cells, import or card's file never came");
     }
 }

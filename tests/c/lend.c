@@ -9,7 +9,7 @@
 #include <sys/mman.h>
 #include "tjernfaug.h"
 
-enum { FLUSH, NEW, EVENT, REQUEST, CAUSE, CELLS };
+enum { FLUSH, NEW, EVENT, REQUEST, CAUSE, CELLS, FORBIDDEN };
 enum { RECORD, NOTICE, FIRST, SECOND, ROOMS };
 enum { ROOM = 65536, GUARD = 64, MARK = 0x5A };
 
@@ -109,6 +109,7 @@ static uint32_t call(const struct head *h)
     case REQUEST: return tjernfaug_request(r, h->small[0], lent[FIRST], lens[FIRST]);
     case CAUSE: return reject_cause(lent[FIRST], lens[FIRST]);
     case CELLS: return cells(r, h->small[0]);
+    case FORBIDDEN: return tjernfaug_forbidden(r, lent[FIRST], lens[FIRST]);
     default: exit(2);
     }
 }
@@ -139,7 +140,7 @@ int main(void)
         octets += fields[i].len;
     setvbuf(stdin, NULL, _IOFBF, ROOM);
     setvbuf(stdout, NULL, _IOFBF, ROOM);
-    const uint32_t sizes[] = {octets, TJERNFAUG_LONGEST_REQUEST, TJERNFAUG_MOST_CELLS};
+    const uint32_t sizes[] = {octets, TJERNFAUG_LONGEST_REQUEST, TJERNFAUG_MOST_CELLS, TJERNFAUG_LONGEST_LIST};
     put(sizes, sizeof sizes);
     fflush(stdout);
     while (fread(&h, sizeof h, 1, stdin) == 1) {

@@ -1,6 +1,6 @@
 // The second program of docs/src on records as the C side sends them. It takes valid records only.
 use crate::record::{Access, Areas, Change, Entry, Limits, List, Listed, Record, Reply, INITIAL, RANGE, T3247, T3346, T3502, T3510, T3511, T3512};
-use crate::{cells, log, request};
+use crate::{card, cells, log, request};
 
 // The structs of include/tjernfaug.h without their gaps.
 #[repr(C, packed)]
@@ -99,7 +99,7 @@ pub unsafe trait Plain: Copy {
 unsafe impl Plain for CRecord {}
 unsafe impl Plain for CNotice {}
 
-fn triple(n: u32) -> [u8; 3] {
+pub fn triple(n: u32) -> [u8; 3] {
     let [_, a, b, c] = n.to_be_bytes();
     [a, b, c]
 }
@@ -321,6 +321,11 @@ pub fn write(r: &CRecord, access: u8, buffer: &mut [u8]) -> u32 {
 /// The permitted ones of the networks heard into the list: how many.
 pub fn permitted(r: &CRecord, access: u8, heard: &[u32], list: &mut [u32]) -> u32 {
     count(cells::permitted(&record_in(r), access, heard, list))
+}
+
+/// The card's file of forbidden networks: how many.
+pub fn forbidden(r: &CRecord, file: &mut [u8]) -> u32 {
+    count(card::write(&record_in(r), file))
 }
 
 /// Whether octets, read as a request, say what the record says over an access: with a key set it is the container's request that says it.

@@ -1,7 +1,7 @@
 // Whether document 01, with the fields of, takes the octets of a record as a valid one.
 use crate::second::{CAccess, CDevice, CEntries, CRecord};
 
-fn network(n: u32) -> bool {
+pub fn network(n: u32) -> bool {
     let digit = |at: u32| n >> at & 15;
     n >> 24 == 0 && (0..24).step_by(4).all(|at| digit(at) < 10 || (at == 12 && digit(at) == 15))
 }

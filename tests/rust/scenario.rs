@@ -18,14 +18,16 @@
 //   timer T3247|T3512
 //   power
 //   key ACCESS SET
-//   raw OCTETS            any other record: kind and body
+//   import [NETWORK|unused]..   the card's file of forbidden networks, place by place
+//   raw OCTETS                  any other record: kind and body
 //
 // DRAWS are `draw SECONDS`, that for T3247 alone (log kind 3), or `draws SECONDS SECONDS`, that for
 // T3346 behind it (log kind 8); left out they are `draw 1800`. `uplink` and `sessions` are the two
 // octets of 40 and of 50 as sent, session 0 the lowest bit of the first; left out they are 0000. An
 // accept's elements stand in the order of their words, which is free; a reject's words say one 5F
-// of one octet and no other element. Octets of `message` and `raw` may be split by spaces. A log
-// and its text hold the same: to-text and then to-log gives the log back, octet for octet.
+// of one octet and no other element. `unused` stands for FF FF FF; `import` alone is an empty file,
+// and one that ends within a place is `raw`. Octets of `message` and `raw` may be split by spaces. A
+// log and its text hold the same: to-text and then to-log gives the log back, octet for octet.
 //
 // Behind a message that is no accept and no reject, to-text adds a comment: the refusal's number,
 // the offset from 0 of the octet at fault, the fault in words, and the octets around that one. It
@@ -55,6 +57,9 @@ const HEARD: [u8; 2] = [3, 8];
 
 /// By their numbers in a log, from 2.
 const UPDATES: [&str; 2] = ["mobility", "periodic"];
+
+/// A place of the card's file without a network, and its word.
+const UNUSED: ([u8; 3], &str) = ([0xFF; 3], "unused");
 
 /// What is wrong with a message, by the refusals' numbers from 13.
 const FAULTS: [&str; 6] = [
@@ -256,6 +261,13 @@ fn timer(words: &mut Words) -> Parsed<Vec<u8>> {
     Ok(vec![4, 0, place as u8 + 1, access])
 }
 
+fn import(words: &mut Words) -> Parsed<Vec<u8>> {
+    let (octets, unused) = UNUSED;
+    let place = |word| if word == unused { Ok(octets.to_vec()) } else { network(word) };
+    let places: Parsed<Vec<_>> = words.0.drain(..).rev().map(place).collect();
+    Ok([vec![10, 0], places?.concat()].concat())
+}
+
 fn raw(words: &mut Words) -> Parsed<Vec<u8>> {
     let got = octets(&words.rest())?;
     if got.len() < 2 {
@@ -285,10 +297,11 @@ fn record(words: &mut Words) -> Parsed<Vec<u8>> {
             let access = words.access()?;
             Ok(vec![6, 0, access, number(words.next("the key set")?, "key set: 0 to 255")?])
         }
+        "import" => import(words),
         "raw" => raw(words),
         word => Err(format!(
             "`{word}` is no event: card, start, update, reject, accept, message, timer, power, \
-             key or raw"
+             key, import or raw"
         )),
     }
 }
@@ -421,6 +434,14 @@ fn update_text(access: u8, kind: u8, body: &[u8]) -> String {
     format!("update {access} {name} {network} area {code} uplink {uplink} sessions {sessions}")
 }
 
+/// The body is the card's file, of whole places.
+fn import_text(file: &[u8]) -> String {
+    let (octets, unused) = UNUSED;
+    let word = |place: &[u8]| if place == octets { unused.into() } else { network_text(place) };
+    let words: String = file.chunks(3).map(|place| format!(" {}", word(place))).collect();
+    format!("import{words}")
+}
+
 fn text_of(held: &[u8]) -> String {
     match held {
         [1, 0, h1, h2, h3, suci @ ..] if !suci.is_empty() => {
@@ -446,6 +467,7 @@ fn text_of(held: &[u8]) -> String {
         [7, 0, access, kind @ (2 | 3), body @ ..] if body.len() == 10 => {
             update_text(*access, *kind, body)
         }
+        [10, 0, file @ ..] if file.len() % 3 == 0 => import_text(file),
         _ => format!("raw {}", hex(held)),
     }
 }

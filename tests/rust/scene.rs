@@ -178,6 +178,7 @@ fn record(words: &[&str]) -> Vec<u8> {
         "timer" => vec![4, 0, number_of(words[1]), decimal(words[2]) as u8],
         "power" => vec![5, 0],
         "key" => vec![6, 0, decimal(words[1]) as u8, decimal(words[2]) as u8],
+        "import" => [vec![10, 0], hex(1)].concat(),
         "raw" | "cut" => hex(1),
         other => panic!("no event: {other}"),
     }

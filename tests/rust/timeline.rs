@@ -7,7 +7,7 @@
 // a message that cannot be read with the octet at fault in brackets; the state of access 0 and of
 // access 1 with the attempt counter; T3247; T3512 and whether a periodic update is due, if it ever
 // ran; T3346 of each access where it ever ran; and for each network that an access ever held an
-// entry of, its counters against their limits and its marks.
+// entry of, its counters against their limits and its marks. A ban with counter 0 is the card's own.
 
 use std::collections::BTreeMap;
 use std::fmt::Write as _;
@@ -68,6 +68,13 @@ struct Entry {
     ban: String,
     n1: String,
     marks: String,
+}
+
+impl Entry {
+    /// Each reject that forbids a network counts, so that with counter 0 an import did.
+    fn by_card(&self) -> bool {
+        self.ban == "0" && self.marks.starts_with('F')
+    }
 }
 
 /// What is drawn of one access after an event.
@@ -302,6 +309,9 @@ fn entry_lane(picture: &mut Picture, x: usize, which: usize, network: &str, step
         if entry.n1 != "0" {
             let _ = write!(text, " N1 {}/{}", entry.n1, step.limits[2]);
         }
+        if entry.by_card() {
+            text.push_str(" (card)");
+        }
         picture.text(x + 6, y + 17, "", &text);
     }
 }
@@ -339,12 +349,15 @@ fn events(picture: &mut Picture, labels: &[&str], steps: &[Step]) {
     }
 }
 
-/// T3346's colour is named where it has a lane.
-fn legend(picture: &mut Picture, y: usize, waits: bool) {
+/// T3346's colour is named where it has a lane, and the card's bans where there are some.
+fn legend(picture: &mut Picture, y: usize, waits: bool, card: bool) {
     let rows = "Counters stand against their limits. A row shows the record after its event; rows are events, not times.";
     let mut colours = String::from("Red: forbidden. Orange: N1 not allowed. Dark red: both. Grey: entry without a mark. Violet: T3247 runs. Teal: T3512 runs. Yellow: due.");
     if waits {
         colours.push_str(" Brown: T3346 runs.");
+    }
+    if card {
+        colours.push_str(" (card): the card's own ban, which T3247 does not lift.");
     }
     for (place, text) in [rows, &colours].iter().enumerate() {
         picture.text(6, y + 20 + place * 16, r##"font-size="11" fill="#333""##, text);
@@ -396,7 +409,8 @@ fn draw(labels: &[&str], steps: &[Step]) -> String {
         let _ = writeln!(picture.0, r##"<path d="M0 {y}H{width}" stroke="#dddddd"/>"##);
     }
     events(&mut picture, labels, steps);
-    legend(&mut picture, bottom, !waits.is_empty());
+    let card = steps.iter().any(|step| step.access[0].entries.values().any(Entry::by_card));
+    legend(&mut picture, bottom, !waits.is_empty(), card);
     picture.0.push_str("</svg>\n");
     picture.0
 }

@@ -2,14 +2,14 @@
 use Prim.Native.Nat.{ℕ, zero, suc, _+_, _<_, _≤_}
 use mathlib.Core.Path.{_≡_, refl, sym, ap, _∙_, subst}
 use mathlib.Core.Bool.{Bool, true, false, cond}
-use mathlib.Core.List.{List, [], _∷_, _++_, append-assoc}
+use mathlib.Core.List.{List, [], _∷_, _++_}
 use mathlib.Core.Logic.{⊎-elim}
 use native.Mathlib.Omega.{arith}
 use native.Mathlib.Nat.{eq-or-lt-of-le, le-of-suc-le-suc, le-antisymm}
 use native.Mathlib.Numerals.{add-one}
 use lib.ListN.{length, getD, drop, set, length-append, length-set}
-use lib.Seq.{drop-cons, set-append-seam}
 use Rattle.laws.specs.Upto.{over}
+use Rattle.laws.proofs.Lists.{stored}
 use Rattle.record.specs.Tests.{either}
 use Rattle.cells.specs.Cells.{someOf, among, marked, leftOut, permittedTo}
 
@@ -63,12 +63,6 @@ permitted-few heard count nets forbidden barred (suc n) =
       | true ↦ omega (arith, permitted-few heard count nets forbidden barred n)
       | false ↦ omega (arith, permitted-few heard count nets forbidden barred n, length-one-more (permittedTo heard count nets forbidden barred n) (getD heard n 0))
     ]
-
--- the store at the end of what is kept
-pub stored : (l o : List ℕ) (n x : ℕ) → n ≡ length l → n < length o → set (l ++ drop n o) n x ≡ (l ++ (x ∷ [])) ++ drop (n + 1) o
-stored l o n x e h =
-    ap (λ (r : List ℕ). set (l ++ r) n x) (drop-cons o n 0 h) ∙ ap (λ (m : ℕ). set (l ++ (getD o n 0 ∷ drop (suc n) o)) m x) e ∙ set-append-seam l (getD o n 0) (drop (suc n) o) x
-    ∙ sym (append-assoc l (x ∷ []) (drop (suc n) o)) ∙ ap (λ (m : ℕ). (l ++ (x ∷ [])) ++ drop m o) (sym (add-one n))
 
 -- what holds at each candidate: what is written so far is what is kept of the numbers before it
 abbrev pub State : List ℕ → ℕ → List ℕ → List ℕ → List ℕ → List ℕ → List ℕ → ℕ → ℕ → Type 0

@@ -1,13 +1,15 @@
 -- Answers: "Checks go 1, 5, 6, 7, 8, 9 for a start; 1, 6, 3, 10, 2, 4 for a message; 1, 11 for a timer; 1, 6 for a key set; 1 for a card or a power cycle";
 -- where a message had 3, it has "13 to 18 .. at 3's place" (document 02, R-1);
 -- and for an update (document 02, R-5) 1, 6, "the other checks as for a start not manual";
--- for both "20 .. while T3346 runs, after 6" (document 02, R-6).
+-- for both "20 .. while T3346 runs, after 6" (document 02, R-6); 1, 4 for an import (document 02, R-8).
 -- Each check passes on to the next; the last one is taken. The record itself is tested before. An event's `protected` is 1 or 0. Assumes nothing.
-use Prim.Native.Nat.{ℕ}
+use Prim.Native.Nat.{ℕ, _%_}
 use mathlib.Core.Bool.{Bool, cond}
 use mathlib.Core.List.{List}
 use lib.ListN.{length, getD}
 use lib.Dec.{ltb, leb, eqb}
+use Rattle.laws.specs.Upto.{every}
+use Rattle.networks.specs.Networks.{networksIn}
 use Rattle.record.specs.Tests.{both, either, flip, within, isFlag, isShort, isClear0}
 use Rattle.record.specs.Network.{isNetwork}
 use Rattle.record.specs.declared.Access.{Access}
@@ -135,3 +137,14 @@ unfoldable pub cardAnswer : ℕ → List ℕ → Answer
 cardAnswer home suci =
     check (both (isNetwork home) (both (within 9 64 (length suci)) (eqb (getD suci 0 0) 1))) answer.Range
     answer.Taken
+
+-- Import (document 02, R-8): "1 for a length not a multiple of three or a bad code"
+unfoldable pub importRange : List ℕ → Bool
+importRange file = both (eqb (length file % 3) 0) (every isNetwork (networksIn file))
+
+-- Import: 1, "4 if the distinct new networks exceed free entries": with them more than sixteen would be held; the place that was seen is how many
+unfoldable pub importAnswer : List ℕ → Seen → Answer
+importAnswer file s =
+    check (importRange file) answer.Range
+    (check (leb (s .at) 16) answer.Full
+    answer.Taken)

@@ -3,6 +3,8 @@ use entries::Seen;
 use messages::Reading;
 use messages::Reject;
 use messages::octet;
+use networks::is_unused;
+use networks::network_at;
 use record::Access;
 use record::Answer;
 use record::Hot;
@@ -22,6 +24,9 @@ use turns::row_of;
 use turns::runs_in;
 use turns::runs_on;
 ghost use mathlib.Core.Path.{_≡_};
+ghost use Rattle.laws.specs.Upto.{every};
+ghost use Rattle.networks.specs.Networks.{networksIn};
+ghost use Rattle.record.specs.Network.{isNetwork};
 ghost use Rattle.turns.specs.Rejects.{isIgnored};
 ghost use Rattle.checks.specs.Answers as rules;
 
@@ -237,4 +242,31 @@ pub fn card_answer(home: u32, suci: &[u8]) -> Answer
     let n = suci.len();
     let whole = and(and(9 <= n, n <= 64), octet(suci, 0) == 1);
     check(and(network(home), whole), Answer::Range, Answer::Taken)
+}
+
+// Each place of a file is unused or a network code.
+fn codes(file: &[u8]) -> bool
+    ensures { λ r. ⌜ r ≡ every isNetwork (networksIn (now (file .entry))) ⌝ }
+{
+    let mut i: usize = 0;
+    while 2 < file.len() - i {
+        let net = network_at(file, i);
+        i += 3;
+        if or(is_unused(net), network(net)) {
+            continue;
+        }
+        return false;
+    }
+    true
+}
+
+pub fn import_answer(file: &[u8], s: Seen) -> Answer
+    ensures { λ r. ⌜ r ≡ rules.importAnswer (now (file .entry)) s ⌝ }
+{
+    let range = and(file.len() % 3 == 0, codes(file));
+    check(
+        range,
+        Answer::Range,
+        check(s.at <= 16, Answer::Full, Answer::Taken),
+    )
 }

@@ -2,6 +2,7 @@
 use Prim.Native.Nat.{ℕ}
 use mathlib.Core.Bool.{Bool, false, cond}
 use lib.Dec.{eqb}
+use Rattle.record.specs.Setters.{withEntries}
 use Rattle.record.specs.Tests.{flip}
 use Rattle.record.specs.declared.Access.{Access}
 use Rattle.record.specs.declared.Device.{Device}
@@ -155,6 +156,22 @@ acceptEffect h w g s = record {
   t3247 = Leave;
   t3512 = acceptT3512 w (t3512Time g (h .dev));
   work = acceptWork (seatOf s (accessOf h w .net) 1) g;
+  restart = false;
+}
+
+-- on the arrays: the networks of the card's file
+abbrev pub importWork : Work
+importWork = record { mine = deed.Import; theirs = deed.Nothing; roaming = task.Nothing; regional = task.Nothing; keep = keep.Nothing }
+
+-- Import (document 02, R-8): "into access 0", which then has so many entries
+unfoldable pub importEffect : Hot → ℕ → Effect
+importEffect h entries = record {
+  dev = h .dev;
+  mine = still (withEntries entries (h .a0));
+  theirs = still (h .a1);
+  t3247 = Leave;
+  t3512 = Leave;
+  work = importWork;
   restart = false;
 }
 

@@ -9,6 +9,7 @@ use turns::Turn;
 
 mod accepts;
 mod clocks;
+mod imports;
 mod parts;
 mod rejects;
 mod starts;
@@ -17,6 +18,7 @@ pub use accepts::accept_effect;
 pub use clocks::card_effect;
 pub use clocks::power_effect;
 pub use clocks::timer_effect;
+pub use imports::import_effect;
 pub use parts::idle;
 pub use parts::plain;
 pub use parts::ticked;

@@ -1,2 +1,5 @@
 -- Laws of the entries.
+pub mod Counting
+pub mod Joining
 pub mod Laws
+pub mod Taking

@@ -1,11 +1,12 @@
 -- One access's entries and what becomes of them. Assumes nothing.
-use Prim.Native.Nat.{ℕ}
-use mathlib.Core.Bool.{Bool, cond}
-use mathlib.Core.List.{List}
+use Prim.Native.Nat.{ℕ, _+_}
+use mathlib.Core.Bool.{Bool, true, false, cond}
+use mathlib.Core.List.{List, [], _∷_}
 use lib.Dec.{ltb, eqb}
-use lib.ListN.{set, getD, replicate}
+use lib.ListN.{length, set, getD, replicate}
 use Rattle.laws.specs.Bounds.{atMost, oneMore}
 use Rattle.laws.specs.Upto.{upto, seekTo}
+use Rattle.networks.specs.Networks.{networksIn}
 use Rattle.entries.specs.declared.Entries.{Entries}
 use Rattle.entries.specs.declared.Seen.{Seen}
 use Rattle.entries.specs.declared.Seat.{Seat}
@@ -125,17 +126,50 @@ n1ToLimit net count limit t = record {
   barred = t .barred;
 }
 
+-- entries held after a network was written down that had one, or had none
+abbrev pub grown : Bool → ℕ → ℕ
+grown found count = cond found count (oneMore 16 count)
+
+-- document 02, R-8: "An imported network gets the forbidden mark with counter 0"; "If it has an entry, the mark is set and the counters stay."
+unfoldable pub imported : ℕ → ℕ → Entries → Entries
+imported net count t = record {
+  nets = putAt (t .nets) (placeIn count net (t .nets)) net;
+  bans = clearUnless (hasEntry count net (t .nets)) (t .bans) (placeIn count net (t .nets));
+  n1s = clearUnless (hasEntry count net (t .nets)) (t .n1s) (placeIn count net (t .nets));
+  forbidden = putAt (t .forbidden) (placeIn count net (t .nets)) 1;
+  barred = clearUnless (hasEntry count net (t .nets)) (t .barred) (placeIn count net (t .nets));
+}
+
+-- networks one after the other
+unfoldable pub importedAll : List ℕ → ℕ → Entries → Entries
+importedAll [] count t = t
+importedAll (net ∷ rest) count t = importedAll rest (grown (hasEntry count net (t .nets)) count) (imported net count t)
+
+-- "the distinct new networks": those that are not known, each once and in their order
+unfoldable pub newIn : (ℕ → Bool) → List ℕ → List ℕ
+newIn known [] = []
+newIn known (net ∷ rest) = cond (known net) (newIn known rest) (net ∷ newIn (λ m. cond (eqb net m) true (known m)) rest)
+
+-- the entries held once each network of a file has one: the first free place then; where they are more than sixteen, seventeen
+unfoldable pub heldWith : ℕ → List ℕ → List ℕ → ℕ
+heldWith count file nets = atMost 17 (entriesHeld count + length (newIn (λ m. hasEntry count m nets) (networksIn file)))
+
+-- what stands about a file: no entry, no mark, and the first free place once its networks have theirs
+unfoldable pub fileSeen : ℕ → List ℕ → List ℕ → Seen
+fileSeen count file nets = record { at = heldWith count file nets; found = false; forbidden = 0; barred = 0 }
+
 -- a new record's: zeros
 unfoldable pub none : Entries
 none = record { nets = replicate 16 0; bans = replicate 16 0; n1s = replicate 16 0; forbidden = replicate 16 0; barred = replicate 16 0 }
 
--- what a deed makes of the entries
-unfoldable pub entriesAfter : Deed → ℕ → ℕ → ℕ → Entries → Entries
-entriesAfter deed.Nothing count banlimit n1limit t = t
-entriesAfter (deed.Ban s) count banlimit n1limit t = banned s banlimit t
-entriesAfter (deed.Bar s) count banlimit n1limit t = barredBy s n1limit t
-entriesAfter (deed.Accept s) count banlimit n1limit t = unforbidden s t
-entriesAfter (deed.ToLimit net) count banlimit n1limit t = n1ToLimit net count n1limit t
-entriesAfter deed.Sweep count banlimit n1limit t = swept count banlimit n1limit t
-entriesAfter deed.Power count banlimit n1limit t = powered count banlimit t
-entriesAfter deed.Fresh count banlimit n1limit t = none
+-- what a deed makes of the entries; the octets are those beside the event, which an import takes
+unfoldable pub entriesAfter : Deed → List ℕ → ℕ → ℕ → ℕ → Entries → Entries
+entriesAfter deed.Nothing octets count banlimit n1limit t = t
+entriesAfter (deed.Ban s) octets count banlimit n1limit t = banned s banlimit t
+entriesAfter (deed.Bar s) octets count banlimit n1limit t = barredBy s n1limit t
+entriesAfter (deed.Accept s) octets count banlimit n1limit t = unforbidden s t
+entriesAfter (deed.ToLimit net) octets count banlimit n1limit t = n1ToLimit net count n1limit t
+entriesAfter deed.Import octets count banlimit n1limit t = importedAll (networksIn octets) count t
+entriesAfter deed.Sweep octets count banlimit n1limit t = swept count banlimit n1limit t
+entriesAfter deed.Power octets count banlimit n1limit t = powered count banlimit t
+entriesAfter deed.Fresh octets count banlimit n1limit t = none

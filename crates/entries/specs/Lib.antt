@@ -1,2 +1,3 @@
 -- One access's entries.
 pub mod Entries
+pub mod Counting

@@ -7,6 +7,12 @@ ghost use Rattle.laws.specs.Bounds.{oneMore};
 ghost use Rattle.laws.specs.Upto.{upto, seekTo};
 ghost use Rattle.entries.specs.Entries.{sameNet, entriesHeld, placeIn, hasEntry, liftMark, bumped, putAt, raised, peekAt, seenIn, entriesOf, banned, none, entriesAfter};
 
+mod import;
+
+pub use import::grow;
+pub use import::held_with;
+use import::take_in;
+
 // Dense from 0 to a count that the access keeps; behind it nothing is looked at.
 #[repr(C)]
 pub struct Entries {
@@ -17,7 +23,8 @@ pub struct Entries {
     pub barred: [u8; 16],
 }
 
-// What stands in the entries about one network: its place, or the first free one, and its marks.
+// What stands in the entries about one network: its place, or the first free one, and its marks. About a file of networks: the first free place once they
+// have theirs.
 pub struct Seen {
     pub at: usize,
     pub found: bool,
@@ -34,13 +41,14 @@ pub struct Seat {
 }
 
 // What an event does to an access's entries: a reject that bans the network, one that bars it from N1, an accept, a protected 27
-// over the other access, T3247 out, a power cycle, a card change.
+// over the other access, an import, T3247 out, a power cycle, a card change.
 pub enum Deed {
     Nothing,
     Ban(Seat),
     Bar(Seat),
     Accept(Seat),
     ToLimit(u32),
+    Import,
     Sweep,
     Power,
     Fresh,
@@ -54,7 +62,7 @@ pub fn size(count: u8) -> usize
     if count < 16 { count as usize } else { 16 }
 }
 
-fn find(nets: &[u32; 16], n: usize, net: u32) -> usize
+pub(crate) fn find(nets: &[u32; 16], n: usize, net: u32) -> usize
     requires { ⌜ n ≤ 16 ⌝ }
     ensures { λ r. ⌜ r ≡ seekTo (sameNet net) n (now (nets .entry)) ⌝ }
 {
@@ -137,7 +145,7 @@ fn bump(n: u8, limit: u8, protected: u8) -> u8
 }
 
 // Sixteen is the place in a full table: nothing is stored there.
-fn put_net(xs: &mut [u32; 16], at: usize, v: u32)
+pub(crate) fn put_net(xs: &mut [u32; 16], at: usize, v: u32)
     ensures { λ r. ⌜ now (xs .exit) ≡ putAt (now (xs .entry)) at v ⌝ }
 {
     if at < 16 {
@@ -145,7 +153,7 @@ fn put_net(xs: &mut [u32; 16], at: usize, v: u32)
     }
 }
 
-fn put(xs: &mut [u8; 16], at: usize, v: u8)
+pub(crate) fn put(xs: &mut [u8; 16], at: usize, v: u8)
     ensures { λ r. ⌜ now (xs .exit) ≡ putAt (now (xs .entry)) at v ⌝ }
 {
     if at < 16 {
@@ -153,7 +161,7 @@ fn put(xs: &mut [u8; 16], at: usize, v: u8)
     }
 }
 
-fn put_when(when: bool, xs: &mut [u8; 16], at: usize, v: u8)
+pub(crate) fn put_when(when: bool, xs: &mut [u8; 16], at: usize, v: u8)
     ensures { λ r. ⌜ now (xs .exit) ≡ cond when (putAt (now (xs .entry)) at v) (now (xs .entry)) ⌝ }
 {
     if when {
@@ -248,9 +256,10 @@ fn wipe(
     *barred = [0u8; 16];
 }
 
-// Barring is striking with the columns changed about.
+// Barring is striking with the columns changed about. The octets are those beside the event.
 pub fn tend(
     k: Deed,
+    octets: &[u8],
     count: u8,
     banlimit: u8,
     n1limit: u8,
@@ -260,7 +269,7 @@ pub fn tend(
     forbidden: &mut [u8; 16],
     barred: &mut [u8; 16],
 )
-    ensures { λ r. ⌜ entriesOf (now (nets .exit)) (now (bans .exit)) (now (n1s .exit)) (now (forbidden .exit)) (now (barred .exit)) ≡ entriesAfter k count banlimit n1limit (entriesOf (now (nets .entry)) (now (bans .entry)) (now (n1s .entry)) (now (forbidden .entry)) (now (barred .entry))) ⌝ }
+    ensures { λ r. ⌜ entriesOf (now (nets .exit)) (now (bans .exit)) (now (n1s .exit)) (now (forbidden .exit)) (now (barred .exit)) ≡ entriesAfter k (now (octets .entry)) count banlimit n1limit (entriesOf (now (nets .entry)) (now (bans .entry)) (now (n1s .entry)) (now (forbidden .entry)) (now (barred .entry))) ⌝ }
 {
     match k {
         Deed::Nothing => {}
@@ -268,6 +277,7 @@ pub fn tend(
         Deed::Bar(s) => strike(s, n1limit, nets, n1s, bans, barred, forbidden),
         Deed::Accept(s) => put_when(s.found, forbidden, s.at, 0),
         Deed::ToLimit(net) => to_limit(count, net, n1limit, nets, n1s),
+        Deed::Import => take_in(octets, count, nets, bans, n1s, forbidden, barred),
         Deed::Sweep => sweep_both(count, banlimit, n1limit, bans, n1s, forbidden, barred),
         Deed::Power => cycle(count, banlimit, bans, forbidden, barred),
         Deed::Fresh => wipe(nets, bans, n1s, forbidden, barred),

@@ -5,7 +5,7 @@ use mathlib.Core.List.{List}
 use native.Mathlib.Omega.{arith}
 use lib.ListN.{getD, drop}
 use lib.Seq.{getD-drop}
-use Rattle.record.specs.Network.{networkOf}
+use Rattle.networks.specs.Networks.{networkOf}
 use Rattle.events.specs.Parts.{networksOf}
 
 pub network-at : (n i : ℕ) (s : List ℕ) → i < n → getD (networksOf n s) i 0 ≡ networkOf (getD s (i * 3) 0) (getD s (i * 3 + 1) 0) (getD s (i * 3 + 2) 0)

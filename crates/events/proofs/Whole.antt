@@ -21,14 +21,14 @@ use Rattle.events.specs.Step.{together, keptIn, joinedOf, advanceOf}
 
 pub core-law : (h : Hot) (e : Event) (octets : List ℕ) (q : Ask) (i : Site) (s : Seen) (l : Bool) (p : Plan) (d d′ : Deed) (x y x' y' : Entries) (a b a' b' : List ℕ) (m n : ℕ) (g : Hot)
     → q ≡ askOf h e
-    → s ≡ seenBy q h (x .nets) (x .forbidden) (x .barred) (y .nets) (y .forbidden) (y .barred)
+    → s ≡ seenBy q octets h (x .nets) (x .forbidden) (x .barred) (y .nets) (y .forbidden) (y .barred)
     → i ≡ siteOf e
     → l ≡ listedOf i h a b
     → p ≡ planOf h e s l octets
     → d ≡ deedOn (p .access) (p .work .mine) (p .work .theirs) 0
     → d′ ≡ deedOn (p .access) (p .work .mine) (p .work .theirs) 1
-    → x' ≡ entriesAfter d (h .a0 .entries) (h .dev .banlimit) (h .dev .n1limit) x
-    → y' ≡ entriesAfter d′ (h .a1 .entries) (h .dev .banlimit) (h .dev .n1limit) y
+    → x' ≡ entriesAfter d octets (h .a0 .entries) (h .dev .banlimit) (h .dev .n1limit) x
+    → y' ≡ entriesAfter d′ octets (h .a1 .entries) (h .dev .banlimit) (h .dev .n1limit) y
     → a' ≡ listAfter (p .work .roaming) (h .dev .roaming) a
     → m ≡ countAfter (p .work .roaming) (h .dev .roaming) a
     → b' ≡ listAfter (p .work .regional) (h .dev .regional) b

@@ -7,12 +7,12 @@ use lib.Dec.{eqb}
 use Rattle.laws.specs.Bounds.{atMost}
 use Rattle.laws.specs.Upto.{copied}
 use Rattle.record.specs.Tests.{both, either}
-use Rattle.record.specs.Network.{networkOf}
+use Rattle.networks.specs.Networks.{networkOf}
 use Rattle.record.specs.New.{zeros}
 use Rattle.record.specs.declared.Hot.{Hot}
 use Rattle.entries.specs.declared.Entries.{Entries}
 use Rattle.entries.specs.declared.Seen.{Seen}
-use Rattle.entries.specs.Entries.{seenIn, entriesAfter}
+use Rattle.entries.specs.Entries.{seenIn, fileSeen, entriesAfter}
 use Rattle.areas.specs.Areas.{areaOf, listedIn, listAfter, countAfter}
 use Rattle.rules.specs.declared.Event.{Event}
 use Rattle.rules.specs.declared.Ask.{Ask}
@@ -34,12 +34,14 @@ unfoldable pub sightOf : ℕ → ℕ → Hot → List ℕ → List ℕ → List 
 sightOf w net h nets0 forbidden0 barred0 nets1 forbidden1 barred1 =
     cond (eqb w 0) (seenIn (h .a0 .entries) net nets0 forbidden0 barred0) (seenIn (h .a1 .entries) net nets1 forbidden1 barred1)
 
-unfoldable pub seenBy : Ask → Hot → List ℕ → List ℕ → List ℕ → List ℕ → List ℕ → List ℕ → Seen
-seenBy ask.Nothing h nets0 forbidden0 barred0 nets1 forbidden1 barred1 = unseen
-seenBy (ask.Network w net) h nets0 forbidden0 barred0 nets1 forbidden1 barred1 = sightOf w net h nets0 forbidden0 barred0 nets1 forbidden1 barred1
+-- the octets are those beside the event, an import's file
+unfoldable pub seenBy : Ask → List ℕ → Hot → List ℕ → List ℕ → List ℕ → List ℕ → List ℕ → List ℕ → Seen
+seenBy ask.Nothing octets h nets0 forbidden0 barred0 nets1 forbidden1 barred1 = unseen
+seenBy (ask.Network w net) octets h nets0 forbidden0 barred0 nets1 forbidden1 barred1 = sightOf w net h nets0 forbidden0 barred0 nets1 forbidden1 barred1
+seenBy ask.File octets h nets0 forbidden0 barred0 nets1 forbidden1 barred1 = fileSeen (h .a0 .entries) octets nets0
 
-unfoldable pub seenOf : Ask → Hot → Entries → Entries → Seen
-seenOf q h e0 e1 = seenBy q h (e0 .nets) (e0 .forbidden) (e0 .barred) (e1 .nets) (e1 .forbidden) (e1 .barred)
+unfoldable pub seenOf : Ask → List ℕ → Hot → Entries → Entries → Seen
+seenOf q octets h e0 e1 = seenBy q octets h (e0 .nets) (e0 .forbidden) (e0 .barred) (e1 .nets) (e1 .forbidden) (e1 .barred)
 
 -- whether an area stands in one of the two lists
 unfoldable pub listedOf : Site → Hot → List ℕ → List ℕ → Bool
@@ -48,10 +50,10 @@ listedOf (site.Area net code) h roaming regional = either (listedIn (areaOf net 
 
 -- what is planned, once that is known
 unfoldable pub plannedOf : Hot → Event → List ℕ → Entries → Entries → List ℕ → List ℕ → Plan
-plannedOf h e octets e0 e1 roaming regional = planOf h e (seenOf (askOf h e) h e0 e1) (listedOf (siteOf e) h roaming regional) octets
+plannedOf h e octets e0 e1 roaming regional = planOf h e (seenOf (askOf h e) octets h e0 e1) (listedOf (siteOf e) h roaming regional) octets
 
-unfoldable pub tableAfter : Plan → ℕ → ℕ → Hot → Entries → Entries
-tableAfter p me count h t = entriesAfter (deedOf p me) count (h .dev .banlimit) (h .dev .n1limit) t
+unfoldable pub tableAfter : Plan → List ℕ → ℕ → ℕ → Hot → Entries → Entries
+tableAfter p octets me count h t = entriesAfter (deedOf p me) octets count (h .dev .banlimit) (h .dev .n1limit) t
 
 -- the numbers with the area lists' counts
 unfoldable pub withCounts : ℕ → ℕ → Hot → Hot
@@ -93,17 +95,17 @@ pub record Parts : Type 0 where
 abbrev pub partsOf : Done → Entries → Entries → List ℕ → List ℕ → Parts
 partsOf d e0 e1 roaming regional = record { done = d; e0 = e0; e1 = e1; roaming = roaming; regional = regional }
 
-unfoldable pub carriedOut : Plan → Hot → Entries → Entries → List ℕ → List ℕ → Parts
-carriedOut p h e0 e1 roaming regional =
+unfoldable pub carriedOut : Plan → List ℕ → Hot → Entries → Entries → List ℕ → List ℕ → Parts
+carriedOut p octets h e0 e1 roaming regional =
     partsOf
     (doneOf p h roaming regional)
-    (tableAfter p 0 (h .a0 .entries) h e0)
-    (tableAfter p 1 (h .a1 .entries) h e1)
+    (tableAfter p octets 0 (h .a0 .entries) h e0)
+    (tableAfter p octets 1 (h .a1 .entries) h e1)
     (listAfter (p .work .roaming) (h .dev .roaming) roaming)
     (listAfter (p .work .regional) (h .dev .regional) regional)
 
 unfoldable pub partsAfter : Hot → Event → List ℕ → Entries → Entries → List ℕ → List ℕ → Parts
-partsAfter h e octets e0 e1 roaming regional = carriedOut (plannedOf h e octets e0 e1 roaming regional) h e0 e1 roaming regional
+partsAfter h e octets e0 e1 roaming regional = carriedOut (plannedOf h e octets e0 e1 roaming regional) octets h e0 e1 roaming regional
 
 -- three octets each: the first n networks
 unfoldable pub networksOf : ℕ → List ℕ → List ℕ

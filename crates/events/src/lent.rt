@@ -6,7 +6,7 @@ use rules::Ask;
 use rules::Event;
 use rules::Site;
 ghost use mathlib.Core.Path.{_≡_};
-ghost use Rattle.entries.specs.Entries.{entriesOf};
+ghost use Rattle.entries.specs.Entries.{fileSeen, entriesOf};
 ghost use Rattle.events.specs.Parts as parts;
 ghost use Rattle.events.specs.Parts.{sightOf, seenBy, listedOf, withCounts, partsOf, partsAfter};
 
@@ -41,8 +41,21 @@ fn unseen() -> Seen
     }
 }
 
+// Of an import the file is gone over.
+fn filed(file: &[u8], h: Hot, nets0: &[u32; 16]) -> Seen
+    ensures { λ r. ⌜ r ≡ fileSeen (h .a0 .entries) (now (file .entry)) (now (nets0 .entry)) ⌝ }
+{
+    Seen {
+        at: entries::held_with(h.a0.entries, file, nets0),
+        found: false,
+        forbidden: 0,
+        barred: 0,
+    }
+}
+
 fn see(
     q: Ask,
+    octets: &[u8],
     h: Hot,
     nets0: &[u32; 16],
     forbidden0: &[u8; 16],
@@ -51,7 +64,7 @@ fn see(
     forbidden1: &[u8; 16],
     barred1: &[u8; 16],
 ) -> Seen
-    ensures { λ r. ⌜ r ≡ seenBy q h (now (nets0 .entry)) (now (forbidden0 .entry)) (now (barred0 .entry)) (now (nets1 .entry)) (now (forbidden1 .entry)) (now (barred1 .entry)) ⌝ }
+    ensures { λ r. ⌜ r ≡ seenBy q (now (octets .entry)) h (now (nets0 .entry)) (now (forbidden0 .entry)) (now (barred0 .entry)) (now (nets1 .entry)) (now (forbidden1 .entry)) (now (barred1 .entry)) ⌝ }
 {
     match q {
         Ask::Nothing => unseen(),
@@ -66,6 +79,7 @@ fn see(
             forbidden1,
             barred1,
         ),
+        Ask::File => filed(octets, h, nets0),
     }
 }
 
@@ -114,7 +128,17 @@ pub fn core(
     ensures { λ r. ⌜ partsOf r (entriesOf (now (nets0 .exit)) (now (bans0 .exit)) (now (n1s0 .exit)) (now (forbidden0 .exit)) (now (barred0 .exit))) (entriesOf (now (nets1 .exit)) (now (bans1 .exit)) (now (n1s1 .exit)) (now (forbidden1 .exit)) (now (barred1 .exit))) (now (roaming .exit)) (now (regional .exit)) ≡ partsAfter h e (now (octets .entry)) (entriesOf (now (nets0 .entry)) (now (bans0 .entry)) (now (n1s0 .entry)) (now (forbidden0 .entry)) (now (barred0 .entry))) (entriesOf (now (nets1 .entry)) (now (bans1 .entry)) (now (n1s1 .entry)) (now (forbidden1 .entry)) (now (barred1 .entry))) (now (roaming .entry)) (now (regional .entry)) ⌝ }
 {
     let q = rules::ask_of(h, e);
-    let s = see(q, h, nets0, forbidden0, barred0, nets1, forbidden1, barred1);
+    let s = see(
+        q,
+        octets,
+        h,
+        nets0,
+        forbidden0,
+        barred0,
+        nets1,
+        forbidden1,
+        barred1,
+    );
     let l = listing(rules::site_of(e), h, roaming, regional);
     let p = rules::plan_of(h, e, s, l, octets);
     let work = p.work;
@@ -124,6 +148,7 @@ pub fn core(
     let d1 = rules::deed_on(p.access, mine, theirs, 1);
     entries::tend(
         d0,
+        octets,
         h.a0.entries,
         h.dev.banlimit,
         h.dev.n1limit,
@@ -135,6 +160,7 @@ pub fn core(
     );
     entries::tend(
         d1,
+        octets,
         h.a1.entries,
         h.dev.banlimit,
         h.dev.n1limit,

@@ -1,4 +1,4 @@
--- What the calls of C come to: a new record, an event as the event log has it, a request, and the networks permitted. Assumes nothing.
+-- What the calls of C come to: a new record, an event as the event log has it, a request, the networks permitted, and the card's file. Assumes nothing.
 use Prim.Native.Nat.{ℕ, _+_}
 use mathlib.Core.Bool.{cond}
 use mathlib.Core.List.{List}
@@ -14,6 +14,8 @@ use Rattle.request.specs.declared.Written.{Written}
 use Rattle.request.specs.Writing.{writtenOf}
 use Rattle.cells.specs.declared.Chosen.{Chosen}
 use Rattle.cells.specs.Cells.{choiceOf}
+use Rattle.usim.specs.declared.Listed.{Listed}
+use Rattle.usim.specs.Usim.{listedOf}
 use Rattle.firmware.specs.declared.Opened.{Opened}
 use Rattle.firmware.specs.declared.Taken.{Taken}
 use Rattle.firmware.specs.Notice.{noticeOf}
@@ -51,3 +53,11 @@ pickedBy c = numberOr (c .answer) (c .count)
 -- of those heard over an access, into a list of n places
 unfoldable pub pickedOf : Record → ℕ → List ℕ → ℕ → ℕ
 pickedOf r access heard n = pickedBy (choiceOf r access heard n)
+
+-- how many networks are forbidden
+unfoldable pub filedBy : Listed → ℕ
+filedBy l = numberOr (l .answer) (l .count)
+
+-- over access 0, into a file of n octets
+unfoldable pub filedOf : Record → ℕ → ℕ
+filedOf r n = filedBy (listedOf r n)

@@ -11,7 +11,8 @@ ghost use Prim.Native.Nat.{_≤_};
 ghost use lib.ListN.{length};
 ghost use Rattle.request.specs.Writing.{bufferOf};
 ghost use Rattle.cells.specs.Cells.{listOf};
-ghost use Rattle.firmware.specs.Calls.{newOf, heardAs, numberOr, wroteOf, pickedOf};
+ghost use Rattle.usim.specs.Usim.{fileAfter};
+ghost use Rattle.firmware.specs.Calls.{newOf, heardAs, numberOr, wroteOf, pickedOf, filedOf};
 
 // A refusal keeps the record that was there.
 fn chosen(good: bool, made: Record, r: Record) -> Record
@@ -89,6 +90,14 @@ fn picked(r: Record, access: u8, heard: &[u32], permitted: &mut [u32]) -> u32
     counted(a, c.count)
 }
 
+fn filed(r: Record, file: &mut [u8]) -> u32
+    ensures { λ a. ⌜ (a ≡ filedOf r (length (now (file .entry)))) × (now (file .exit) ≡ fileAfter r (now (file .entry))) ⌝ }
+{
+    let l = usim::write(r, file);
+    let a = l.answer;
+    counted(a, l.count)
+}
+
 // A new record; a refusal leaves the one that was there.
 #[no_mangle]
 pub extern "C" fn tjernfaug_new(
@@ -141,4 +150,12 @@ pub extern "C" fn tjernfaug_cells(
     ensures { λ a. ⌜ (a ≡ pickedOf (now (r .entry)) access (now (heard .entry)) (length (now (permitted .entry)))) × (now (permitted .exit) ≡ listOf (now (r .entry)) access (now (heard .entry)) (now (permitted .entry))) ⌝ }
 {
     picked(*r, access, heard, permitted)
+}
+
+// The card's file of forbidden networks, those of access 0, and FF behind them.
+#[no_mangle]
+pub extern "C" fn tjernfaug_forbidden(r: &Record, file: &mut [u8]) -> u32
+    ensures { λ a. ⌜ (a ≡ filedOf (now (r .entry)) (length (now (file .entry)))) × (now (file .exit) ≡ fileAfter (now (r .entry)) (now (file .entry))) ⌝ }
+{
+    filed(*r, file)
 }

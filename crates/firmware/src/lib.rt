@@ -7,6 +7,7 @@ mod told;
 
 pub use calls::tjernfaug_cells;
 pub use calls::tjernfaug_event;
+pub use calls::tjernfaug_forbidden;
 pub use calls::tjernfaug_new;
 pub use calls::tjernfaug_request;
 pub use lent::handle;

@@ -29,9 +29,9 @@ use Rattle.turns.specs.Words.{acrossOf}
 use Rattle.turns.specs.Turns.{still, otherTurned, otherTurn}
 use Rattle.effects.specs.declared.Keep.{Keep}
 use Rattle.effects.specs.declared.Keep.the-variants as keep
-use Rattle.effects.specs.Effects.{Effect, startEffect, updateEffect, keyEffect, acceptEffect, clockEffect, t3512Effect, deviceEffect, timerEffect, rowWork, rejectEffect}
+use Rattle.effects.specs.Effects.{Effect, startEffect, updateEffect, keyEffect, acceptEffect, clockEffect, t3512Effect, deviceEffect, timerEffect, rowWork, rejectEffect, importEffect}
 use Rattle.rules.specs.declared.Event.{Event}
-use Rattle.rules.specs.declared.Event.the-variants.{Card, Start, Message, Timer, Power, Key, Update, Unknown}
+use Rattle.rules.specs.declared.Event.the-variants.{Card, Start, Message, Timer, Power, Key, Update, Import, Unknown}
 use Rattle.record.specs.Sides.{accessOf, otherOf}
 use Rattle.checks.specs.Answers.{rowNow}
 use Rattle.rules.specs.Plan.{accessIn, messageEffect, effectOf, refusedReply, takenPlan}
@@ -175,7 +175,7 @@ module _ (r : Record) where
       go false q′ = rw (q, q′) (record { theirs = refl; deed = refl; kept = tt })
 
   event-own : (e : Event) (s : Seen) (octets : List ℕ) → isOwn e ≡ true → Own (accessIn e) (crosses e (readingOf octets)) (effectOf (r .hot) e s octets)
-  unfolding isOwn crosses accessIn effectOf startEffect updateEffect keyEffect
+  unfolding isOwn crosses accessIn effectOf startEffect updateEffect keyEffect importEffect otherOf
   event-own (Card home) s octets o = absurd (false≢true o)
   event-own (Start b manual net code) s octets o = record { theirs = refl; deed = refl; kept = tt }
   event-own (Message b protected draws) s octets o = message-own b protected draws (readingOf octets) s
@@ -183,6 +183,7 @@ module _ (r : Record) where
   event-own Power s octets o = absurd (false≢true o)
   event-own (Key b set) s octets o = record { theirs = refl; deed = refl; kept = tt }
   event-own (Update b regtype net code uplink sessions) s octets o = record { theirs = refl; deed = refl; kept = tt }
+  event-own Import s octets o = record { theirs = refl; deed = refl; kept = tt }
   event-own Unknown s octets o = absurd (false≢true o)
 
   module _ (e : Event) (octets : List ℕ) (w : ℕ) (hw : w < 2) (q : eqb (accessIn e) w ≡ false) where
@@ -198,7 +199,7 @@ module _ (r : Record) where
 
     module _ (o : isOwn e ≡ true) (t : isTaken (answeredBy r e octets) ≡ true) where
       effect-own : Own (accessIn e) crossed (effectIn r e octets)
-      effect-own = event-own e (seenAt r e) octets o
+      effect-own = event-own e (seenAt r e octets) octets o
 
       numbers-after : accessOf (next r e octets .hot) w ≡ numbersBy crossed limit (accessOf (r .hot) w)
       numbers-after =
@@ -208,7 +209,7 @@ module _ (r : Record) where
           ∙ still-is (numbersBy crossed limit (otherOf (r .hot) (accessIn e)))
           ∙ ap (λ (a : Access). numbersBy crossed limit a) (other-of (r .hot) (accessIn e) w (small r e octets t) hw q)
 
-      entries-after : entriesIn (next r e octets) w ≡ entriesAfter (deedBy crossed net) (accessOf (r .hot) w .entries) (r .hot .dev .banlimit) n1limit (entriesIn r w)
+      entries-after : entriesIn (next r e octets) w ≡ entriesAfter (deedBy crossed net) octets (accessOf (r .hot) w .entries) (r .hot .dev .banlimit) n1limit (entriesIn r w)
       entries-after = taken-entries r e octets t w hw ∙ rw (q, effect-own .deed)
 
       guti-same : cond (eqb w 0) (next r e octets .guti0) (next r e octets .guti1) ≡ cond (eqb w 0) (r .guti0) (r .guti1)
@@ -225,7 +226,7 @@ module _ (r : Record) where
 
       half-after : (c : Reach) → halfAfter c limit n1limit net (halfOf r w) ≡ record {
         numbers = numbersBy c limit (accessOf (r .hot) w);
-        entries = entriesAfter (deedBy c net) (accessOf (r .hot) w .entries) (r .hot .dev .banlimit) n1limit (entriesIn r w);
+        entries = entriesAfter (deedBy c net) octets (accessOf (r .hot) w .entries) (r .hot .dev .banlimit) n1limit (entriesIn r w);
         guti = cond (eqb w 0) (r .guti0) (r .guti1);
         equivalents = cond (eqb w 0) (r .equivalents0) (r .equivalents1);
       }

@@ -10,15 +10,16 @@ use Rattle.entries.specs.declared.Entries.{Entries}
 use Rattle.entries.specs.declared.Seat.{Seat}
 use Rattle.entries.specs.declared.Deed.{Deed}
 use Rattle.entries.specs.declared.Deed.the-variants as deed
-use Rattle.entries.specs.Entries.{entriesHeld, placeIn, hasEntry, peekAt, liftMark, bumped, putAt, raised, unforbidden, n1ToLimit, swept, powered, none}
+use Rattle.networks.specs.Networks.{networksIn}
+use Rattle.entries.specs.Entries.{entriesHeld, placeIn, hasEntry, peekAt, liftMark, bumped, putAt, raised, unforbidden, n1ToLimit, swept, powered, none, grown, heldWith}
 use Rattle.entries.specs.Entries as entries
 use Rattle.validity.specs.Sized.{Columns}
-use Rattle.validity.proofs.Setters.{grown}
 use Rattle.validity.proofs.Own.{seatIn}
 use Rattle.history.specs.Cell.{columnIn, cellIn}
 use Rattle.history.specs.History.{Cell, Limits, News, isPut, puts}
-use Rattle.history.proofs.Said.{raise, cell, blank, countAfter, markAfter, cellAfter, banned, barred, reached, ended, quiet}
+use Rattle.history.proofs.Said.{raise, cell, blank, countAfter, markAfter, cellAfter, banned, barred, reached, ended, quiet, imported}
 use Rattle.history.proofs.Said as history
+use Rattle.history.proofs.Files.{isAmong, filed-cell, filed-held}
 use Rattle.history.proofs.Columns.{room, touched, spared, held-after, column-if, column-zero, column-upto, missed}
 
 -- protected or not: the two ways to say it
@@ -138,16 +139,17 @@ module _ (l : Limits) (count net protected : ℕ) (t : Entries) (w : Columns t) 
       go true q = rw q (cells refl refl (rw q at unmark) refl)
       go false q = rw q (cells refl refl (rw q at unmark) refl)
 
--- how many entries there are after a deed
-abbrev pub countBy : Deed → ℕ → ℕ
-countBy deed.Nothing count = count
-countBy (deed.Ban s) count = grown (s .found) count
-countBy (deed.Bar s) count = grown (s .found) count
-countBy (deed.Accept s) count = count
-countBy (deed.ToLimit net) count = count
-countBy deed.Sweep count = count
-countBy deed.Power count = count
-countBy deed.Fresh count = 0
+-- how many entries there are after a deed; filed is how many with an import's
+abbrev pub countBy : Deed → ℕ → ℕ → ℕ
+countBy deed.Nothing filed count = count
+countBy (deed.Ban s) filed count = grown (s .found) count
+countBy (deed.Bar s) filed count = grown (s .found) count
+countBy (deed.Accept s) filed count = count
+countBy (deed.ToLimit net) filed count = count
+countBy deed.Import filed count = filed
+countBy deed.Sweep filed count = count
+countBy deed.Power filed count = count
+countBy deed.Fresh filed count = 0
 
 -- a seat is its network's in these entries, and there is one
 abbrev pub Seated : Seat → ℕ → List ℕ → Type 0
@@ -156,40 +158,43 @@ Seated s count nets = s ≡ seatIn count (s .net) (s .protected) nets
 abbrev pub Free : Seat → ℕ → List ℕ → Type 0
 Free s count nets = hasEntry count (s .net) nets ≡ false → leb 16 count ≡ false
 
--- a deed of another event than a card change, at its network's seat
-abbrev pub Fits : Deed → ℕ → List ℕ → Type 0
-Fits deed.Nothing count nets = Unit {0}
-Fits (deed.Ban s) count nets = Seated s count nets × Free s count nets
-Fits (deed.Bar s) count nets = Seated s count nets × Free s count nets
-Fits (deed.Accept s) count nets = Seated s count nets
-Fits (deed.ToLimit net) count nets = Unit {0}
-Fits deed.Sweep count nets = Unit {0}
-Fits deed.Power count nets = Unit {0}
-Fits deed.Fresh count nets = ⊥
+-- a deed of another event than a card change, at its network's seat; an import's networks have room
+abbrev pub Fits : Deed → ℕ → List ℕ → ℕ → List ℕ → Type 0
+Fits deed.Nothing filed octets count nets = Unit {0}
+Fits (deed.Ban s) filed octets count nets = Seated s count nets × Free s count nets
+Fits (deed.Bar s) filed octets count nets = Seated s count nets × Free s count nets
+Fits (deed.Accept s) filed octets count nets = Seated s count nets
+Fits (deed.ToLimit net) filed octets count nets = Unit {0}
+Fits deed.Import filed octets count nets = (filed ≡ heldWith count octets nets) × (leb count 16 ≡ true) × (leb filed 16 ≡ true)
+Fits deed.Sweep filed octets count nets = Unit {0}
+Fits deed.Power filed octets count nets = Unit {0}
+Fits deed.Fresh filed octets count nets = ⊥
 
 -- what a deed is for network n, which has an entry or not
-abbrev pub deedNews : Deed → Bool → ℕ → News
-deedNews deed.Nothing held n = quiet
-deedNews (deed.Ban s) held n = cond (eqb (s .net) n) (banned (not (eqb (s .protected) 0))) quiet
-deedNews (deed.Bar s) held n = cond (eqb (s .net) n) (barred (not (eqb (s .protected) 0))) quiet
-deedNews (deed.Accept s) held n = cond (eqb (s .net) n) history.accepted quiet
-deedNews (deed.ToLimit net) held n = cond (eqb net n && held) reached quiet
-deedNews deed.Sweep held n = ended
-deedNews deed.Power held n = history.cycled
-deedNews deed.Fresh held n = quiet
+abbrev pub deedNews : Deed → List ℕ → Bool → ℕ → News
+deedNews deed.Nothing octets held n = quiet
+deedNews (deed.Ban s) octets held n = cond (eqb (s .net) n) (banned (not (eqb (s .protected) 0))) quiet
+deedNews (deed.Bar s) octets held n = cond (eqb (s .net) n) (barred (not (eqb (s .protected) 0))) quiet
+deedNews (deed.Accept s) octets held n = cond (eqb (s .net) n) history.accepted quiet
+deedNews (deed.ToLimit net) octets held n = cond (eqb net n && held) reached quiet
+deedNews deed.Import octets held n = cond (isAmong n (networksIn octets)) imported quiet
+deedNews deed.Sweep octets held n = ended
+deedNews deed.Power octets held n = history.cycled
+deedNews deed.Fresh octets held n = quiet
 
 -- every deed, and every network
-pub deed-cell : (l : Limits) (k : Deed) (count : ℕ) (t : Entries) → Columns t → Fits k count (t .nets) → (n : ℕ)
-    → cellIn (countBy k count) (entries.entriesAfter k count (l .ban) (l .n1) t) n ≡ cellAfter l (deedNews k (hasEntry count n (t .nets)) n) (cellIn count t n)
+pub deed-cell : (l : Limits) (k : Deed) (filed : ℕ) (octets : List ℕ) (count : ℕ) (t : Entries) → Columns t → Fits k filed octets count (t .nets) → (n : ℕ)
+    → cellIn (countBy k filed count) (entries.entriesAfter k octets count (l .ban) (l .n1) t) n ≡ cellAfter l (deedNews k octets (hasEntry count n (t .nets)) n) (cellIn count t n)
 unfolding entries.entriesAfter hasEntry cellAfter countAfter markAfter
-deed-cell l deed.Nothing count t w f n = refl
-deed-cell l (deed.Ban s) count t w f n = rw (f .0) (cell-banned l count (s .net) (s .protected) t w (room count (s .net) (t .nets) (f .1)) n)
-deed-cell l (deed.Bar s) count t w f n = rw (f .0) (cell-barred l count (s .net) (s .protected) t w (room count (s .net) (t .nets) (f .1)) n)
-deed-cell l (deed.Accept s) count t w f n = rw f (cell-accepted l count (s .net) (s .protected) t w n)
-deed-cell l (deed.ToLimit net) count t w f n = cell-limited l count net t w n
-deed-cell l deed.Sweep count t w f n = cell-swept l count t w n
-deed-cell l deed.Power count t w f n = cell-cycled l count t w n
-deed-cell l deed.Fresh count t w f n = absurd f
+deed-cell l deed.Nothing filed octets count t w f n = refl
+deed-cell l (deed.Ban s) filed octets count t w f n = rw (f .0) (cell-banned l count (s .net) (s .protected) t w (room count (s .net) (t .nets) (f .1)) n)
+deed-cell l (deed.Bar s) filed octets count t w f n = rw (f .0) (cell-barred l count (s .net) (s .protected) t w (room count (s .net) (t .nets) (f .1)) n)
+deed-cell l (deed.Accept s) filed octets count t w f n = rw f (cell-accepted l count (s .net) (s .protected) t w n)
+deed-cell l (deed.ToLimit net) filed octets count t w f n = cell-limited l count net t w n
+deed-cell l deed.Import filed octets count t w f n = filed-cell l filed octets count t w f n
+deed-cell l deed.Sweep filed octets count t w f n = cell-swept l count t w n
+deed-cell l deed.Power filed octets count t w f n = cell-cycled l count t w n
+deed-cell l deed.Fresh filed octets count t w f n = absurd f
 
 -- who has an entry after it: those who had one, and whom it puts on a list
 puts-if : (b : Bool) (d : News) → puts d ≡ true → puts (cond b d quiet) ≡ b
@@ -202,16 +207,17 @@ unfolding puts isPut
 puts-none true d e = e
 puts-none false d e = refl
 
-pub deed-held : (l : Limits) (k : Deed) (count : ℕ) (t : Entries) → Columns t → Fits k count (t .nets) → (held : Bool) (n : ℕ)
-    → hasEntry (countBy k count) n (entries.entriesAfter k count (l .ban) (l .n1) t .nets) ≡ (puts (deedNews k held n) || hasEntry count n (t .nets))
+pub deed-held : (l : Limits) (k : Deed) (filed : ℕ) (octets : List ℕ) (count : ℕ) (t : Entries) → Columns t → Fits k filed octets count (t .nets) → (held : Bool) (n : ℕ)
+    → hasEntry (countBy k filed count) n (entries.entriesAfter k octets count (l .ban) (l .n1) t .nets) ≡ (puts (deedNews k octets held n) || hasEntry count n (t .nets))
 unfolding entries.entriesAfter entries.banned entries.barredBy unforbidden n1ToLimit swept powered hasEntry puts isPut
-deed-held l deed.Nothing count t w f held n = refl
-deed-held l (deed.Ban s) count t w f held n =
+deed-held l deed.Nothing filed octets count t w f held n = refl
+deed-held l (deed.Ban s) filed octets count t w f held n =
     rw (puts-if (eqb (s .net) n) (banned (not (eqb (s .protected) 0))) refl, f .0) (held-after count (s .net) (t .nets) (w .nets) (room count (s .net) (t .nets) (f .1)) n)
-deed-held l (deed.Bar s) count t w f held n =
+deed-held l (deed.Bar s) filed octets count t w f held n =
     rw (puts-if (eqb (s .net) n) (barred (not (eqb (s .protected) 0))) refl, f .0) (held-after count (s .net) (t .nets) (w .nets) (room count (s .net) (t .nets) (f .1)) n)
-deed-held l (deed.Accept s) count t w f held n = rw (puts-none (eqb (s .net) n) history.accepted refl)
-deed-held l (deed.ToLimit net) count t w f held n = rw (puts-none (eqb net n && held) reached refl)
-deed-held l deed.Sweep count t w f held n = refl
-deed-held l deed.Power count t w f held n = refl
-deed-held l deed.Fresh count t w f held n = absurd f
+deed-held l (deed.Accept s) filed octets count t w f held n = rw (puts-none (eqb (s .net) n) history.accepted refl)
+deed-held l (deed.ToLimit net) filed octets count t w f held n = rw (puts-none (eqb net n && held) reached refl)
+deed-held l deed.Import filed octets count t w f held n = rw (puts-if (isAmong n (networksIn octets)) imported refl) (filed-held filed octets count t w f n)
+deed-held l deed.Sweep filed octets count t w f held n = refl
+deed-held l deed.Power filed octets count t w f held n = refl
+deed-held l deed.Fresh filed octets count t w f held n = absurd f

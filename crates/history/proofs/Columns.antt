@@ -7,17 +7,17 @@ use mathlib.Core.List.{List}
 use mathlib.Core.Logic.{_≢_}
 use native.Mathlib.Omega.{arith}
 use lib.Dec.{leb, ltb, eqb}
-use lib.ListN.{length, getD, set, replicate, length-replicate, getD-replicate}
+use lib.ListN.{length, getD, set}
 use lib.Seq.{getD-set-same, getD-set-other, set-getD}
 use borrow.Author.Tests.{leb-false, ltb-true, ltb-false, lt-ltb, le-ltb, eqb-true, eqb-false}
 use Rattle.laws.specs.Upto.{upto, seekTo}
-use Rattle.entries.specs.Entries.{sameNet, entriesHeld, placeIn, hasEntry, peekAt, putAt, clearUnless}
+use Rattle.entries.specs.Entries.{sameNet, entriesHeld, placeIn, hasEntry, peekAt, putAt, clearUnless, grown}
+use Rattle.entries.proofs.Joining.{has-joined}
 use Rattle.record.specs.New.{zeros}
 use Rattle.validity.proofs.Bools.{most-fits}
-use Rattle.validity.proofs.Arrays.{seek-le, seek-found, seek-before, seek-is, upto-reads}
-use Rattle.validity.proofs.Setters.{grown}
+use Rattle.laws.proofs.Seek.{seek-le, seek-found, seek-before, seek-is}
+use Rattle.validity.proofs.Arrays.{upto-reads}
 use Rattle.history.specs.Cell.{columnIn}
-use Rattle.history.specs.History.{markOf}
 
 zero-at : (n k : ℕ) → getD (zeros n) k 0 ≡ 0
 zero-at zero k = refl
@@ -220,35 +220,6 @@ module _ (count : ℕ) (nets : List ℕ) (l : length nets ≡ 16) (room : count 
           let h : count ≤ was m = ltb-false (was m) count q′ in
           rw (q, no-place m h q, peek-out (set xs count v) (suc count) (suc count) (omega arith), peek-out xs (was m) count h)
 
--- A column of ones tells who has an entry.
-abbrev ones : List ℕ
-ones = replicate 16 1
-
-one-at : (k : ℕ) → k < 16 → getD ones k 0 ≡ 1
-one-at k h = getD-replicate {A = ℕ} 16 k 1 0 h
-
-ones-put : (at : ℕ) → at < 16 → putAt ones at 1 ≡ ones
-ones-put at h = put-in ones at 1 h ∙ ap (λ (n : ℕ). set ones at n) (sym (one-at at h)) ∙ set-getD ones at 0
-
-entry-one : (count : ℕ) (nets : List ℕ) (m : ℕ) → columnIn count nets ones m ≡ markOf (hasEntry count m nets)
-unfolding peekAt hasEntry
-entry-one count nets m = go (ltb (placeIn count m nets) (entriesHeld count)) refl
-  where
-    go : (b : Bool) → ltb (placeIn count m nets) (entriesHeld count) ≡ b
-        → cond (ltb (placeIn count m nets) (entriesHeld count)) (getD ones (placeIn count m nets) 0) 0 ≡ markOf (ltb (placeIn count m nets) (entriesHeld count))
-    go true q = rw q (one-at (placeIn count m nets) (omega (arith, ltb-true (placeIn count m nets) (entriesHeld count) q, size-fits count)))
-    go false q = rw q
-
-same-mark : (a b : Bool) → markOf a ≡ markOf b → a ≡ b
-same-mark true true e = refl
-same-mark true false e = absurd (omega arith)
-same-mark false true e = absurd (omega arith)
-same-mark false false e = refl
-
-either-mark : (a b : Bool) → cond a 1 (markOf b) ≡ markOf (a || b)
-either-mark true b = refl
-either-mark false b = refl
-
 -- A store at a network's place, found or new, as a ban or a bar makes it.
 module _ (count net : ℕ) (nets : List ℕ) (l : length nets ≡ 16) (room : placeIn count net nets < 16) where
   abbrev at : ℕ
@@ -297,9 +268,11 @@ module _ (count net : ℕ) (nets : List ℕ) (l : length nets ≡ 16) (room : pl
           zero′ true e = rw e (rw (eqb-true net m e) at (sym (missed count nets net (ltb-false at (entriesHeld count) q) xs)))
           zero′ false e = rw e
 
-  -- the networks that have an entry after it: one more
-  pub held-after : (m : ℕ) → hasEntry (grown found count) m (putAt nets at net) ≡ (eqb net m || hasEntry count m nets)
-  held-after m = same-mark _ _ (sym (entry-one (grown found count) (putAt nets at net) m) ∙ put-one ∙ ap (λ (n : ℕ). cond (eqb net m) 1 n) (entry-one count nets m) ∙ either-mark (eqb net m) (hasEntry count m nets))
-    where
-      put-one : columnIn (grown found count) (putAt nets at net) ones m ≡ cond (eqb net m) 1 (columnIn count nets ones m)
-      put-one = ap (λ (xs : List ℕ). columnIn (grown found count) (putAt nets at net) xs m) (sym (ones-put at room)) ∙ touched ones (length-replicate {A = ℕ} 16 1) 1 m
+-- the networks that have an entry after it: one more
+either-is : (a b : Bool) → cond a true b ≡ (a || b)
+either-is true b = refl
+either-is false b = refl
+
+pub held-after : (count net : ℕ) (nets : List ℕ) → length nets ≡ 16 → placeIn count net nets < 16 → (m : ℕ)
+    → hasEntry (grown (hasEntry count net nets) count) m (putAt nets (placeIn count net nets) net) ≡ (eqb net m || hasEntry count m nets)
+held-after count net nets l room m = has-joined count net nets l room m ∙ either-is (eqb net m) (hasEntry count m nets)

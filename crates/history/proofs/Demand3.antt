@@ -12,7 +12,7 @@ use Rattle.record.specs.New.{newDevice, newAccess, emptyRecord, newRecord, mayM
 use Rattle.ranges.specs.Valid.{validOf}
 use Rattle.record.specs.declared.Record.{Record}
 use Rattle.rules.specs.declared.Event.{Event}
-use Rattle.rules.specs.declared.Event.the-variants.{Card, Start, Message, Timer, Power, Key, Update, Unknown}
+use Rattle.rules.specs.declared.Event.the-variants.{Card, Start, Message, Timer, Power, Key, Update, Import, Unknown}
 use Rattle.record.specs.Sides.{accessOf}
 use Rattle.rules.specs.Plan.{accessIn, refusedReply}
 use Rattle.events.specs.declared.Outcome.{Outcome}
@@ -55,6 +55,7 @@ alike p q f f′ w n s (Timer number b) octets s′ = refl
 alike p q f f′ w n s Power octets s′ = refl
 alike p q f f′ w n s (Key b set) octets s′ = refl
 alike p q f f′ w n s (Update b regtype net code uplink sessions) octets s′ = refl
+alike p q f f′ w n s Import octets s′ = refl
 alike p q f f′ w n s Unknown octets s′ = refl
 
 after-same : {l l′ : Limits} {d d′ : News} {c c′ : Cell} → l ≡ l′ → d ≡ d′ → c ≡ c′ → cellAfter l d c ≡ cellAfter l′ d′ c′
@@ -77,7 +78,7 @@ module _ (l : Limits) (r : Record) (t : List Heard) (g : Agrees l r t) (x : Hear
   abbrev said : ℕ → ℕ → News
   said w n = eventNews (homeOf t) (pendingOf t) (isHeld (before w n)) w n e (x .octets)
 
-  module _ (k : isTaken (answeredBy r e (x .octets)) ≡ true) (w n : ℕ) (hw : w < 2) where
+  module _ (v : validOf r ≡ true) (k : isTaken (answeredBy r e (x .octets)) ≡ true) (w n : ℕ) (hw : w < 2) where
     said-same : newsIn r e (x .octets) w n ≡ said w n
     said-same =
         alike (g .home) (g .held w n hw) (λ (v : ℕ). accessOf (r .hot) v .net) (pendingOf t) w n (g .pending w hw) e (x .octets)
@@ -94,6 +95,7 @@ module _ (l : Limits) (r : Record) (t : List Heard) (g : Agrees l r t) (x : Hear
     card-told Power c k = absurd (false≢true c)
     card-told (Key b set) c k = absurd (false≢true c)
     card-told (Update b regtype net code uplink sessions) c k = absurd (false≢true c)
+    card-told Import c k = absurd (false≢true c)
     card-told Unknown c k = absurd (false≢true c)
 
     -- a taken event: the cell, and whether there is an entry
@@ -105,20 +107,20 @@ module _ (l : Limits) (r : Record) (t : List Heard) (g : Agrees l r t) (x : Hear
             × (heldIn (next r e (x .octets)) w n ≡ isHeld (cond (isCardChange e) [] (said w n ∷ before w n)))
         go true q = rw q (card-told e q k)
         go false q = rw q (
-          event-cell r (g .sized .e0) (g .sized .e1) e (x .octets) k q w n hw ∙ after-same limits-are said-same (g .cells w n hw) ∙ sym (said-step l (said w n) (before w n)),
-          event-held r (g .sized .e0) (g .sized .e1) e (x .octets) k q w n hw ∙ held-same said-same (g .held w n hw),
+          event-cell r v (g .sized .e0) (g .sized .e1) e (x .octets) k q w n hw ∙ after-same limits-are said-same (g .cells w n hw) ∙ sym (said-step l (said w n) (before w n)),
+          event-held r v (g .sized .e0) (g .sized .e1) e (x .octets) k q w n hw ∙ held-same said-same (g .held w n hw),
         )
 
-  agrees-taken : isTaken (answeredBy r e (x .octets)) ≡ true → Sized (next r e (x .octets)) → Agrees l (next r e (x .octets)) (x ∷ t)
+  agrees-taken : validOf r ≡ true → isTaken (answeredBy r e (x .octets)) ≡ true → Sized (next r e (x .octets)) → Agrees l (next r e (x .octets)) (x ∷ t)
   unfolding homeOf pendingOf
-  agrees-taken k z = record {
+  agrees-taken v k z = record {
     sized = z;
     ban = ban-step r e (x .octets) k ∙ g .ban;
     n1 = n1-step r e (x .octets) k ∙ g .n1;
     home = home-step r e (x .octets) k ∙ ap (homeAfter e) (g .home);
     pending = λ w hw. net-step r e (x .octets) k w hw ∙ ap (pendingAfter w e) (g .pending w hw);
-    cells = λ w n hw. taken-told k w n hw .0;
-    held = λ w n hw. taken-told k w n hw .1;
+    cells = λ w n hw. taken-told v k w n hw .0;
+    held = λ w n hw. taken-told v k w n hw .1;
   }
 
   -- a step, by its answer's number
@@ -134,7 +136,7 @@ module _ (l : Limits) (r : Record) (t : List Heard) (g : Agrees l r t) (x : Hear
 
       go : (b : Bool) → validOf r ≡ b → (b′ : Bool) → isTaken (answeredBy r e (x .octets)) ≡ b′
           → Agrees l (stepOf r e (x .octets) .next) (cond (eqb (numberOf (stepOf r e (x .octets) .reply .answer)) 0) (x ∷ t) t)
-      go true q true q′ = rw (q, number, q′) (agrees-taken q′ z)
+      go true q true q′ = rw (q, number, q′) (agrees-taken q q′ z)
       go true q false q′ = rw (q, number, q′) (rw (ap (λ (o : Outcome). o .next) (refused r e (x .octets) q′)) g)
       go false q b′ q′ = rw q g
 

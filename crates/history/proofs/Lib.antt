@@ -2,6 +2,7 @@
 pub mod Said
 pub mod Octets
 pub mod Columns
+pub mod Files
 pub mod Cells
 pub mod Next
 pub mod Rows
@@ -12,6 +13,7 @@ pub mod News
 pub mod Demand3
 pub mod Listed
 pub mod Permitted
+pub mod Written
 pub mod Apart
 pub mod Facts
 pub mod Refusals

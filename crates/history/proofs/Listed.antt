@@ -25,20 +25,20 @@ use Rattle.history.proofs.Demand3.{demand3}
 abbrev pub passes : ℕ → Cell → Bool
 passes manual c = both (eqb (c .barred) 0) (either (eqb (c .forbidden) 0) (eqb manual 1))
 
-pub seen : (r : Record) (w manual net code : ℕ) → w < 2 → isFree manual (seenAt r (Start w manual net code)) ≡ passes manual (cellOf r w net)
+pub seen : (r : Record) (w manual net code : ℕ) (octets : List ℕ) → w < 2 → isFree manual (seenAt r (Start w manual net code) octets) ≡ passes manual (cellOf r w net)
 unfolding isFree askOf seenOf seenBy sightOf seenIn cellOf cellIn entriesIn accessOf
-seen r zero manual net code h = refl
-seen r (suc zero) manual net code h = refl
-seen r (suc (suc w)) manual net code h = absurd (omega arith)
+seen r zero manual net code octets h = refl
+seen r (suc zero) manual net code octets h = refl
+seen r (suc (suc w)) manual net code octets h = absurd (omega arith)
 
-pub check8 : (x y z : ℕ) (c s : List ℕ) (xs : List Heard) (w manual net code : ℕ) → w < 2
-    → isFree manual (seenAt (runOf (newRecord x y z c s) xs) (Start w manual net code))
+pub check8 : (x y z : ℕ) (c s : List ℕ) (xs : List Heard) (w manual net code : ℕ) (octets : List ℕ) → w < 2
+    → isFree manual (seenAt (runOf (newRecord x y z c s) xs) (Start w manual net code) octets)
     ≡ passes manual (saidOf (record { ban = y; n1 = z }) xs (answersOf (newRecord x y z c s) xs) w net)
-check8 x y z c s xs w manual net code h = seen _ w manual net code h ∙ ap (passes manual) (demand3 x y z c s xs w net h)
+check8 x y z c s xs w manual net code octets h = seen _ w manual net code octets h ∙ ap (passes manual) (demand3 x y z c s xs w net h)
 
 -- an update passes as a start that is not manual
-pub check8-update : (x y z : ℕ) (c s : List ℕ) (xs : List Heard) (w regtype net code uplink sessions : ℕ) → w < 2
-    → isFree 0 (seenAt (runOf (newRecord x y z c s) xs) (Update w regtype net code uplink sessions))
+pub check8-update : (x y z : ℕ) (c s : List ℕ) (xs : List Heard) (w regtype net code uplink sessions : ℕ) (octets : List ℕ) → w < 2
+    → isFree 0 (seenAt (runOf (newRecord x y z c s) xs) (Update w regtype net code uplink sessions) octets)
     ≡ passes 0 (saidOf (record { ban = y; n1 = z }) xs (answersOf (newRecord x y z c s) xs) w net)
 unfolding askOf
-check8-update x y z c s xs w regtype net code uplink sessions h = check8 x y z c s xs w 0 net code h
+check8-update x y z c s xs w regtype net code uplink sessions octets h = check8 x y z c s xs w 0 net code octets h

@@ -73,7 +73,7 @@ module _ (r : Record) (octets : List ℕ) (p : Plan) where
   unfolding accessOf joinedOf together carriedOut doneOf withCounts
   carry-access w = refl
 
-  carry-entries : (w : ℕ) → w < 2 → entriesIn after w ≡ tableAfter p w (accessOf (r .hot) w .entries) (r .hot) (entriesIn r w)
+  carry-entries : (w : ℕ) → w < 2 → entriesIn after w ≡ tableAfter p octets w (accessOf (r .hot) w .entries) (r .hot) (entriesIn r w)
   unfolding entriesIn accessOf joinedOf together carriedOut
   carry-entries zero h = refl
   carry-entries (suc zero) h = refl
@@ -113,7 +113,7 @@ module _ (r : Record) (e : Event) (octets : List ℕ) where
         ap (λ (o : Outcome). f (o .next .hot .dev)) (taken-plan r e octets t) ∙ m _ _ (plan .hot) ∙ ap f (dev-of _ (accessIn e) _ _) ∙ k _ _ (effectIn r e octets .dev)
 
     pub taken-entries : (w : ℕ) → w < 2
-        → entriesIn next w ≡ entriesAfter (deedIn w) (accessOf (r .hot) w .entries) (r .hot .dev .banlimit) (r .hot .dev .n1limit) (entriesIn r w)
+        → entriesIn next w ≡ entriesAfter (deedIn w) octets (accessOf (r .hot) w .entries) (r .hot .dev .banlimit) (r .hot .dev .n1limit) (entriesIn r w)
     unfolding tableAfter takenPlan deedOf deedOn
     taken-entries w hw = ap (λ (o : Outcome). entriesIn (o .next) w) (taken-plan r e octets t) ∙ carry-entries r octets plan w hw
 

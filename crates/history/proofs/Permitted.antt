@@ -25,7 +25,8 @@ use Rattle.rules.specs.declared.Event.the-variants.{Start}
 use Rattle.checks.specs.Answers.{isFree}
 use Rattle.validity.specs.Answered.{seenAt}
 use Rattle.validity.specs.Run.{Heard, runOf}
-use Rattle.validity.proofs.Arrays.{Once, seek-found, seek-before, seek-is}
+use Rattle.laws.proofs.Seek.{seek-found, seek-before, seek-is}
+use Rattle.validity.proofs.Arrays.{Once}
 use Rattle.validity.proofs.Bools.{most-is}
 use Rattle.validity.proofs.Good.{Good}
 use Rattle.validity.proofs.Valid.{valid-good}
@@ -255,10 +256,10 @@ unmarked-passes c = go (eqb (c .forbidden) 0) (eqb (c .barred) 0)
     go false true = refl
     go false false = refl
 
-pub permitted-passes : (r : Record) (access : ℕ) → access < 2 → (heard : List ℕ) → mayChoose r access heard ≡ true → (x code : ℕ)
-    → isIn x (permittedOf r access heard) ≡ both (isIn x heard) (isFree 0 (seenAt r (Start access 0 x code)))
-permitted-passes r access h heard may x code =
-    permitted-exactly r access heard may x ∙ ap (both (isIn x heard)) (unmarked-passes (cellOf r access x) ∙ sym (seen r access 0 x code h))
+pub permitted-passes : (r : Record) (access : ℕ) → access < 2 → (heard : List ℕ) → mayChoose r access heard ≡ true → (x code : ℕ) (octets : List ℕ)
+    → isIn x (permittedOf r access heard) ≡ both (isIn x heard) (isFree 0 (seenAt r (Start access 0 x code) octets))
+permitted-passes r access h heard may x code octets =
+    permitted-exactly r access heard may x ∙ ap (both (isIn x heard)) (unmarked-passes (cellOf r access x) ∙ sym (seen r access 0 x code octets h))
 
 -- and by the history: from a new record, after any events, by what these and their answers say
 module _ (cardlimit banlimit n1limit : ℕ) (capability security : List ℕ) (made : mayMake cardlimit banlimit n1limit (length capability) (length security) ≡ true) (xs : List Heard) where

@@ -83,18 +83,18 @@ pub still-quiet : (b : Bool) → quiet ≡ cond b quiet quiet
 still-quiet true = refl
 still-quiet false = refl
 
-pub row-deed : (row : Row) (s : Seat) (held : Bool) (n : ℕ) → deedNews (rowDeed row s) held n ≡ cond (eqb (s .net) n) (rowNews row (not (eqb (s .protected) 0))) quiet
+pub row-deed : (row : Row) (s : Seat) (octets : List ℕ) (held : Bool) (n : ℕ) → deedNews (rowDeed row s) octets held n ≡ cond (eqb (s .net) n) (rowNews row (not (eqb (s .protected) 0))) quiet
 unfolding rowDeed markDeed rowText markIn
-row-deed CardBelow s held n = still-quiet (eqb (s .net) n)
-row-deed CardLimit s held n = still-quiet (eqb (s .net) n)
-row-deed CardProtected s held n = still-quiet (eqb (s .net) n)
-row-deed Away s held n = refl
-row-deed Home s held n = still-quiet (eqb (s .net) n)
-row-deed Area s held n = still-quiet (eqb (s .net) n)
-row-deed N1 s held n = refl
-row-deed Congested s held n = still-quiet (eqb (s .net) n)
-row-deed Protocol s held n = still-quiet (eqb (s .net) n)
-row-deed Other s held n = still-quiet (eqb (s .net) n)
+row-deed CardBelow s octets held n = still-quiet (eqb (s .net) n)
+row-deed CardLimit s octets held n = still-quiet (eqb (s .net) n)
+row-deed CardProtected s octets held n = still-quiet (eqb (s .net) n)
+row-deed Away s octets held n = refl
+row-deed Home s octets held n = still-quiet (eqb (s .net) n)
+row-deed Area s octets held n = still-quiet (eqb (s .net) n)
+row-deed N1 s octets held n = refl
+row-deed Congested s octets held n = still-quiet (eqb (s .net) n)
+row-deed Protocol s octets held n = still-quiet (eqb (s .net) n)
+row-deed Other s octets held n = still-quiet (eqb (s .net) n)
 
 -- no row but that of 27 reaches the other access's entries, and it only protected
 other-untouched : (w protected c : ℕ) → eqb c 27 ≡ false → (row : Row) → acrossN1 w protected c row ≡ false
@@ -123,18 +123,18 @@ row-across w protected bare at-home below timed c = go (eqb c 27) refl
     go false q = other-untouched w protected c q (rowOf w bare at-home below timed c) ∙ ap (λ (s : Bool). s && not (eqb protected 0)) (sym q)
 
 -- the deed on the other access is the history's word for it
-pub across-deed : (s : Bool) (net : ℕ) (held : Bool) (n : ℕ)
-    → deedNews (cond {A = Deed} s (deed.ToLimit net) deed.Nothing) held n ≡ cond (eqb net n && held) (news nothing (cond s toLimit nothing)) quiet
-across-deed true net held n = refl
-across-deed false net held n = still-quiet (eqb net n && held)
+pub across-deed : (s : Bool) (net : ℕ) (octets : List ℕ) (held : Bool) (n : ℕ)
+    → deedNews (cond {A = Deed} s (deed.ToLimit net) deed.Nothing) octets held n ≡ cond (eqb net n && held) (news nothing (cond s toLimit nothing)) quiet
+across-deed true net octets held n = refl
+across-deed false net octets held n = still-quiet (eqb net n && held)
 
 -- the entry that a row needs is there or free
-mark-fits : (m : Mark) (s : Seat) (count : ℕ) (nets : List ℕ) → Seated s count nets → (isMark m ≡ true → Free s count nets) → Fits (markDeed m s) count nets
+mark-fits : (m : Mark) (s : Seat) (filed : ℕ) (octets : List ℕ) (count : ℕ) (nets : List ℕ) → Seated s count nets → (isMark m ≡ true → Free s count nets) → Fits (markDeed m s) filed octets count nets
 unfolding markDeed isMark
-mark-fits noMark s count nets i f = tt
-mark-fits forbiddenAndCounted s count nets i f = (i, f refl)
-mark-fits n1NotAllowedAndCounted s count nets i f = (i, f refl)
+mark-fits noMark s filed octets count nets i f = tt
+mark-fits forbiddenAndCounted s filed octets count nets i f = (i, f refl)
+mark-fits n1NotAllowedAndCounted s filed octets count nets i f = (i, f refl)
 
-pub row-fits : (row : Row) (s : Seat) (count : ℕ) (nets : List ℕ) → Seated s count nets → (needsEntry row ≡ true → Free s count nets) → Fits (rowDeed row s) count nets
+pub row-fits : (row : Row) (s : Seat) (filed : ℕ) (octets : List ℕ) (count : ℕ) (nets : List ℕ) → Seated s count nets → (needsEntry row ≡ true → Free s count nets) → Fits (rowDeed row s) filed octets count nets
 unfolding rowDeed needsEntry
-row-fits row s count nets i f = mark-fits (markIn (rowText row)) s count nets i f
+row-fits row s filed octets count nets i f = mark-fits (markIn (rowText row)) s filed octets count nets i f

@@ -7,7 +7,7 @@ use native.Mathlib.Omega.{arith}
 use lib.Dec.{ltb}
 use borrow.Author.Tests.{ltb-true, ltb-false, lt-ltb, le-ltb, ne-eqb}
 use Rattle.entries.specs.Entries.{liftMark}
-use Rattle.history.specs.History.{Cell, Limits, Word, struck, toLimit, cleared, tested, nothing, News, news, isCounted, some, many, counterOf, isBegun, stands, markOf, bansIn, barsIn, saidBy}
+use Rattle.history.specs.History.{Cell, Limits, Word, struck, put, toLimit, cleared, tested, nothing, News, news, isCounted, some, many, counterOf, isBegun, stands, markOf, bansIn, barsIn, saidBy}
 
 -- the news of each event
 abbrev pub banned : Bool → News
@@ -15,6 +15,9 @@ banned p = news (struck p) nothing
 
 abbrev pub barred : Bool → News
 barred p = news nothing (struck p)
+
+abbrev pub imported : News
+imported = news put nothing
 
 abbrev pub accepted : News
 accepted = news cleared nothing
@@ -45,6 +48,7 @@ blank = cell 0 0 0 0
 -- what a word makes of a list's counter, and of its mark
 unfoldable pub countAfter : ℕ → Word → ℕ → ℕ
 countAfter limit (struck p) n = raise limit p n
+countAfter limit put n = n
 countAfter limit toLimit n = limit
 countAfter limit cleared n = n
 countAfter limit tested n = n
@@ -52,6 +56,7 @@ countAfter limit nothing n = n
 
 unfoldable pub markAfter : ℕ → Word → ℕ → ℕ → ℕ
 markAfter limit (struck p) n mark = 1
+markAfter limit put n mark = 1
 markAfter limit toLimit n mark = mark
 markAfter limit cleared n mark = 0
 markAfter limit tested n mark = liftMark limit n mark
@@ -86,6 +91,7 @@ counted : (limit : ℕ) (d : Word) (ds : List Word) → counterOf limit (d ∷ d
 unfolding counterOf countAfter some many isCounted
 counted limit (struck true) ds = refl
 counted limit (struck false) ds = one-more (some (isCounted true) ds) limit (many (isCounted false) ds)
+counted limit put ds = refl
 counted limit toLimit ds = refl
 counted limit cleared ds = refl
 counted limit tested ds = refl
@@ -94,6 +100,7 @@ counted limit nothing ds = refl
 marked : (limit : ℕ) (d : Word) (ds : List Word) → markOf (stands limit (d ∷ ds)) ≡ markAfter limit d (counterOf limit ds) (markOf (stands limit ds))
 unfolding stands markAfter
 marked limit (struck p) ds = refl
+marked limit put ds = refl
 marked limit toLimit ds = refl
 marked limit cleared ds = refl
 marked limit tested ds = lift limit (counterOf limit ds) (stands limit ds)

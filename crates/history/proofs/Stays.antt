@@ -14,13 +14,13 @@ use Rattle.record.specs.declared.Access.{Access}
 use Rattle.record.specs.declared.Device.{Device}
 use Rattle.record.specs.declared.Hot.{Hot}
 use Rattle.record.specs.declared.Record.{Record}
-use Rattle.record.specs.Setters.{inState, withStatus, withAttempts, forgotten, emptied, counted, pending, keyed, taught}
+use Rattle.record.specs.Setters.{inState, withStatus, withAttempts, forgotten, emptied, counted, pending, keyed, taught, withEntries}
 use Rattle.record.specs.Sides.{accessOf, otherOf}
 use Rattle.entries.specs.declared.Seen.{Seen}
 use Rattle.entries.specs.declared.Seat.{Seat}
 use Rattle.entries.specs.declared.Deed.{Deed}
 use Rattle.entries.specs.declared.Deed.the-variants as deed
-use Rattle.entries.specs.Entries.{seenIn, seatOf}
+use Rattle.entries.specs.Entries.{seenIn, fileSeen, seatOf, grown, heldWith}
 use Rattle.messages.specs.declared.Reading.{Reading}
 use Rattle.messages.specs.declared.Reading.the-variants as reading
 use Rattle.messages.specs.Message.{readingOf}
@@ -31,14 +31,13 @@ use Rattle.turns.specs.Rejects.{t3346Time, rowText, acrossN1}
 use Rattle.turns.specs.Turns.{started, updated, keySet, renewed, startFailed, updateFailed, failed, t3510Out, t3511Out, t3502Out, t3346Out, clockTurn, turned, rowTurn, otherTurned, otherTurn}
 use Rattle.turns.specs.Turns as turns
 use Rattle.checks.specs.Answers.{rowNow}
-use Rattle.effects.specs.Effects.{Effect, scheduled, cardEffect, startEffect, updateEffect, keyEffect, t3512Time, acceptDevice, acceptEffect, clockEffect, t3247Effect, t3512Effect, deviceEffect, timerEffect, powerEffect, markDeed, rowDeed, rowWork, rejectEffect}
+use Rattle.effects.specs.Effects.{Effect, scheduled, cardEffect, startEffect, updateEffect, keyEffect, t3512Time, acceptDevice, acceptEffect, clockEffect, t3247Effect, t3512Effect, deviceEffect, timerEffect, powerEffect, markDeed, rowDeed, rowWork, rejectEffect, importEffect}
 use Rattle.rules.specs.declared.Event.{Event}
-use Rattle.rules.specs.declared.Event.the-variants.{Card, Start, Message, Timer, Power, Key, Update, Unknown}
+use Rattle.rules.specs.declared.Event.the-variants.{Card, Start, Message, Timer, Power, Key, Update, Import, Unknown}
 use Rattle.rules.specs.Plan.{askOf, accessIn, answerOf, messageEffect, effectOf}
 use Rattle.events.specs.Parts.{sightOf, seenBy, seenOf}
 use Rattle.validity.specs.Answered.{seenAt, answeredBy}
 use Rattle.validity.proofs.Refusal.{effectIn}
-use Rattle.validity.proofs.Setters.{grown}
 use Rattle.validity.proofs.Own.{seatIn}
 use Rattle.validity.proofs.Taken.{start-passed, message-passed, timer-passed, key-passed, update-passed}
 use Rattle.history.specs.Cell.{entriesIn}
@@ -47,6 +46,10 @@ use Rattle.history.proofs.Next.{other-of}
 
 flag-small : (w : ℕ) → isFlag w ≡ true → w < 2
 flag-small w h = omega (arith, leb-true w 1 h)
+
+-- the entries that access 0 holds with an import's
+abbrev pub filedIn : Record → List ℕ → ℕ
+filedIn r octets = heldWith (r .hot .a0 .entries) octets (r .e0 .nets)
 
 -- the access of a taken event is 0 or 1
 pub small : (r : Record) (e : Event) (octets : List ℕ) → isTaken (answeredBy r e octets) ≡ true → accessIn e < 2
@@ -58,6 +61,7 @@ small r (Timer number w) octets t = flag-small w (timer-passed (r .hot) number w
 small r Power octets t = omega arith
 small r (Key w set) octets t = flag-small w (key-passed (r .hot) w set t .0)
 small r (Update w regtype net code uplink sessions) octets t = flag-small w (update-passed (r .hot) w regtype net code uplink sessions _ _ t .0)
+small r Import octets t = omega arith
 small r Unknown octets t = omega arith
 
 -- both accesses' numbers, read from the event's own and the other
@@ -93,15 +97,15 @@ across-left untouched limit a = (refl, refl)
 across-left cardCounterToLimit limit a = (refl, refl)
 across-left (n1CounterToLimitIfProtected x) limit a = (refl, refl)
 
-across-count : (s : Bool) (net count : ℕ) → count ≡ countBy (cond {A = Deed} s (deed.ToLimit net) deed.Nothing) count
-across-count true net count = refl
-across-count false net count = refl
+across-count : (s : Bool) (net filed count : ℕ) → count ≡ countBy (cond {A = Deed} s (deed.ToLimit net) deed.Nothing) filed count
+across-count true net filed count = refl
+across-count false net filed count = refl
 
-mark-count : (m : Mark) (s : Seat) (count : ℕ) → cond (isMark m) (grown (s .found) count) count ≡ countBy (markDeed m s) count
+mark-count : (m : Mark) (s : Seat) (filed count : ℕ) → cond (isMark m) (grown (s .found) count) count ≡ countBy (markDeed m s) filed count
 unfolding markDeed isMark
-mark-count noMark s count = refl
-mark-count forbiddenAndCounted s count = refl
-mark-count n1NotAllowedAndCounted s count = refl
+mark-count noMark s filed count = refl
+mark-count forbiddenAndCounted s filed count = refl
+mark-count n1NotAllowedAndCounted s filed count = refl
 
 -- a number of the device that is neither T3512's time nor whether an update is due
 abbrev pub Untimed : Device → (Device → ℕ) → Type 0
@@ -113,10 +117,10 @@ pub record Keeps (h : Hot) (b : ℕ) (e : Effect) : Type 0 where
   pub net : e .mine .access .net ≡ accessOf h b .net
   pub others : e .theirs .access .net ≡ otherOf h b .net
 
--- how many entries each access has after an effect: as many as its deed leaves
-pub record Counts (h : Hot) (b : ℕ) (e : Effect) : Type 0 where
-  pub mine : e .mine .access .entries ≡ countBy (e .work .mine) (accessOf h b .entries)
-  pub theirs : e .theirs .access .entries ≡ countBy (e .work .theirs) (otherOf h b .entries)
+-- how many entries each access has after an effect: as many as its deed leaves; filed is how many with an import's
+pub record Counts (filed : ℕ) (h : Hot) (b : ℕ) (e : Effect) : Type 0 where
+  pub mine : e .mine .access .entries ≡ countBy (e .work .mine) filed (accessOf h b .entries)
+  pub theirs : e .theirs .access .entries ≡ countBy (e .work .theirs) filed (otherOf h b .entries)
 
 module _ (r : Record) where
   abbrev h : Hot
@@ -133,31 +137,31 @@ module _ (r : Record) where
       go false q false q′ true q″ = rw (q, q′, q″) (refl, refl)
       go false q false q′ false q″ = rw (q, q′, q″) (refl, refl)
 
-  clock-stays : (number b : ℕ) → Keeps h b (clockEffect h number b) × Counts h b (clockEffect h number b)
+  clock-stays : (filed number b : ℕ) → Keeps h b (clockEffect h number b) × Counts filed h b (clockEffect h number b)
   unfolding clockEffect
-  clock-stays number b =
+  clock-stays filed number b =
       let l = clock-left number (accessOf h b) in
       (record { dev = λ f k. refl; net = l .0; others = refl }, record { mine = l .1; theirs = refl })
 
   -- T3247 out, T3512 out
-  device-stays : (number b : ℕ) → Keeps h b (deviceEffect h number b) × Counts h b (deviceEffect h number b)
+  device-stays : (filed number b : ℕ) → Keeps h b (deviceEffect h number b) × Counts filed h b (deviceEffect h number b)
   unfolding deviceEffect t3247Effect t3512Effect
-  device-stays number b = go (eqb number 4) refl
+  device-stays filed number b = go (eqb number 4) refl
     where
-      go : (s : Bool) → eqb number 4 ≡ s → Keeps h b (deviceEffect h number b) × Counts h b (deviceEffect h number b)
+      go : (s : Bool) → eqb number 4 ≡ s → Keeps h b (deviceEffect h number b) × Counts filed h b (deviceEffect h number b)
       go true q = rw q (record { dev = λ f k. refl; net = refl; others = refl }, record { mine = refl; theirs = refl })
       go false q = rw q (record { dev = λ f k. k (h .dev .t3512length) 1; net = refl; others = refl }, record { mine = refl; theirs = refl })
 
-  timer-stays : (number b : ℕ) → Keeps h b (timerEffect h number b) × Counts h b (timerEffect h number b)
+  timer-stays : (filed number b : ℕ) → Keeps h b (timerEffect h number b) × Counts filed h b (timerEffect h number b)
   unfolding timerEffect
-  timer-stays number b = go (isDeviceTimer number) refl
+  timer-stays filed number b = go (isDeviceTimer number) refl
     where
-      go : (s : Bool) → isDeviceTimer number ≡ s → Keeps h b (timerEffect h number b) × Counts h b (timerEffect h number b)
-      go true q = rw q (device-stays number b)
-      go false q = rw q (clock-stays number b)
+      go : (s : Bool) → isDeviceTimer number ≡ s → Keeps h b (timerEffect h number b) × Counts filed h b (timerEffect h number b)
+      go true q = rw q (device-stays filed number b)
+      go false q = rw q (clock-stays filed number b)
 
   pub timer-keeps : (number b : ℕ) → Keeps h b (timerEffect h number b)
-  timer-keeps number b = timer-stays number b .0
+  timer-keeps number b = timer-stays 0 number b .0
 
   accept-keeps : (b time : ℕ) (f : Device → ℕ) → Untimed (h .dev) f → f (acceptDevice b time (h .dev)) ≡ f (h .dev)
   unfolding acceptDevice
@@ -174,33 +178,34 @@ module _ (r : Record) where
   message-keeps b protected draws (reading.Bad f at) s = record { dev = λ f′ k. refl; net = refl; others = refl }
 
   -- what is seen of the pending network is its seat on the message's access
-  pub seen-seat : (b protected : ℕ) (draws : Draws) → b < 2 → (p : ℕ)
-      → seatOf (seenAt r (Message b protected draws)) (accessOf h b .net) p ≡ seatIn (accessOf h b .entries) (accessOf h b .net) p (entriesIn r b .nets)
+  pub seen-seat : (octets : List ℕ) (b protected : ℕ) (draws : Draws) → b < 2 → (p : ℕ)
+      → seatOf (seenAt r (Message b protected draws) octets) (accessOf h b .net) p ≡ seatIn (accessOf h b .entries) (accessOf h b .net) p (entriesIn r b .nets)
   unfolding askOf seenOf seenBy sightOf seenIn accessOf entriesIn
-  seen-seat zero protected draws hb p = refl
-  seen-seat (suc zero) protected draws hb p = refl
-  seen-seat (suc (suc b)) protected draws hb p = absurd (omega arith)
+  seen-seat octets zero protected draws hb p = refl
+  seen-seat octets (suc zero) protected draws hb p = refl
+  seen-seat octets (suc (suc b)) protected draws hb p = absurd (omega arith)
 
-  message-counts : (b protected : ℕ) (draws : Draws) (m : Reading) → Counts h b (messageEffect h b protected draws m (seenAt r (Message b protected draws)))
+  message-counts : (filed : ℕ) (octets : List ℕ) (b protected : ℕ) (draws : Draws) (m : Reading) → Counts filed h b (messageEffect h b protected draws m (seenAt r (Message b protected draws) octets))
   unfolding messageEffect acceptEffect rejectEffect turns.accepted taught inState withStatus withAttempts rowTurn otherTurn rowWork rowDeed
-  message-counts b protected draws (reading.Accept g) = record { mine = refl; theirs = refl }
-  message-counts b protected draws (reading.Reject k) = record {
+  message-counts filed octets b protected draws (reading.Accept g) = record { mine = refl; theirs = refl }
+  message-counts filed octets b protected draws (reading.Reject k) = record {
     mine =
-        text-left (rowText (rowNow h b protected k)) b (h .dev .cardlimit) (k .cause) (seenAt r (Message b protected draws) .found) (t3346Time protected (k .t3346length) (draws .t3346)) (accessOf h b) .1
-        ∙ mark-count (markIn (rowText (rowNow h b protected k))) (seatOf (seenAt r (Message b protected draws)) (accessOf h b .net) protected) (accessOf h b .entries);
+        text-left (rowText (rowNow h b protected k)) b (h .dev .cardlimit) (k .cause) (seenAt r (Message b protected draws) octets .found) (t3346Time protected (k .t3346length) (draws .t3346)) (accessOf h b) .1
+        ∙ mark-count (markIn (rowText (rowNow h b protected k))) (seatOf (seenAt r (Message b protected draws) octets) (accessOf h b .net) protected) filed (accessOf h b .entries);
     theirs =
         across-left (acrossOf (rowText (rowNow h b protected k))) (h .dev .cardlimit) (otherOf h b) .1
-        ∙ across-count (acrossN1 b protected (k .cause) (rowNow h b protected k)) (accessOf h b .net) (otherOf h b .entries);
+        ∙ across-count (acrossN1 b protected (k .cause) (rowNow h b protected k)) (accessOf h b .net) filed (otherOf h b .entries);
   }
-  message-counts b protected draws (reading.Bad f at) = record { mine = refl; theirs = refl }
+  message-counts filed octets b protected draws (reading.Bad f at) = record { mine = refl; theirs = refl }
 
-  pub event-counts : (e : Event) (octets : List ℕ) → isTaken (answeredBy r e octets) ≡ true → Counts h (accessIn e) (effectIn r e octets)
-  unfolding accessIn effectOf cardEffect renewed newAccess startEffect started updateEffect updated pending inState keyEffect keySet keyed powerEffect turns.cycled withAttempts accessOf otherOf
+  pub event-counts : (e : Event) (octets : List ℕ) → isTaken (answeredBy r e octets) ≡ true → Counts (filedIn r octets) h (accessIn e) (effectIn r e octets)
+  unfolding accessIn effectOf cardEffect renewed newAccess startEffect started updateEffect updated pending inState keyEffect keySet keyed powerEffect turns.cycled importEffect withEntries askOf seenOf seenBy fileSeen withAttempts accessOf otherOf
   event-counts (Card home) octets t = record { mine = refl; theirs = refl }
   event-counts (Start b manual net code) octets t = record { mine = refl; theirs = refl }
-  event-counts (Message b protected draws) octets t = message-counts b protected draws (readingOf octets)
-  event-counts (Timer number b) octets t = timer-stays number b .1
+  event-counts (Message b protected draws) octets t = message-counts (filedIn r octets) octets b protected draws (readingOf octets)
+  event-counts (Timer number b) octets t = timer-stays (filedIn r octets) number b .1
   event-counts Power octets t = record { mine = refl; theirs = refl }
   event-counts (Key b set) octets t = record { mine = refl; theirs = refl }
   event-counts (Update b regtype net code uplink sessions) octets t = record { mine = refl; theirs = refl }
+  event-counts Import octets t = record { mine = refl; theirs = refl }
   event-counts Unknown octets t = record { mine = refl; theirs = refl }

@@ -10,12 +10,12 @@ use Rattle.record.specs.New.{newAccess}
 use Rattle.record.specs.declared.Access.{Access}
 use Rattle.record.specs.declared.Device.{Device}
 use Rattle.record.specs.declared.Record.{Record}
-use Rattle.record.specs.Setters.{inState, withAttempts, pending, keyed}
+use Rattle.record.specs.Setters.{inState, withAttempts, pending, keyed, withEntries}
 use Rattle.turns.specs.Turns.{started, updated, keySet, renewed}
 use Rattle.turns.specs.Turns as turns
-use Rattle.effects.specs.Effects.{ticked, scheduled, carded, cardEffect, startEffect, updateEffect, keyEffect, powerEffect}
+use Rattle.effects.specs.Effects.{ticked, scheduled, carded, cardEffect, startEffect, updateEffect, keyEffect, powerEffect, importEffect}
 use Rattle.rules.specs.declared.Event.{Event}
-use Rattle.rules.specs.declared.Event.the-variants.{Card, Start, Message, Timer, Power, Key, Update, Unknown}
+use Rattle.rules.specs.declared.Event.the-variants.{Card, Start, Message, Timer, Power, Key, Update, Import, Unknown}
 use Rattle.record.specs.Sides.{accessOf, otherOf}
 use Rattle.rules.specs.Plan.{accessIn, answerOf, effectOf}
 use Rattle.events.specs.Parts.{withCounts}
@@ -27,7 +27,7 @@ use Rattle.history.proofs.Stays.{small, both-kept, Untimed, Keeps, time
 
 module _ (r : Record) where
   event-home : (e : Event) (octets : List ℕ) → isTaken (answeredBy r e octets) ≡ true → effectIn r e octets .dev .home ≡ homeAfter e (r .hot .dev .home)
-  unfolding answeredBy answerOf effectOf homeAfter scheduled cardEffect carded startEffect updateEffect keyEffect powerEffect
+  unfolding answeredBy answerOf effectOf homeAfter scheduled cardEffect carded startEffect updateEffect keyEffect powerEffect importEffect
   event-home (Card home) octets t = refl
   event-home (Start b manual net code) octets t = refl
   event-home (Message b protected draw) octets t = message-keeps r b protected draw _ _ .dev (λ (d : Device). d .home) (λ time due. refl)
@@ -35,12 +35,13 @@ module _ (r : Record) where
   event-home Power octets t = refl
   event-home (Key b set) octets t = refl
   event-home (Update b regtype net code uplink sessions) octets t = refl
+  event-home Import octets t = refl
   event-home Unknown octets t = refl
 
   -- a number of the device that a card change leaves too, and is not T3512's
   event-device : (f : Device → ℕ) → ((home suci : ℕ) → f (carded home suci (r .hot .dev)) ≡ f (r .hot .dev)) → Untimed (r .hot .dev) f → (e : Event) (octets : List ℕ)
       → isTaken (answeredBy r e octets) ≡ true → f (effectIn r e octets .dev) ≡ f (r .hot .dev)
-  unfolding answeredBy answerOf effectOf cardEffect startEffect updateEffect keyEffect powerEffect
+  unfolding answeredBy answerOf effectOf cardEffect startEffect updateEffect keyEffect powerEffect importEffect
   event-device f k j (Card home) octets t = k home (length octets)
   event-device f k j (Start b manual net code) octets t = refl
   event-device f k j (Message b protected draw) octets t = message-keeps r b protected draw _ _ .dev f j
@@ -48,6 +49,7 @@ module _ (r : Record) where
   event-device f k j Power octets t = refl
   event-device f k j (Key b set) octets t = refl
   event-device f k j (Update b regtype net code uplink sessions) octets t = refl
+  event-device f k j Import octets t = refl
   event-device f k j Unknown octets t = refl
 
   pub home-step : (e : Event) (octets : List ℕ) → isTaken (answeredBy r e octets) ≡ true → next r e octets .hot .dev .home ≡ homeAfter e (r .hot .dev .home)
@@ -81,7 +83,7 @@ module _ (r : Record) where
 
   pub net-step : (e : Event) (octets : List ℕ) (t : isTaken (answeredBy r e octets) ≡ true) (w : ℕ) → w < 2
       → accessOf (next r e octets .hot) w .net ≡ pendingAfter w e (accessOf (r .hot) w .net)
-  unfolding accessIn answeredBy answerOf effectOf pendingAfter cardEffect renewed newAccess startEffect started updateEffect updated pending keyEffect keySet keyed powerEffect turns.cycled inState withAttempts accessOf otherOf
+  unfolding accessIn answeredBy answerOf effectOf pendingAfter cardEffect renewed newAccess startEffect started updateEffect updated pending keyEffect keySet keyed powerEffect turns.cycled importEffect withEntries inState withAttempts accessOf otherOf
   net-step (Card home) octets t w hw =
       taken-net r (Card home) octets t (small r (Card home) octets t) w hw ∙ elim (eqb 0 w) as (λ s. cond {A = ℕ} s 0 0 ≡ 0) [ true ↦ refl | false ↦ refl ]
   net-step (Start b manual net code) octets t w hw = net-set (Start b manual net code) octets t net refl refl w hw
@@ -90,4 +92,5 @@ module _ (r : Record) where
   net-step Power octets t w hw = net-kept Power octets t (record { dev = λ f k. refl; net = refl; others = refl }) w hw
   net-step (Key b set) octets t w hw = net-kept (Key b set) octets t (record { dev = λ f k. refl; net = refl; others = refl }) w hw
   net-step (Update b regtype net code uplink sessions) octets t w hw = net-set (Update b regtype net code uplink sessions) octets t net refl refl w hw
+  net-step Import octets t w hw = net-kept Import octets t (record { dev = λ f k. refl; net = refl; others = refl }) w hw
   net-step Unknown octets t w hw = net-kept Unknown octets t (record { dev = λ f k. refl; net = refl; others = refl }) w hw

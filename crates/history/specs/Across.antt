@@ -9,10 +9,10 @@ use Rattle.entries.specs.Entries.{n1ToLimit}
 use Rattle.record.specs.Setters.{counted}
 use Rattle.record.specs.Tests.{either, flip}
 use Rattle.rules.specs.declared.Event.{Event}
-use Rattle.rules.specs.declared.Event.the-variants.{Card, Start, Message, Timer, Power, Key, Update, Unknown}
+use Rattle.rules.specs.declared.Event.the-variants.{Card, Start, Message, Timer, Power, Key, Update, Import, Unknown}
 use Rattle.history.specs.Apart.{Half}
 
--- an event of one access: a start or an update, a message, T3510, T3511, T3502 or T3346 out, a key set; and T3512 out, which goes as access 0's
+-- an event of one access: a start or an update, a message, T3510, T3511, T3502 or T3346 out, a key set; and T3512 out and an import, which go as access 0's
 unfoldable pub isOwn : Event → Bool
 isOwn (Card home) = false
 isOwn (Start w manual net code) = true
@@ -21,6 +21,7 @@ isOwn (Timer number w) = flip (eqb number 4)
 isOwn Power = false
 isOwn (Key w set) = true
 isOwn (Update w regtype net code uplink sessions) = true
+isOwn Import = true
 isOwn Unknown = false
 
 -- what reaches the other access
@@ -43,6 +44,7 @@ crosses (Timer number w) m = untouched
 crosses Power m = untouched
 crosses (Key w set) m = untouched
 crosses (Update w regtype net code uplink sessions) m = untouched
+crosses Import m = untouched
 crosses Unknown m = untouched
 
 -- an access's record after what reached it: the limits are those of the card and N1 counters, net is the network that the other access registers with

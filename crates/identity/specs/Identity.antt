@@ -8,7 +8,7 @@ use lib.Dec.{ltb, eqb}
 use Rattle.laws.specs.Bounds.{atMost}
 use Rattle.laws.specs.Upto.{seekTo}
 use Rattle.record.specs.Tests.{both}
-use Rattle.record.specs.Network.{networkOf}
+use Rattle.networks.specs.Networks.{networkOf}
 
 -- The GUTIs as sent, F2 and ten octets for access 0, then for access 1. A slot is 0 or 1 for the GUTI of that access, and 2 for the SUCI.
 -- The network of a GUTI is its first three octets.

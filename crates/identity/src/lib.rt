@@ -1,6 +1,6 @@
 // The identity that a request opens with, handed back as a part of what held it.
+use networks::triple;
 use record::and;
-use record::triple;
 ghost use mathlib.Core.Path.{_≡_};
 ghost use Prim.Native.Nat.{_≤_};
 ghost use lib.ListN.{length};

@@ -1,5 +1,6 @@
 -- Laws of the definitions over arrays of numbers, and of contracts.
 pub mod Lists
 pub mod One
+pub mod Seek
 pub mod Tests
 pub mod Zip

@@ -1,11 +1,12 @@
--- A loop that moves each element one place to the front, and a test that fails past the end of a list. Assumes nothing.
+-- A loop that moves each element one place to the front, a test that fails past the end of a list, and a store behind what was written. Assumes nothing.
 use mathlib.Core.Path.{_≡_, refl, sym, ap, _∙_}
 use mathlib.Core.Bool.{Bool, true, false, true≢false}
-use mathlib.Core.List.{List, [], _∷_, _++_}
+use mathlib.Core.List.{List, [], _∷_, _++_, append-assoc}
 use Prim.Native.Nat.{ℕ, zero, suc, _+_, _<_}
 use native.Mathlib.Numerals.{add-one}
 use native.Mathlib.Omega.{arith}
 use lib.ListN.{length, getD, set, drop}
+use lib.Seq.{drop-cons, set-append-seam}
 use Rattle.laws.specs.Upto.{upto, first}
 use Rattle.laws.proofs.Zip.{zip-step}
 
@@ -41,3 +42,9 @@ pub inside : (p : ℕ → Bool) → p 0 ≡ false → (i : ℕ) (xs : List ℕ) 
 inside p z i [] t = absurd (true≢false (sym t ∙ z))
 inside p z zero (x ∷ xs) t = omega arith
 inside p z (suc i) (x ∷ xs) t = omega (arith, inside p z i xs t)
+
+-- the store at the end of what is kept
+pub stored : (l o : List ℕ) (n x : ℕ) → n ≡ length l → n < length o → set (l ++ drop n o) n x ≡ (l ++ (x ∷ [])) ++ drop (n + 1) o
+stored l o n x e h =
+    ap (λ (r : List ℕ). set (l ++ r) n x) (drop-cons o n 0 h) ∙ ap (λ (m : ℕ). set (l ++ (getD o n 0 ∷ drop (suc n) o)) m x) e ∙ set-append-seam l (getD o n 0) (drop (suc n) o) x
+    ∙ sym (append-assoc l (x ∷ []) (drop (suc n) o)) ∙ ap (λ (m : ℕ). (l ++ (x ∷ [])) ++ drop m o) (sym (add-one n))

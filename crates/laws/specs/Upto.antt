@@ -29,6 +29,11 @@ seekTo p zero xs = 0
 seekTo p (suc n) [] = cond (p 0) 0 (suc (seekTo p n []))
 seekTo p (suc n) (x ∷ xs) = cond (p x) 0 (suc (seekTo p n xs))
 
+-- each element passes
+unfoldable pub every : (ℕ → Bool) → List ℕ → Bool
+every p [] = true
+every p (x ∷ xs) = cond (p x) (every p xs) false
+
 -- each of the first n elements passes
 unfoldable pub allTo : (ℕ → Bool) → ℕ → List ℕ → Bool
 allTo p zero xs = true

@@ -1,5 +1,5 @@
--- Network codes: three octets, the first one highest, each of two halves. Assumes nothing.
-use Prim.Native.Nat.{ℕ, _+_, _*_, _/_, _%_}
+-- Network codes: the halves of a network's three octets. Assumes nothing.
+use Prim.Native.Nat.{ℕ, _/_, _%_}
 use mathlib.Core.Bool.{Bool}
 use lib.Dec.{ltb, eqb}
 use Rattle.record.specs.Tests.{both, either, isShort}
@@ -20,7 +20,3 @@ isNetwork n =
     (both (either (isDigit (half 4096 n)) (eqb (half 4096 n) 15))
     (both (isDigit (half 256 n))
     (both (isDigit (half 16 n)) (isDigit (half 1 n)))))))
-
--- three octets as a network
-abbrev pub networkOf : ℕ → ℕ → ℕ → ℕ
-networkOf a b c = a * 65536 + b * 256 + c

@@ -1,7 +1,7 @@
 -- What an event sets in an access's numbers: one setter for each group that document 01's rows name. Assumes nothing.
 use Prim.Native.Nat.{ℕ}
 use mathlib.Core.Bool.{Bool, cond}
-use Rattle.laws.specs.Bounds.{oneMore}
+use Rattle.entries.specs.Entries.{grown}
 use Rattle.record.specs.declared.Access.{Access}
 
 -- the state
@@ -261,5 +261,31 @@ entered found a = record {
   lastcode = a .lastcode;
   ksi = a .ksi;
   equivalents = a .equivalents;
-  entries = cond found (a .entries) (oneMore 16 (a .entries));
+  entries = grown found (a .entries);
+}
+
+-- so many entries
+unfoldable pub withEntries : ℕ → Access → Access
+withEntries entries a = record {
+  state = a .state;
+  status = a .status;
+  attempts = a .attempts;
+  cardcounter = a .cardcounter;
+  t3510 = a .t3510;
+  t3511 = a .t3511;
+  t3502 = a .t3502;
+  t3346 = a .t3346;
+  t3502length = a .t3502length;
+  net = a .net;
+  code = a .code;
+  regtype = a .regtype;
+  uplink = a .uplink;
+  sessions = a .sessions;
+  guti = a .guti;
+  visited = a .visited;
+  lastnet = a .lastnet;
+  lastcode = a .lastcode;
+  ksi = a .ksi;
+  equivalents = a .equivalents;
+  entries = entries;
 }

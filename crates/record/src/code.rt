@@ -1,9 +1,8 @@
 // Network codes.
 use crate::joins::all;
 use crate::joins::or;
-use octets::word;
 ghost use mathlib.Core.Path.{_≡_};
-ghost use Rattle.record.specs.Network.{isNetwork, networkOf};
+ghost use Rattle.record.specs.Network.{isNetwork};
 
 pub fn network(n: u32) -> bool
     ensures { λ r. ⌜ r ≡ isNetwork n ⌝ }
@@ -21,14 +20,4 @@ pub fn network(n: u32) -> bool
         n / 65536 % 16 < 10,
         rest,
     )
-}
-
-// A network or an area's code, from its three octets.
-pub fn triple(a: u8, b: u8, c: u8) -> u32
-    ensures { λ r. ⌜ r ≡ networkOf a b c ⌝ }
-{
-    let x = word(a);
-    let y = word(b);
-    let z = word(c);
-    x * 65536 + y * 256 + z
 }

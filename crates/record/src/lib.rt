@@ -13,7 +13,6 @@ pub use answers::number;
 pub use answers::offset;
 pub use answers::taken;
 pub use code::network;
-pub use code::triple;
 pub use joins::all;
 pub use joins::and;
 pub use joins::not;
@@ -31,6 +30,7 @@ pub use setters::keyed;
 pub use setters::moved;
 pub use setters::pending;
 pub use setters::taught;
+pub use setters::with_entries;
 pub use sides::access_of;
 pub use sides::other_of;
 

@@ -1,9 +1,8 @@
 // What an event sets in an access's numbers: one setter for each group that document 01's rows name.
 use crate::Access;
-use entries::one_more;
+use entries::grow;
 ghost use mathlib.Core.Path.{_≡_};
 ghost use mathlib.Core.Bool.{cond};
-ghost use Rattle.laws.specs.Bounds.{oneMore};
 ghost use Rattle.record.specs.Setters as sets;
 
 // State, update status and attempt counter at once: one copy of the numbers, where three setters would make three.
@@ -84,20 +83,18 @@ pub fn taught(given: bool, count: u8, t3502length: u16, a: Access) -> Access
     q
 }
 
-// One entry more where the network had none.
-fn more(found: bool, entries: u8) -> u8
-    ensures { λ r. ⌜ r ≡ cond found entries (oneMore 16 entries) ⌝ }
-{
-    if found {
-        return entries;
-    }
-    one_more(16, entries)
-}
-
 pub fn entered(found: bool, a: Access) -> Access
     ensures { λ r. ⌜ r ≡ sets.entered found a ⌝ }
 {
     let mut q = a;
-    q.entries = more(found, a.entries);
+    q.entries = grow(found, a.entries);
+    q
+}
+
+pub fn with_entries(entries: u8, a: Access) -> Access
+    ensures { λ r. ⌜ r ≡ sets.withEntries entries a ⌝ }
+{
+    let mut q = a;
+    q.entries = entries;
     q
 }

@@ -17,7 +17,8 @@ use Rattle.record.specs.Tests.{either}
 use Rattle.identity.specs.Identity.{slotOf, partOf, identityOf}
 use Rattle.request.specs.Layout.{Fields, lengthIn, withLead, itemOctets, laid, openingHead, opening, itemsOf, octetsOf, clear, nested, shown, levelsOf, layout}
 use Rattle.request.specs.Layout.Form.{shortForm, longForm, plainForm}
-use Rattle.request.specs.Writing.{octets3, octets2, lastOf, uplinkOf, sessionsOf, sayingOf, gutisOf}
+use Rattle.networks.specs.Networks.{octets3}
+use Rattle.request.specs.Writing.{octets2, lastOf, uplinkOf, sessionsOf, sayingOf, gutisOf}
 use Rattle.request.specs.Steps.{spliced, Put, tailOctets, sizedOf, heldLengths, sentOf, sentOver}
 use Rattle.request.specs.declared.writing.Lengths.{Lengths}
 

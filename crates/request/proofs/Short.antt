@@ -12,7 +12,8 @@ use Rattle.record.specs.Tests.{either}
 use Rattle.record.specs.Sides.{accessOf}
 use Rattle.ranges.specs.Valid.{validOf}
 use Rattle.request.specs.Layout.{octetsOf, clear, nested, shown, levelsOf, layout}
-use Rattle.request.specs.Writing.{octets3, octets2, lastOf, uplinkOf, sessionsOf, sayingOf, saysOf, fieldsOf, requestOf}
+use Rattle.networks.specs.Networks.{octets3}
+use Rattle.request.specs.Writing.{octets2, lastOf, uplinkOf, sessionsOf, sayingOf, saysOf, fieldsOf, requestOf}
 use Rattle.request.proofs.Pieces.{sized-most, sum-most, long, nested-long, take-short, identity-short}
 use Rattle.request.proofs.Ranges.{ready}
 

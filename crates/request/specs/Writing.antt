@@ -5,6 +5,7 @@ use mathlib.Core.List.{List, [], _∷_, _++_}
 use lib.ListN.{length, take}
 use lib.Dec.{leb, eqb}
 use Rattle.laws.specs.Upto.{over}
+use Rattle.networks.specs.Networks.{octets3}
 use Rattle.record.specs.Tests.{both, either}
 use Rattle.ranges.specs.Valid.{validOf}
 use Rattle.record.specs.Answers.{isTaken}
@@ -20,10 +21,6 @@ use Rattle.request.specs.declared.Written.{Written}
 -- F2 and ten octets for each access
 unfoldable pub gutisOf : List ℕ → List ℕ → List ℕ
 gutisOf guti0 guti1 = (0xF2 ∷ guti0) ++ (0xF2 ∷ guti1)
-
--- three octets, the first one highest
-abbrev pub octets3 : ℕ → List ℕ
-octets3 n = (n / 65536 % 256) ∷ (n / 256 % 256) ∷ (n % 256) ∷ []
 
 -- a network with a three-octet code, if a last area is held
 unfoldable pub lastOf : Access → List ℕ

@@ -18,7 +18,8 @@ ghost use Rattle.ranges.specs.Valid.{validOf};
 ghost use Rattle.record.specs.Tests.{both};
 ghost use Rattle.request.specs.Layout.{withLead, itemOctets, openingHead, octetsOf, nested, layout};
 ghost use Rattle.request.specs.Layout.Form.{shortForm, plainForm};
-ghost use Rattle.request.specs.Writing.{gutisOf, octets3, octets2, lastOf, uplinkOf, sessionsOf, sayingOf, saysOf, writtenOf, bufferOf};
+ghost use Rattle.networks.specs.Networks.{octets3};
+ghost use Rattle.request.specs.Writing.{gutisOf, octets2, lastOf, uplinkOf, sessionsOf, sayingOf, saysOf, writtenOf, bufferOf};
 ghost use Rattle.request.specs.Steps.{Put, tailOctets, sizedOf, heldLengths, sentOf, sentOver};
 
 // How many octets there are of each piece behind the identity.

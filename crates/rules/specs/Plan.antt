@@ -1,5 +1,5 @@
 -- What an event comes to: its answer; if taken its effect, else nothing changed. Assumes nothing.
-use Prim.Native.Nat.{ℕ}
+use Prim.Native.Nat.{ℕ, _<_}
 use mathlib.Core.Path.{_≡_}
 use mathlib.Core.Bool.{Bool, true, false, cond}
 use mathlib.Core.List.{List}
@@ -20,7 +20,7 @@ use Rattle.turns.specs.declared.Clocks.{Clocks}
 use Rattle.turns.specs.Timers.{flagAfter, toldOf, clocksOf, clocked}
 use Rattle.turns.specs.Turns.{still}
 use Rattle.rules.specs.declared.Event.{Event}
-use Rattle.rules.specs.declared.Event.the-variants.{Card, Start, Message, Timer, Power, Key, Update, Unknown}
+use Rattle.rules.specs.declared.Event.the-variants.{Card, Start, Message, Timer, Power, Key, Update, Import, Unknown}
 use Rattle.rules.specs.declared.Asked.{Asked}
 use Rattle.rules.specs.declared.Asked.the-variants.{No, On}
 use Rattle.rules.specs.declared.Reply.{Reply}
@@ -30,8 +30,8 @@ use Rattle.rules.specs.declared.Site.{Site}
 use Rattle.rules.specs.declared.Site.the-variants as site
 use Rattle.rules.specs.declared.Plan.{Plan}
 use Rattle.record.specs.Sides.{accessOf, hotOf}
-use Rattle.checks.specs.Answers.{startAnswer, messageAnswer, timerAnswer, keyAnswer, updateAnswer, cardAnswer, rowNow}
-use Rattle.effects.specs.Effects.{Effect, ticked, idle, plain, cardEffect, startEffect, keyEffect, updateEffect, acceptEffect, timerEffect, powerEffect, rejectEffect}
+use Rattle.checks.specs.Answers.{startAnswer, messageAnswer, timerAnswer, keyAnswer, updateAnswer, cardAnswer, importAnswer, rowNow}
+use Rattle.effects.specs.Effects.{Effect, ticked, idle, plain, cardEffect, startEffect, keyEffect, updateEffect, acceptEffect, timerEffect, powerEffect, rejectEffect, importEffect}
 
 -- a message is read once, for its answer and its effect: m is what was read of its octets; of another event nothing is read
 abbrev pub Read : Event → List ℕ → Reading → Type 0
@@ -42,9 +42,22 @@ Read (Timer number w) octets m = Unit {0}
 Read Power octets m = Unit {0}
 Read (Key w set) octets m = Unit {0}
 Read (Update w regtype net code uplink sessions) octets m = Unit {0}
+Read Import octets m = Unit {0}
 Read Unknown octets m = Unit {0}
 
--- the network that is looked up before an event is decided: a start's or an update's, or the pending one of a message's access
+-- the numbers that a taken event keeps in an octet: a card's SUCI's length, the entries that are held with an import's
+abbrev pub Fits : Event → ℕ → List ℕ → Type 0
+Fits (Card home) at octets = length octets < 256
+Fits (Start w manual net code) at octets = Unit {0}
+Fits (Message w protected draws) at octets = Unit {0}
+Fits (Timer number w) at octets = Unit {0}
+Fits Power at octets = Unit {0}
+Fits (Key w set) at octets = Unit {0}
+Fits (Update w regtype net code uplink sessions) at octets = Unit {0}
+Fits Import at octets = at < 256
+Fits Unknown at octets = Unit {0}
+
+-- the network that is looked up before an event is decided: a start's or an update's, or the pending one of a message's access; or an import's file
 unfoldable pub askOf : Hot → Event → Ask
 askOf h (Card home) = ask.Nothing
 askOf h (Start w manual net code) = ask.Network w net
@@ -53,6 +66,7 @@ askOf h (Timer number w) = ask.Nothing
 askOf h Power = ask.Nothing
 askOf h (Key w set) = ask.Nothing
 askOf h (Update w regtype net code uplink sessions) = ask.Network w net
+askOf h Import = ask.File
 askOf h Unknown = ask.Nothing
 
 -- "area listed (access 0)": the area that is looked up, that of a start or an update over access 0
@@ -67,9 +81,10 @@ siteOf (Timer number w) = site.Nothing
 siteOf Power = site.Nothing
 siteOf (Key w set) = site.Nothing
 siteOf (Update w regtype net code uplink sessions) = siteAt w net code
+siteOf Import = site.Nothing
 siteOf Unknown = site.Nothing
 
--- the event's own access; an event of both does the same on each, and goes as access 0's
+-- the event's own access; an import's is 0; an event of both does the same on each, and goes as access 0's
 unfoldable pub accessIn : Event → ℕ
 accessIn (Card home) = 0
 accessIn (Start w manual net code) = w
@@ -78,6 +93,7 @@ accessIn (Timer number w) = w
 accessIn Power = 0
 accessIn (Key w set) = w
 accessIn (Update w regtype net code uplink sessions) = w
+accessIn Import = 0
 accessIn Unknown = 0
 
 -- the answer; an event that is none of these answers 1
@@ -89,6 +105,7 @@ answerOf h (Timer number w) s listed octets = timerAnswer h number w
 answerOf h Power s listed octets = answer.Taken
 answerOf h (Key w set) s listed octets = keyAnswer h w set
 answerOf h (Update w regtype net code uplink sessions) s listed octets = updateAnswer h w regtype net code uplink sessions s listed
+answerOf h Import s listed octets = importAnswer octets s
 answerOf h Unknown s listed octets = answer.Range
 
 -- what a taken message does
@@ -106,6 +123,7 @@ effectOf h (Timer number w) s octets = timerEffect h number w
 effectOf h Power s octets = powerEffect h
 effectOf h (Key w set) s octets = keyEffect h w set
 effectOf h (Update w regtype net code uplink sessions) s octets = updateEffect h w regtype net code uplink sessions
+effectOf h Import s octets = importEffect h (s .at)
 effectOf h Unknown s octets = plain h 0 (still (accessOf h 0)) false
 
 -- the numbers after it

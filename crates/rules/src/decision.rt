@@ -6,6 +6,7 @@ use crate::Site;
 use crate::replies::refused_reply;
 use crate::replies::taken_reply;
 use checks::card_answer;
+use checks::import_answer;
 use checks::key_answer;
 use checks::message_answer;
 use checks::row_now;
@@ -16,6 +17,7 @@ use effects::Sides;
 use effects::accept_effect;
 use effects::card_effect;
 use effects::idle;
+use effects::import_effect;
 use effects::key_effect;
 use effects::plain;
 use effects::power_effect;
@@ -38,8 +40,6 @@ use turns::clocked;
 use turns::still;
 ghost use mathlib.Core.Path.{_≡_};
 ghost use mathlib.Core.Bool.{true, false};
-ghost use Prim.Native.Nat.{ℕ, _<_};
-ghost use lib.ListN.{length};
 ghost use Rattle.record.specs.Answers.{isTaken};
 ghost use Rattle.turns.specs.Timers as clocks;
 ghost use Rattle.turns.specs.Turns as events;
@@ -84,6 +84,7 @@ fn heard(e: Event, octets: &[u8]) -> Reading
             uplink: _,
             sessions: _,
         } => unread,
+        Event::Import => unread,
         Event::Unknown => unread,
     }
 }
@@ -121,6 +122,7 @@ pub fn ask_of(h: Hot, e: Event) -> Ask
             uplink: _,
             sessions: _,
         } => Ask::Network { access, net },
+        Event::Import => Ask::File,
         Event::Unknown => Ask::Nothing,
     }
 }
@@ -164,6 +166,7 @@ pub fn site_of(e: Event) -> Site
             uplink: _,
             sessions: _,
         } => site_at(access, net, code),
+        Event::Import => Site::Nothing,
         Event::Unknown => Site::Nothing,
     }
 }
@@ -195,6 +198,7 @@ fn access_in(e: Event) -> u8
             uplink: _,
             sessions: _,
         } => access,
+        Event::Import => 0,
         Event::Unknown => 0,
     }
 }
@@ -227,6 +231,7 @@ fn answer_of(h: Hot, e: Event, s: Seen, listed: bool, m: Reading, octets: &[u8])
             uplink,
             sessions,
         } => update_answer(h, access, regtype, net, code, uplink, sessions, s, listed),
+        Event::Import => import_answer(octets, s),
         Event::Unknown => Answer::Range,
     }
 }
@@ -251,9 +256,9 @@ fn message_effect(h: Hot, w: u8, protected: u8, draws: Draws, m: Reading, s: See
     }
 }
 
-// A card that was taken has a SUCI of at most 64 octets.
+// A card that was taken has a SUCI of at most 64 octets; with an import that was taken at most sixteen entries are held.
 fn effect_of(h: Hot, e: Event, s: Seen, m: Reading, octets: &[u8]) -> Sides
-    requires { ⌜ ((home : ℕ) → e ≡ Event.Card home → length (now octets) < 256) ⌝ }
+    requires { ⌜ rules.Fits e (s .at) (now octets) ⌝ }
     requires { ⌜ rules.Read e (now octets) m ⌝ }
     ensures { λ r. ⌜ r ≡ sidesOf (rules.accessIn e) (rules.effectOf h e s (now (octets .entry))) ⌝ }
 {
@@ -281,6 +286,7 @@ fn effect_of(h: Hot, e: Event, s: Seen, m: Reading, octets: &[u8]) -> Sides
             uplink,
             sessions,
         } => update_effect(h, access, regtype, net, code, uplink, sessions),
+        Event::Import => import_effect(h, s.at as u8),
         Event::Unknown => none(h, 0),
     }
 }
@@ -336,7 +342,7 @@ fn refused_plan(h: Hot, w: u8, n: Answer) -> Plan
 }
 
 fn decided_by(n: Answer, h: Hot, e: Event, s: Seen, m: Reading, octets: &[u8]) -> Plan
-    requires { ⌜ (isTaken n ≡ true → (home : ℕ) → e ≡ Event.Card home → length (now octets) < 256) ⌝ }
+    requires { ⌜ (isTaken n ≡ true → rules.Fits e (s .at) (now octets)) ⌝ }
     requires { ⌜ rules.Read e (now octets) m ⌝ }
     ensures { λ r. ⌜ r ≡ rules.decidedBy n h (rules.accessIn e) (rules.effectOf h e s (now (octets .entry))) ⌝ }
 {

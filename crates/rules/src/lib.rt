@@ -16,7 +16,7 @@ pub use decision::site_of;
 pub use deeds::deed_on;
 pub use replies::refused_reply;
 
-// A card's SUCI and a message's octets come beside the event.
+// A card's SUCI, a message's octets and the file of an import come beside the event.
 pub enum Event {
     Card(u32),
     Start {
@@ -47,6 +47,7 @@ pub enum Event {
         uplink: u16,
         sessions: u16,
     },
+    Import,
     Unknown,
 }
 
@@ -67,10 +68,11 @@ pub struct Reply {
     pub update: Asked,
 }
 
-// The network whose entry is looked up before an event is decided.
+// The network whose entry is looked up before an event is decided, or the file whose networks are.
 pub enum Ask {
     Nothing,
     Network { access: u8, net: u32 },
+    File,
 }
 
 // The area that is looked up in the lists.

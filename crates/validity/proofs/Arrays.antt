@@ -1,4 +1,4 @@
--- Arrays read to a count, place by place: all elements pass, no two have one key; what a store, a change along another array and a search do.
+-- Arrays read to a count, place by place: all elements pass, no two have one key; what a store and a change along another array do.
 -- Each is by induction on the array or on the count. Assumes nothing.
 use Prim.Native.Nat.{ℕ, zero, suc, _≤_, _<_}
 use mathlib.Core.Path.{_≡_, refl, ap}
@@ -10,6 +10,7 @@ use lib.Dec.{eqb}
 use lib.ListN.{length, getD, set}
 use borrow.Author.Tests.{eqb-true, eqb-false, eq-eqb, ne-eqb}
 use Rattle.laws.specs.Upto.{upto, seekTo, allTo, distinctTo, sameBy}
+use Rattle.laws.proofs.Seek.{seek-before, seek-is}
 use Rattle.record.proofs.Bounds.{one, rest}
 use Rattle.validity.proofs.Bools.{both-true}
 
@@ -44,57 +45,6 @@ of-all p (suc n) xs f =
 -- fewer of them
 pub all-fewer : (p : ℕ → Bool) (m n : ℕ) (xs : List ℕ) → m ≤ n → All p n xs → All p m xs
 all-fewer p m n xs h f k g = f k (omega arith)
-
-module _ (p : ℕ → Bool) where
-  pub seek-le : (n : ℕ) (xs : List ℕ) → seekTo p n xs ≤ n
-  unfolding seekTo
-  seek-le zero xs = omega arith
-  seek-le (suc n) [] = elim (p 0) as (λ b. cond b 0 (suc (seekTo p n [])) ≤ suc n) [ true ↦ omega arith | false ↦ omega (arith, seek-le n []) ]
-  seek-le (suc n) (x ∷ xs) = elim (p x) as (λ b. cond b 0 (suc (seekTo p n xs)) ≤ suc n) [ true ↦ omega arith | false ↦ omega (arith, seek-le n xs) ]
-
-  -- what is found passes
-  pub seek-found : (n : ℕ) (xs : List ℕ) → seekTo p n xs < n → p (getD xs (seekTo p n xs) 0) ≡ true
-  unfolding seekTo
-  seek-found zero xs h = absurd (omega arith)
-  seek-found (suc n) [] h = go (p 0) refl h (seek-found n [])
-    where
-      go : (b : Bool) → p 0 ≡ b → cond (p 0) 0 (suc (seekTo p n [])) < suc n → (seekTo p n [] < n → p 0 ≡ true) → p (getD [] (cond (p 0) 0 (suc (seekTo p n []))) 0) ≡ true
-      go true e k ih = e
-      go false e k ih = ih (let q : suc (seekTo p n []) < suc n = rw e at k in omega arith)
-  seek-found (suc n) (x ∷ xs) h = go (p x) refl h (seek-found n xs)
-    where
-      go : (b : Bool) → p x ≡ b → cond (p x) 0 (suc (seekTo p n xs)) < suc n → (seekTo p n xs < n → p (getD xs (seekTo p n xs) 0) ≡ true) → p (getD (x ∷ xs) (cond (p x) 0 (suc (seekTo p n xs))) 0) ≡ true
-      go true e k ih = rw e e
-      go false e k ih = rw e (ih (let q : suc (seekTo p n xs) < suc n = rw e at k in omega arith))
-
-  -- those before it do not
-  pub seek-before : (n : ℕ) (xs : List ℕ) (k : ℕ) → k < seekTo p n xs → p (getD xs k 0) ≡ false
-  unfolding seekTo
-  seek-before zero xs k h = absurd (omega arith)
-  seek-before (suc n) [] k h = go (p 0) refl h
-    where
-      go : (b : Bool) → p 0 ≡ b → k < cond (p 0) 0 (suc (seekTo p n [])) → p 0 ≡ false
-      go true e g = let q : k < 0 = rw e at g in absurd (omega arith)
-      go false e g = e
-  seek-before (suc n) (x ∷ xs) zero h = go (p x) refl h
-    where
-      go : (b : Bool) → p x ≡ b → 0 < cond (p x) 0 (suc (seekTo p n xs)) → p x ≡ false
-      go true e g = let q : 0 < 0 = rw e at g in absurd (omega arith)
-      go false e g = e
-  seek-before (suc n) (x ∷ xs) (suc k) h = go (p x) refl h (seek-before n xs k)
-    where
-      go : (b : Bool) → p x ≡ b → suc k < cond (p x) 0 (suc (seekTo p n xs)) → (k < seekTo p n xs → p (getD xs k 0) ≡ false) → p (getD xs k 0) ≡ false
-      go true e g ih = let q : suc k < 0 = rw e at g in absurd (omega arith)
-      go false e g ih = ih (let q : suc k < suc (seekTo p n xs) = rw e at g in omega arith)
-
-  -- the first that passes, or the count where none does
-  pub seek-is : (n : ℕ) (xs : List ℕ) (i : ℕ) → i ≤ n → ((k : ℕ) → k < i → p (getD xs k 0) ≡ false) → (i < n → p (getD xs i 0) ≡ true) → seekTo p n xs ≡ i
-  unfolding seekTo
-  seek-is zero xs i h f t = omega arith
-  seek-is (suc n) [] zero h f t = rw (t (omega arith))
-  seek-is (suc n) (x ∷ xs) zero h f t = rw (t (omega arith))
-  seek-is (suc n) [] (suc i) h f t = rw (f 0 (omega arith)) (ap suc (seek-is n [] i (omega arith) (λ k g. f (suc k) (omega arith)) (λ g. t (omega arith))))
-  seek-is (suc n) (x ∷ xs) (suc i) h f t = rw (f 0 (omega arith)) (ap suc (seek-is n xs i (omega arith) (λ k g. f (suc k) (omega arith)) (λ g. t (omega arith))))
 
 module _ (key : ℕ → ℕ) where
   pub once-of : (n : ℕ) (xs : List ℕ) → distinctTo key n xs ≡ true → Once key n xs

@@ -13,15 +13,15 @@ use borrow.Author.Tests.{leb-true, leb-false, le-leb, ltb-true, ltb-false, lt-lt
 use Rattle.laws.specs.Upto.{upto, seekTo}
 use Rattle.entries.specs.declared.Entries.{Entries}
 use Rattle.entries.specs.declared.Seat.{Seat}
-use Rattle.entries.specs.Entries.{sameNet, entriesHeld, placeIn, hasEntry, liftMark, bumped, putAt, clearUnless, raised, banned, barredBy, unforbidden, n1ToLimit, swept, powered}
+use Rattle.entries.specs.Entries.{sameNet, entriesHeld, placeIn, hasEntry, liftMark, bumped, putAt, clearUnless, raised, banned, barredBy, unforbidden, n1ToLimit, swept, powered, grown, imported}
 use Rattle.record.specs.Tests.{upTo, isFlag}
 use Rattle.record.specs.Network.{isNetwork}
 use Rattle.ranges.specs.Valid.{itself}
 use Rattle.validity.specs.Sized.{Columns}
 use Rattle.validity.proofs.Bools.{most-is, more-fits}
-use Rattle.validity.proofs.Arrays.{All, Once, seek-le, seek-found, seek-before, set-reads, upto-reads}
+use Rattle.laws.proofs.Seek.{seek-le, seek-found, seek-before}
+use Rattle.validity.proofs.Arrays.{All, Once, set-reads, upto-reads}
 use Rattle.validity.proofs.Good.{Held}
-use Rattle.validity.proofs.Setters.{grown}
 
 -- the place that a search found: the network's, or the first free one, and there is room for it
 pub record Sought (n net at : ℕ) (found : Bool) (nets : List ℕ) : Type 0 where
@@ -150,6 +150,18 @@ module _ (banlimit n1limit n : ℕ) (t : Entries) (w : Columns t) (g : Held banl
       barred = put-all n (k .net) (k .at) (k .found) (t .nets) s isFlag (t .barred) 1 (w .barred) refl (g .barred);
       once = put-once n (k .net) (k .at) (k .found) (t .nets) s (w .nets) (g .once);
     }
+
+  pub imported-held : (net : ℕ) → Sought n net (placeIn n net (t .nets)) (hasEntry n net (t .nets)) (t .nets) → isNetwork net ≡ true
+      → Held banlimit n1limit (grown (hasEntry n net (t .nets)) n) (imported net n t)
+  unfolding imported
+  imported-held net s i = record {
+    nets = put-all n net (placeIn n net (t .nets)) (hasEntry n net (t .nets)) (t .nets) s isNetwork (t .nets) net (w .nets) i (g .nets);
+    bans = clear-all n net (placeIn n net (t .nets)) (hasEntry n net (t .nets)) (t .nets) s (upTo banlimit) (t .bans) (w .bans) (le-leb 0 banlimit (omega arith)) (g .bans);
+    n1s = clear-all n net (placeIn n net (t .nets)) (hasEntry n net (t .nets)) (t .nets) s (upTo n1limit) (t .n1s) (w .n1s) (le-leb 0 n1limit (omega arith)) (g .n1s);
+    forbidden = put-all n net (placeIn n net (t .nets)) (hasEntry n net (t .nets)) (t .nets) s isFlag (t .forbidden) 1 (w .forbidden) refl (g .forbidden);
+    barred = clear-all n net (placeIn n net (t .nets)) (hasEntry n net (t .nets)) (t .nets) s isFlag (t .barred) (w .barred) refl (g .barred);
+    once = put-once n net (placeIn n net (t .nets)) (hasEntry n net (t .nets)) (t .nets) s (w .nets) (g .once);
+  }
 
   pub accepted-held : (k : Seat) → Held banlimit n1limit n (unforbidden k t)
   unfolding unforbidden

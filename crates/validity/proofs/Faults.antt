@@ -29,9 +29,9 @@ use Rattle.record.specs.Network.{isNetwork}
 use Rattle.record.specs.Sides.{accessOf, otherOf}
 use Rattle.record.specs.Tests.{both, flip, within, isFlag}
 use Rattle.turns.specs.Rejects.{isIgnored}
-use Rattle.checks.specs.Answers.{check, isSame, isFree, placeAnswer, startRange, mayStart, startAnswer, updateRange, mayUpdate, updateAnswer, rowNow, isFull, rejectAnswer, readAnswer, messageRange, messageAnswer, timerRange, runs, timerAnswer, keyAnswer, cardAnswer}
+use Rattle.checks.specs.Answers.{check, isSame, isFree, placeAnswer, startRange, mayStart, startAnswer, updateRange, mayUpdate, updateAnswer, rowNow, isFull, rejectAnswer, readAnswer, messageRange, messageAnswer, timerRange, runs, timerAnswer, keyAnswer, cardAnswer, importRange, importAnswer}
 use Rattle.rules.specs.declared.Event.{Event}
-use Rattle.rules.specs.declared.Event.the-variants.{Card, Start, Message, Timer, Power, Key, Update, Unknown}
+use Rattle.rules.specs.declared.Event.the-variants.{Card, Start, Message, Timer, Power, Key, Update, Import, Unknown}
 use Rattle.rules.specs.Plan.{answerOf, refusedReply}
 use Rattle.events.specs.Step.{stepOf}
 use Rattle.validity.specs.Answered.{answeredBy}
@@ -91,7 +91,7 @@ module _ (s : List ℕ) where
       (checked (flip (isFull (rowNow h w protected g) n (accessOf h w))) Full _ refl (quiet Taken refl))
 
   answer-tells : (h : Hot) (e : Event) (n : Seen) (listed : Bool) → Tells (answerOf h e n listed s)
-  unfolding answerOf cardAnswer startAnswer updateAnswer messageAnswer timerAnswer keyAnswer faultIn
+  unfolding answerOf cardAnswer startAnswer updateAnswer messageAnswer timerAnswer keyAnswer importAnswer faultIn
   answer-tells h (Card home) n listed = checked (both (isNetwork home) (both (within 9 64 (length s)) (eqb (getD s 0 0) 1))) Range _ refl (quiet Taken refl)
   answer-tells h (Start w manual net code) n listed =
       checked (startRange w manual net code) Range _ refl
@@ -106,6 +106,7 @@ module _ (s : List ℕ) where
   answer-tells h (Update w regtype net code uplink sessions) n listed =
       checked (updateRange w regtype net code uplink sessions) Range _ refl
       (checked (mayUpdate h w regtype) State _ refl (place-tells (accessOf h w .t3346) (otherOf h w) 0 net n listed))
+  answer-tells h Import n listed = checked (importRange s) Range _ refl (checked (leb (n .at) 16) Full _ refl (quiet Taken refl))
   answer-tells h Unknown n listed = quiet Range refl
 
   step-tells : (r : Record) (e : Event) → Tells (stepOf r e s .reply .answer)

@@ -6,6 +6,7 @@ use mathlib.Core.List.{List}
 use native.Mathlib.Omega.{arith}
 use lib.Dec.{leb, eqb}
 use borrow.Author.Tests.{eqb-true, le-leb, leb-true}
+use Rattle.entries.specs.Entries.{fileSeen}
 use Rattle.messages.specs.declared.Reading.{Reading}
 use Rattle.messages.specs.declared.Reading.the-variants as reading
 use Rattle.messages.specs.Message.{readingOf}
@@ -19,11 +20,12 @@ use Rattle.turns.specs.declared.Order.the-variants.{Leave, Stop}
 use Rattle.turns.specs.declared.Draws.{Draws}
 use Rattle.turns.specs.Turns.{still, started, updated, keySet, clockTurn}
 use Rattle.rules.specs.declared.Event.{Event}
-use Rattle.rules.specs.declared.Event.the-variants.{Card, Start, Message, Timer, Power, Key, Update, Unknown}
+use Rattle.rules.specs.declared.Event.the-variants.{Card, Start, Message, Timer, Power, Key, Update, Import, Unknown}
 use Rattle.record.specs.Sides.{accessOf}
 use Rattle.checks.specs.Answers.{rowNow, readAnswer, runs}
 use Rattle.effects.specs.Effects.{plain, startEffect, updateEffect, keyEffect, clockEffect, t3247Effect, t3512Effect, deviceEffect, timerEffect}
 use Rattle.rules.specs.Plan.{askOf, accessIn, answerOf, messageEffect, effectOf, takenPlan}
+use Rattle.events.specs.Parts.{seenBy, seenOf}
 use Rattle.events.specs.Step.{advanceOf, stepOf}
 use Rattle.record.proofs.Bounds.{most, least}
 use Rattle.validity.specs.Sized.{Sized}
@@ -34,9 +36,10 @@ use Rattle.validity.proofs.Good.{Good}
 use Rattle.validity.proofs.Valid.{valid-good, good-valid}
 use Rattle.validity.proofs.Turns.{after, Turned, still-turned, started-turned, updated-turned, key-turned, t3510-turned, t3511-turned, t3502-turned, t3346-turned}
 use Rattle.validity.proofs.Messages.{Mild, reading-mild}
-use Rattle.validity.proofs.Taken.{start-passed, update-passed, message-passed, reject-passed, timer-passed, key-passed, card-passed}
+use Rattle.validity.proofs.Taken.{start-passed, update-passed, message-passed, reject-passed, timer-passed, key-passed, card-passed, import-passed}
 use Rattle.validity.proofs.Refusal.{carry, effectIn, taken-plan, refused}
 use Rattle.validity.proofs.Own.{access-fit, access-timely, access-carded, bare-good, same-good, plain-good, accept-good, pendingSeen, reject-good}
+use Rattle.validity.proofs.Imports.{import-good}
 use Rattle.validity.proofs.Common.{t3247-good, power-good, card-good}
 
 -- types 2 and 3 are types
@@ -51,13 +54,13 @@ module _ (r : Record) (g : Good r) (z : Sized r) (octets : List ℕ) where
 
   -- a message, by its reading
   message-good : (w protected : ℕ) (draws : Draws) (m : Reading) → Mild m → Octets octets → isFlag w ≡ true → eqb (r .hot .dev .card) 1 ≡ true
-      → isTaken (readAnswer (r .hot) w protected m (pendingSeen r w)) ≡ true
-      → Good (carry r octets (takenPlan (r .hot) w (messageEffect (r .hot) w protected draws m (pendingSeen r w))) .next)
+      → isTaken (readAnswer (r .hot) w protected m (pendingSeen r octets w)) ≡ true
+      → Good (carry r octets (takenPlan (r .hot) w (messageEffect (r .hot) w protected draws m (pendingSeen r octets w))) .next)
   unfolding messageEffect readAnswer isTaken
   message-good w protected draws (reading.Accept a) mild o h c q =
-      accept-good r g z octets w h a (pendingSeen r w) (mild .0) (mild .1) (mild .2) o c
+      accept-good r g z octets w h a (pendingSeen r octets w) (mild .0) (mild .1) (mild .2) o c
   message-good w protected draws (reading.Reject k) mild o h c q =
-      reject-good r g z octets protected draws k (rowNow (r .hot) w protected k) c w h (reject-passed (r .hot) w protected k (pendingSeen r w) q)
+      reject-good r g z octets protected draws k (rowNow (r .hot) w protected k) c w h (reject-passed (r .hot) w protected k (pendingSeen r octets w) q)
   message-good w protected draws (reading.Bad f at) mild o h c q = absurd (false≢true q)
 
   -- T3511, T3502 and T3346 out, and T3510 out, which runs in state 4 only
@@ -106,17 +109,17 @@ module _ (r : Record) (g : Good r) (z : Sized r) (octets : List ℕ) where
 
   taken-good : (e : Event) → Octets octets → isTaken (answeredBy r e octets) ≡ true
       → Good (carry r octets (takenPlan (r .hot) (accessIn e) (effectIn r e octets)) .next)
-  unfolding answeredBy answerOf askOf accessIn effectOf startEffect updateEffect keyEffect isTaken
+  unfolding answeredBy answerOf askOf accessIn effectOf startEffect updateEffect keyEffect seenOf seenBy fileSeen isTaken
   taken-good (Card home) o q =
       let p = card-passed home octets q in
       card-good r g z octets home (p .0) (p .1) (p .2)
   taken-good (Start w manual net code) o q =
-      let p = start-passed (r .hot) w manual net code (seenAt r (Start w manual net code)) (listedAt r (Start w manual net code)) q in
+      let p = start-passed (r .hot) w manual net code (seenAt r (Start w manual net code) octets) (listedAt r (Start w manual net code)) q in
       plain-good r g z octets w (p .0) (started net code (accessOf (r .hot) w)) false
       (started-turned (r .hot .dev .card) (r .hot .dev .cardlimit) (accessOf (r .hot) w) (access-fit r g w)
       (either-left (eqb (r .hot .dev .card) 1) (eqb (accessOf (r .hot) w .state) 0) (access-carded r g w) (p .3)) net code (p .1) (p .2))
   taken-good (Message w protected draws) o q =
-      let p = message-passed (r .hot) w protected draws (readingOf octets) (pendingSeen r w) q in
+      let p = message-passed (r .hot) w protected draws (readingOf octets) (pendingSeen r octets w) q in
       message-good w protected draws (readingOf octets) (reading-mild octets) o (p .0) (state-card w (p .1)) (p .2)
   taken-good (Timer number w) o q =
       let p = timer-passed (r .hot) number w q in
@@ -127,11 +130,14 @@ module _ (r : Record) (g : Good r) (z : Sized r) (octets : List ℕ) where
       plain-good r g z octets w (p .0) (keySet set (accessOf (r .hot) w)) false
       (key-turned (r .hot .dev .card) (r .hot .dev .cardlimit) (accessOf (r .hot) w) (access-fit r g w) (access-timely r g w) (access-carded r g w) set (le-leb set 7 (let l = leb-true set 6 (p .1) in omega arith)))
   taken-good (Update w regtype net code uplink sessions) o q =
-      let p = update-passed (r .hot) w regtype net code uplink sessions (seenAt r (Update w regtype net code uplink sessions)) (listedAt r (Update w regtype net code uplink sessions)) q in
+      let p = update-passed (r .hot) w regtype net code uplink sessions (seenAt r (Update w regtype net code uplink sessions) octets) (listedAt r (Update w regtype net code uplink sessions)) q in
       same-good r g z octets w (p .0) (updated regtype net code uplink sessions (accessOf (r .hot) w)) (cond (eqb w 0) Stop Leave) false
       (updated-turned (r .hot .dev .card) (r .hot .dev .cardlimit) (accessOf (r .hot) w) (access-fit r g w)
       (either-left (eqb (r .hot .dev .card) 1) (eqb (accessOf (r .hot) w .state) 0) (access-carded r g w) (rw (eqb-true (accessOf (r .hot) w .state) 5 (p .6))))
       regtype net code uplink sessions (p .2) (p .3) (from-two regtype (p .1)) (p .4) (p .5))
+  taken-good Import o q =
+      let p = import-passed octets (seenAt r Import octets) q in
+      import-good r g z octets (p .0) (p .1)
   taken-good Unknown o q = absurd (false≢true q)
 
 advance-good : (r : Record) (e : Event) (octets : List ℕ) → Sized r → Octets octets → Good r → Good (advanceOf r e octets .next)

@@ -2,6 +2,8 @@
 pub mod Bools
 pub mod Arrays
 pub mod Good
+pub mod Imports
+pub mod Imported
 pub mod Valid
 pub mod Setters
 pub mod Turns

@@ -21,7 +21,7 @@ use Rattle.messages.specs.declared.Reading.the-variants as reading
 use Rattle.messages.specs.Message.{countOf, timer2In, t3512Of, secondsOf, acceptOf, acceptedOf, acceptReading, rejectOf, rejectedOf, rejectReading, typeReading, endedBy, openedBy, readingOf}
 use Rattle.messages.proofs.Lengths.{timer2-fits, t3512-fits}
 use Rattle.record.specs.Tests.{upTo, isShort}
-use Rattle.record.specs.Network.{networkOf}
+use Rattle.networks.specs.Networks.{networkOf}
 use Rattle.events.specs.Parts.{networksOf}
 use Rattle.validity.specs.Run.{Octets}
 use Rattle.validity.proofs.Bools.{most-is, most-fits}

@@ -36,8 +36,8 @@ use Rattle.validity.proofs.Refusal.{carry}
 -- the area lists' counts are no part of what the rest is held to
 pub good-next : (r : Record) (octets : List ℕ) (p : Plan)
     → Fair (p .hot .dev)
-    → Half (p .hot .dev) (p .hot .a0) (equivalentsAfter (p .work .keep) (eqb (p .access) 0) octets (r .equivalents0)) (tableAfter p 0 (r .hot .a0 .entries) (r .hot) (r .e0))
-    → Half (p .hot .dev) (p .hot .a1) (equivalentsAfter (p .work .keep) (eqb (p .access) 1) octets (r .equivalents1)) (tableAfter p 1 (r .hot .a1 .entries) (r .hot) (r .e1))
+    → Half (p .hot .dev) (p .hot .a0) (equivalentsAfter (p .work .keep) (eqb (p .access) 0) octets (r .equivalents0)) (tableAfter p octets 0 (r .hot .a0 .entries) (r .hot) (r .e0))
+    → Half (p .hot .dev) (p .hot .a1) (equivalentsAfter (p .work .keep) (eqb (p .access) 1) octets (r .equivalents1)) (tableAfter p octets 1 (r .hot .a1 .entries) (r .hot) (r .e1))
     → Listing (countAfter (p .work .roaming) (r .hot .dev .roaming) (r .roaming)) (listAfter (p .work .roaming) (r .hot .dev .roaming) (r .roaming))
     → Listing (countAfter (p .work .regional) (r .hot .dev .regional) (r .regional)) (listAfter (p .work .regional) (r .hot .dev .regional) (r .regional))
     → suciOf (p .hot .dev) (suciAfter (p .work .keep) octets (r .suci)) ≡ true
@@ -147,13 +147,13 @@ module _ (r : Record) (g : Good r) (z : Sized r) (octets : List ℕ) (time due :
 
   -- the entries of the other access, with its deed done
   abbrev beside : Access → Entries → Entries
-  beside a t = entriesAfter d′ (a .entries) (r .hot .dev .banlimit) (r .hot .dev .n1limit) t
+  beside a t = entriesAfter d′ octets (a .entries) (r .hot .dev .banlimit) (r .hot .dev .n1limit) t
 
   fair : Fair (ticked (flagAfter o (r .hot .dev .t3247)) (flagAfter p (r .hot .dev .t3512)) (scheduled time due (r .hot .dev)))
   unfolding scheduled
   fair = ticked-fair (scheduled time due (r .hot .dev)) o p (scheduled-fair (r .hot .dev) time due h i (g .fair))
 
-  pub own-first : Half (r .hot .dev) (after mine) (equivalentsAfter k true octets (r .equivalents0)) (tableAfter (planned 0) 0 (r .hot .a0 .entries) (r .hot) (r .e0))
+  pub own-first : Half (r .hot .dev) (after mine) (equivalentsAfter k true octets (r .equivalents0)) (tableAfter (planned 0) octets 0 (r .hot .a0 .entries) (r .hot) (r .e0))
       → Turned (r .hot .dev .card) (r .hot .dev .cardlimit) (r .hot .a1 .equivalents) (r .hot .a1 .entries) (after theirs)
       → Held (r .hot .dev .banlimit) (r .hot .dev .n1limit) (r .hot .a1 .entries) (beside (r .hot .a1) (r .e1))
       → Good (carry r octets (planned 0) .next)
@@ -167,7 +167,7 @@ module _ (r : Record) (g : Good r) (z : Sized r) (octets : List ℕ) (time due :
       (list-kept regional (r .hot .dev .regional) (r .regional) (z .regional) (g .regional) v)
       (rw (suci-stays k c octets (r .suci)) (g .suci))
 
-  pub own-second : Half (r .hot .dev) (after mine) (equivalentsAfter k true octets (r .equivalents1)) (tableAfter (planned 1) 1 (r .hot .a1 .entries) (r .hot) (r .e1))
+  pub own-second : Half (r .hot .dev) (after mine) (equivalentsAfter k true octets (r .equivalents1)) (tableAfter (planned 1) octets 1 (r .hot .a1 .entries) (r .hot) (r .e1))
       → Turned (r .hot .dev .card) (r .hot .dev .cardlimit) (r .hot .a0 .equivalents) (r .hot .a0 .entries) (after theirs)
       → Held (r .hot .dev .banlimit) (r .hot .dev .n1limit) (r .hot .a0 .entries) (beside (r .hot .a0) (r .e0))
       → Good (carry r octets (planned 1) .next)

@@ -14,7 +14,7 @@ use Rattle.entries.specs.declared.Seen.{Seen}
 use Rattle.entries.specs.declared.Seat.{Seat}
 use Rattle.entries.specs.declared.Deed.{Deed}
 use Rattle.entries.specs.declared.Deed.the-variants as deed
-use Rattle.entries.specs.Entries.{placeIn, hasEntry, seenIn, seatOf, unforbidden, entriesAfter}
+use Rattle.entries.specs.Entries.{placeIn, hasEntry, seenIn, seatOf, unforbidden, entriesAfter, grown}
 use Rattle.areas.specs.declared.Task.{Task}
 use Rattle.areas.specs.declared.Task.the-variants as task
 use Rattle.messages.specs.declared.Accept.{Accept}
@@ -41,7 +41,7 @@ use Rattle.events.specs.Parts.{sightOf, seenBy, seenOf, tableAfter, networksOf,
 use Rattle.validity.specs.Sized.{Columns, Sized}
 use Rattle.validity.specs.Run.{Octets}
 use Rattle.validity.proofs.Good.{Fit, Timely, Carded, Held, Good}
-use Rattle.validity.proofs.Setters.{grown, network-short}
+use Rattle.validity.proofs.Setters.{network-short}
 use Rattle.validity.proofs.Areas.{Short}
 use Rattle.validity.proofs.Turns.{after, Turned, still-turned, accepted-turned, row-turned, other-turned}
 use Rattle.validity.proofs.Entries.{sought, banned-held, barred-held, accepted-held, limit-held}
@@ -85,12 +85,12 @@ module _ (r : Record) (g : Good r) where
     unfolding accessOf otherOf takenPlan entriesAfter deedOf deedOn equivalentsAfter
     bare-good zero h time due l f t p restart u =
         own-first r g z octets time due l f t (still (r .hot .a1)) Leave p deed.Nothing deed.Nothing task.Nothing task.Nothing keep.Nothing restart tt tt tt
-        (rw (table-idle (takenPlan (r .hot) 0 (bare 0 time due t p restart)) 0 (r .hot .a0 .entries) (r .hot) (r .e0) refl)
+        (rw (table-idle (takenPlan (r .hot) 0 (bare 0 time due t p restart)) octets 0 (r .hot .a0 .entries) (r .hot) (r .e0) refl)
         (half-turned (r .hot .dev) (r .hot .a0 .equivalents) (r .hot .a0 .entries) (after t) (r .equivalents0) (r .e0) u (g .half0 .equals) (g .half0 .held)))
         second-still (g .half1 .held)
     bare-good (suc zero) h time due l f t p restart u =
         own-second r g z octets time due l f t (still (r .hot .a0)) Leave p deed.Nothing deed.Nothing task.Nothing task.Nothing keep.Nothing restart tt tt tt
-        (rw (table-idle (takenPlan (r .hot) 1 (bare 1 time due t p restart)) 1 (r .hot .a1 .entries) (r .hot) (r .e1) refl)
+        (rw (table-idle (takenPlan (r .hot) 1 (bare 1 time due t p restart)) octets 1 (r .hot .a1 .entries) (r .hot) (r .e1) refl)
         (half-turned (r .hot .dev) (r .hot .a1 .equivalents) (r .hot .a1 .entries) (after t) (r .equivalents1) (r .e1) u (g .half1 .equals) (g .half1 .held)))
         first-still (g .half0 .held)
     bare-good (suc (suc w)) h time due l f t p restart u = absurd (no-third w h)
@@ -146,28 +146,28 @@ abbrev pub seatIn : ℕ → ℕ → ℕ → List ℕ → Seat
 seatIn n net protected nets = record { at = placeIn n net nets; found = hasEntry n net nets; net = net; protected = protected }
 
 -- the entries by the row's mark: a ban, a bar, or nothing
-row-held : (banlimit n1limit n : ℕ) (t : Entries) → Columns t → Held banlimit n1limit n t → upTo 16 n ≡ true → (m : Mark) (net protected : ℕ)
+row-held : (octets : List ℕ) (banlimit n1limit n : ℕ) (t : Entries) → Columns t → Held banlimit n1limit n t → upTo 16 n ≡ true → (m : Mark) (net protected : ℕ)
     → (isMark m ≡ true → hasEntry n net (t .nets) ≡ false → leb 16 n ≡ false) → isNetwork net ≡ true
-    → Held banlimit n1limit (cond (isMark m) (grown (hasEntry n net (t .nets)) n) n) (entriesAfter (markDeed m (seatIn n net protected (t .nets))) n banlimit n1limit t)
+    → Held banlimit n1limit (cond (isMark m) (grown (hasEntry n net (t .nets)) n) n) (entriesAfter (markDeed m (seatIn n net protected (t .nets))) octets n banlimit n1limit t)
 unfolding entriesAfter markDeed isMark
-row-held banlimit n1limit n t w g e noMark net protected f i = g
-row-held banlimit n1limit n t w g e forbiddenAndCounted net protected f i = banned-held banlimit n1limit n t w g (seatIn n net protected (t .nets)) (sought n net (t .nets) e (f refl)) i
-row-held banlimit n1limit n t w g e n1NotAllowedAndCounted net protected f i = barred-held banlimit n1limit n t w g (seatIn n net protected (t .nets)) (sought n net (t .nets) e (f refl)) i
+row-held octets banlimit n1limit n t w g e noMark net protected f i = g
+row-held octets banlimit n1limit n t w g e forbiddenAndCounted net protected f i = banned-held banlimit n1limit n t w g (seatIn n net protected (t .nets)) (sought n net (t .nets) e (f refl)) i
+row-held octets banlimit n1limit n t w g e n1NotAllowedAndCounted net protected f i = barred-held banlimit n1limit n t w g (seatIn n net protected (t .nets)) (sought n net (t .nets) e (f refl)) i
 
 -- the other access's entries: the network's N1 counter at its limit, or nothing
-across-held : (banlimit n1limit n : ℕ) (t : Entries) → Columns t → Held banlimit n1limit n t → (b : Bool) (net : ℕ)
-    → Held banlimit n1limit n (entriesAfter (cond {A = Deed} b (deed.ToLimit net) deed.Nothing) n banlimit n1limit t)
+across-held : (octets : List ℕ) (banlimit n1limit n : ℕ) (t : Entries) → Columns t → Held banlimit n1limit n t → (b : Bool) (net : ℕ)
+    → Held banlimit n1limit n (entriesAfter (cond {A = Deed} b (deed.ToLimit net) deed.Nothing) octets n banlimit n1limit t)
 unfolding entriesAfter
-across-held banlimit n1limit n t w g true net = limit-held banlimit n1limit n t w g net
-across-held banlimit n1limit n t w g false net = g
+across-held octets banlimit n1limit n t w g true net = limit-held banlimit n1limit n t w g net
+across-held octets banlimit n1limit n t w g false net = g
 
 -- a reject asks about the pending network
-abbrev pub pendingSeen : Record → ℕ → Seen
-pendingSeen r w = seenOf (ask.Network w (accessOf (r .hot) w .net)) (r .hot) (r .e0) (r .e1)
+abbrev pub pendingSeen : Record → List ℕ → ℕ → Seen
+pendingSeen r octets w = seenOf (ask.Network w (accessOf (r .hot) w .net)) octets (r .hot) (r .e0) (r .e1)
 
 module _ (r : Record) (g : Good r) (z : Sized r) (octets : List ℕ) (protected : ℕ) (draws : Draws) (k : Reject) (row : Row) (c : eqb (r .hot .dev .card) 1 ≡ true) where
   abbrev rejectPlan : ℕ → Plan
-  rejectPlan w = takenPlan (r .hot) w (rejectEffect (r .hot) w protected draws (pendingSeen r w) k row)
+  rejectPlan w = takenPlan (r .hot) w (rejectEffect (r .hot) w protected draws (pendingSeen r octets w) k row)
 
   abbrev time : ℕ
   time = t3346Time protected (k .t3346length) (draws .t3346)
@@ -183,28 +183,28 @@ module _ (r : Record) (g : Good r) (z : Sized r) (octets : List ℕ) (protected 
   put-short false a f = tt
 
   -- a reject, by its row, where an entry that it needs is there or free
-  pub reject-good : (w : ℕ) → isFlag w ≡ true → (needsEntry row ≡ true → pendingSeen r w .found ≡ false → leb 16 (accessOf (r .hot) w .entries) ≡ false) → Good (carry r octets (rejectPlan w) .next)
+  pub reject-good : (w : ℕ) → isFlag w ≡ true → (needsEntry row ≡ true → pendingSeen r octets w .found ≡ false → leb 16 (accessOf (r .hot) w .entries) ≡ false) → Good (carry r octets (rejectPlan w) .next)
   unfolding accessOf otherOf takenPlan rejectEffect scheduled rowWork rowDeed needsEntry tableAfter deedOf deedOn seenOf seenBy sightOf seenIn equivalentsAfter
   reject-good zero h f =
-      own-first r g z octets (r .hot .dev .t3512length) (r .hot .dev .due) (g .fair .t3512length) (g .fair .due) (rowTurn row 0 (r .hot .dev .cardlimit) (k .cause) (pendingSeen r 0 .found) time (r .hot .a0)) (otherTurn row (r .hot .dev .cardlimit) (r .hot .a1))
-      (rejectT3247 (r .hot .dev .t3247) protected (k .cause) (draws .t3247)) Leave (rowDeed row (seatOf (pendingSeen r 0) (r .hot .a0 .net) protected)) (across-if 0 (r .hot .a0)) (task-if (toRoaming 0 (k .cause) row) (r .hot .a0)) (task-if (toRegional 0 (k .cause) row) (r .hot .a0)) keep.Nothing false tt
+      own-first r g z octets (r .hot .dev .t3512length) (r .hot .dev .due) (g .fair .t3512length) (g .fair .due) (rowTurn row 0 (r .hot .dev .cardlimit) (k .cause) (pendingSeen r octets 0 .found) time (r .hot .a0)) (otherTurn row (r .hot .dev .cardlimit) (r .hot .a1))
+      (rejectT3247 (r .hot .dev .t3247) protected (k .cause) (draws .t3247)) Leave (rowDeed row (seatOf (pendingSeen r octets 0) (r .hot .a0 .net) protected)) (across-if 0 (r .hot .a0)) (task-if (toRoaming 0 (k .cause) row) (r .hot .a0)) (task-if (toRegional 0 (k .cause) row) (r .hot .a0)) keep.Nothing false tt
       (put-short (toRoaming 0 (k .cause) row) (r .hot .a0) (g .half0 .fit)) (put-short (toRegional 0 (k .cause) row) (r .hot .a0) (g .half0 .fit))
-      (half-turned (r .hot .dev) (r .hot .a0 .equivalents) (cond (needsEntry row) (grown (pendingSeen r 0 .found) (r .hot .a0 .entries)) (r .hot .a0 .entries))
-      (after (rowTurn row 0 (r .hot .dev .cardlimit) (k .cause) (pendingSeen r 0 .found) time (r .hot .a0))) (r .equivalents0) (tableAfter (rejectPlan 0) 0 (r .hot .a0 .entries) (r .hot) (r .e0))
-      (row-turned (r .hot .dev .card) (r .hot .dev .cardlimit) (r .hot .a0) (g .half0 .fit) c row 0 (k .cause) (pendingSeen r 0 .found) time)
+      (half-turned (r .hot .dev) (r .hot .a0 .equivalents) (cond (needsEntry row) (grown (pendingSeen r octets 0 .found) (r .hot .a0 .entries)) (r .hot .a0 .entries))
+      (after (rowTurn row 0 (r .hot .dev .cardlimit) (k .cause) (pendingSeen r octets 0 .found) time (r .hot .a0))) (r .equivalents0) (tableAfter (rejectPlan 0) octets 0 (r .hot .a0 .entries) (r .hot) (r .e0))
+      (row-turned (r .hot .dev .card) (r .hot .dev .cardlimit) (r .hot .a0) (g .half0 .fit) c row 0 (k .cause) (pendingSeen r octets 0 .found) time)
       (g .half0 .equals)
-      (row-held (r .hot .dev .banlimit) (r .hot .dev .n1limit) (r .hot .a0 .entries) (r .e0) (z .e0) (g .half0 .held) (g .half0 .fit .entries) (markIn (rowText row)) (r .hot .a0 .net) protected f (g .half0 .fit .pending .0)))
+      (row-held octets (r .hot .dev .banlimit) (r .hot .dev .n1limit) (r .hot .a0 .entries) (r .e0) (z .e0) (g .half0 .held) (g .half0 .fit .entries) (markIn (rowText row)) (r .hot .a0 .net) protected f (g .half0 .fit .pending .0)))
       (other-turned (r .hot .dev .card) (r .hot .dev .cardlimit) (r .hot .a1) (g .half1 .fit) (g .half1 .timely) (g .half1 .carded) row)
-      (across-held (r .hot .dev .banlimit) (r .hot .dev .n1limit) (r .hot .a1 .entries) (r .e1) (z .e1) (g .half1 .held) (acrossN1 0 protected (k .cause) row) (r .hot .a0 .net))
+      (across-held octets (r .hot .dev .banlimit) (r .hot .dev .n1limit) (r .hot .a1 .entries) (r .e1) (z .e1) (g .half1 .held) (acrossN1 0 protected (k .cause) row) (r .hot .a0 .net))
   reject-good (suc zero) h f =
-      own-second r g z octets (r .hot .dev .t3512length) (r .hot .dev .due) (g .fair .t3512length) (g .fair .due) (rowTurn row 1 (r .hot .dev .cardlimit) (k .cause) (pendingSeen r 1 .found) time (r .hot .a1)) (otherTurn row (r .hot .dev .cardlimit) (r .hot .a0))
-      (rejectT3247 (r .hot .dev .t3247) protected (k .cause) (draws .t3247)) Leave (rowDeed row (seatOf (pendingSeen r 1) (r .hot .a1 .net) protected)) (across-if 1 (r .hot .a1)) (task-if (toRoaming 1 (k .cause) row) (r .hot .a1)) (task-if (toRegional 1 (k .cause) row) (r .hot .a1)) keep.Nothing false tt
+      own-second r g z octets (r .hot .dev .t3512length) (r .hot .dev .due) (g .fair .t3512length) (g .fair .due) (rowTurn row 1 (r .hot .dev .cardlimit) (k .cause) (pendingSeen r octets 1 .found) time (r .hot .a1)) (otherTurn row (r .hot .dev .cardlimit) (r .hot .a0))
+      (rejectT3247 (r .hot .dev .t3247) protected (k .cause) (draws .t3247)) Leave (rowDeed row (seatOf (pendingSeen r octets 1) (r .hot .a1 .net) protected)) (across-if 1 (r .hot .a1)) (task-if (toRoaming 1 (k .cause) row) (r .hot .a1)) (task-if (toRegional 1 (k .cause) row) (r .hot .a1)) keep.Nothing false tt
       (put-short (toRoaming 1 (k .cause) row) (r .hot .a1) (g .half1 .fit)) (put-short (toRegional 1 (k .cause) row) (r .hot .a1) (g .half1 .fit))
-      (half-turned (r .hot .dev) (r .hot .a1 .equivalents) (cond (needsEntry row) (grown (pendingSeen r 1 .found) (r .hot .a1 .entries)) (r .hot .a1 .entries))
-      (after (rowTurn row 1 (r .hot .dev .cardlimit) (k .cause) (pendingSeen r 1 .found) time (r .hot .a1))) (r .equivalents1) (tableAfter (rejectPlan 1) 1 (r .hot .a1 .entries) (r .hot) (r .e1))
-      (row-turned (r .hot .dev .card) (r .hot .dev .cardlimit) (r .hot .a1) (g .half1 .fit) c row 1 (k .cause) (pendingSeen r 1 .found) time)
+      (half-turned (r .hot .dev) (r .hot .a1 .equivalents) (cond (needsEntry row) (grown (pendingSeen r octets 1 .found) (r .hot .a1 .entries)) (r .hot .a1 .entries))
+      (after (rowTurn row 1 (r .hot .dev .cardlimit) (k .cause) (pendingSeen r octets 1 .found) time (r .hot .a1))) (r .equivalents1) (tableAfter (rejectPlan 1) octets 1 (r .hot .a1 .entries) (r .hot) (r .e1))
+      (row-turned (r .hot .dev .card) (r .hot .dev .cardlimit) (r .hot .a1) (g .half1 .fit) c row 1 (k .cause) (pendingSeen r octets 1 .found) time)
       (g .half1 .equals)
-      (row-held (r .hot .dev .banlimit) (r .hot .dev .n1limit) (r .hot .a1 .entries) (r .e1) (z .e1) (g .half1 .held) (g .half1 .fit .entries) (markIn (rowText row)) (r .hot .a1 .net) protected f (g .half1 .fit .pending .0)))
+      (row-held octets (r .hot .dev .banlimit) (r .hot .dev .n1limit) (r .hot .a1 .entries) (r .e1) (z .e1) (g .half1 .held) (g .half1 .fit .entries) (markIn (rowText row)) (r .hot .a1 .net) protected f (g .half1 .fit .pending .0)))
       (other-turned (r .hot .dev .card) (r .hot .dev .cardlimit) (r .hot .a0) (g .half0 .fit) (g .half0 .timely) (g .half0 .carded) row)
-      (across-held (r .hot .dev .banlimit) (r .hot .dev .n1limit) (r .hot .a0 .entries) (r .e0) (z .e0) (g .half0 .held) (acrossN1 1 protected (k .cause) row) (r .hot .a1 .net))
+      (across-held octets (r .hot .dev .banlimit) (r .hot .dev .n1limit) (r .hot .a0 .entries) (r .e0) (z .e0) (g .half0 .held) (acrossN1 1 protected (k .cause) row) (r .hot .a1 .net))
   reject-good (suc (suc w)) h f = absurd (no-third w h)

@@ -26,11 +26,11 @@ use Rattle.validity.specs.Answered.{seenAt, answeredBy}
 
 -- carrying out a plan on a record
 abbrev pub carry : Record → List ℕ → Plan → Outcome
-carry r octets p = joinedOf r octets (carriedOut p (r .hot) (r .e0) (r .e1) (r .roaming) (r .regional))
+carry r octets p = joinedOf r octets (carriedOut p octets (r .hot) (r .e0) (r .e1) (r .roaming) (r .regional))
 
 -- the effect that a taken event has
 abbrev pub effectIn : Record → Event → List ℕ → Effect
-effectIn r e octets = effectOf (r .hot) e (seenAt r e) octets
+effectIn r e octets = effectOf (r .hot) e (seenAt r e octets) octets
 
 pub taken-plan : (r : Record) (e : Event) (octets : List ℕ) → isTaken (answeredBy r e octets) ≡ true
     → advanceOf r e octets ≡ carry r octets (takenPlan (r .hot) (accessIn e) (effectIn r e octets))
@@ -38,9 +38,9 @@ unfolding advanceOf partsAfter plannedOf planOf decidedBy answeredBy
 taken-plan r e octets q = rw q
 
 -- no deed leaves the entries as they are
-pub table-idle : (p : Plan) (me count : ℕ) (h : Hot) (t : Entries) → deedOf p me ≡ deed.Nothing → tableAfter p me count h t ≡ t
+pub table-idle : (p : Plan) (octets : List ℕ) (me count : ℕ) (h : Hot) (t : Entries) → deedOf p me ≡ deed.Nothing → tableAfter p octets me count h t ≡ t
 unfolding tableAfter entriesAfter
-table-idle p me count h t e = rw e
+table-idle p octets me count h t e = rw e
 
 idle-deed : (w me : ℕ) → cond {A = Deed} (eqb w me) deed.Nothing deed.Nothing ≡ deed.Nothing
 idle-deed w me = elim (eqb w me) as (λ b. cond {A = Deed} b deed.Nothing deed.Nothing ≡ deed.Nothing) [ true ↦ refl | false ↦ refl ]
@@ -49,13 +49,13 @@ module _ (r : Record) (w : ℕ) (n : Answer) where
   abbrev p : Plan
   p = refusedPlan (r .hot) w n
 
-  table-stays : (me count : ℕ) (t : Entries) → tableAfter p me count (r .hot) t ≡ t
+  table-stays : (octets : List ℕ) (me count : ℕ) (t : Entries) → tableAfter p octets me count (r .hot) t ≡ t
   unfolding refusedPlan deedOf deedOn
-  table-stays me count t = table-idle p me count (r .hot) t (idle-deed w me)
+  table-stays octets me count t = table-idle p octets me count (r .hot) t (idle-deed w me)
 
   refused-carry : (octets : List ℕ) → carry r octets p ≡ record { reply = refusedReply n w; next = r }
   unfolding joinedOf together carriedOut doneOf withCounts refusedPlan keptAfter gutiAfter equivalentsAfter suciAfter listAfter countAfter
-  refused-carry octets = rw (table-stays 0 (r .hot .a0 .entries) (r .e0), table-stays 1 (r .hot .a1 .entries) (r .e1))
+  refused-carry octets = rw (table-stays octets 0 (r .hot .a0 .entries) (r .e0), table-stays octets 1 (r .hot .a1 .entries) (r .e1))
 
 -- the whole outcome of an event that is not taken
 pub refused : (r : Record) (e : Event) (octets : List ℕ) → isTaken (answeredBy r e octets) ≡ false

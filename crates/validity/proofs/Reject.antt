@@ -48,38 +48,38 @@ count-put true net code protected n xs = refl
 count-put false net code protected n xs = refl
 
 -- the entries of the other access
-entry-across : (b : Bool) (net count banlimit n1limit : ℕ) (t : Entries)
-    → entriesAfter (cond {A = Deed} b (deed.ToLimit net) deed.Nothing) count banlimit n1limit t ≡ cond b (n1ToLimit net count n1limit t) t
+entry-across : (octets : List ℕ) (b : Bool) (net count banlimit n1limit : ℕ) (t : Entries)
+    → entriesAfter (cond {A = Deed} b (deed.ToLimit net) deed.Nothing) octets count banlimit n1limit t ≡ cond b (n1ToLimit net count n1limit t) t
 unfolding entriesAfter
-entry-across true net count banlimit n1limit t = refl
-entry-across false net count banlimit n1limit t = refl
+entry-across octets true net count banlimit n1limit t = refl
+entry-across octets false net count banlimit n1limit t = refl
 
 -- the entries of the receiving access
-entry-marked : (m : Mark) (k : Seat) (count banlimit n1limit : ℕ) (t : Entries)
-    → entriesAfter (markDeed m k) count banlimit n1limit t ≡ markedIn m k banlimit n1limit t
+entry-marked : (octets : List ℕ) (m : Mark) (k : Seat) (count banlimit n1limit : ℕ) (t : Entries)
+    → entriesAfter (markDeed m k) octets count banlimit n1limit t ≡ markedIn m k banlimit n1limit t
 unfolding entriesAfter markDeed markedIn
-entry-marked noMark k count banlimit n1limit t = refl
-entry-marked forbiddenAndCounted k count banlimit n1limit t = refl
-entry-marked n1NotAllowedAndCounted k count banlimit n1limit t = refl
+entry-marked octets noMark k count banlimit n1limit t = refl
+entry-marked octets forbiddenAndCounted k count banlimit n1limit t = refl
+entry-marked octets n1NotAllowedAndCounted k count banlimit n1limit t = refl
 
 module _ (r : Record) (protected : ℕ) (draws : Draws) (g : Reject) (octets : List ℕ) where
   abbrev rejectPlan : ℕ → Plan
-  rejectPlan w = takenPlan (r .hot) w (rejectEffect (r .hot) w protected draws (pendingSeen r w) g (rowNow (r .hot) w protected g))
+  rejectPlan w = takenPlan (r .hot) w (rejectEffect (r .hot) w protected draws (pendingSeen r octets w) g (rowNow (r .hot) w protected g))
 
   -- over access 0, and over access 1
   carried : (w : ℕ) → isFlag w ≡ true → carry r octets (rejectPlan w) .next ≡ rejectRecord r w protected draws g
   unfolding joinedOf together carriedOut doneOf withCounts takenPlan hotAfter hotOf ticked flagAfter rejectEffect rowTurn otherTurn rowWork rowDeed toRoaming toRegional acrossN1 accessOf otherOf seenOf seenBy sightOf seenIn keptAfter gutiAfter equivalentsAfter suciAfter rejectRecord recordAfter tableAfter deedOf deedOn
   carried zero h = rw (
-    entry-marked (markIn (rowText (rowNow (r .hot) 0 protected g))) (seat protected (r .hot .a0) (r .e0)) (r .hot .a0 .entries) (r .hot .dev .banlimit) (r .hot .dev .n1limit) (r .e0),
-    entry-across (acrossN1 0 protected (g .cause) (rowNow (r .hot) 0 protected g)) (r .hot .a0 .net) (r .hot .a1 .entries) (r .hot .dev .banlimit) (r .hot .dev .n1limit) (r .e1),
+    entry-marked octets (markIn (rowText (rowNow (r .hot) 0 protected g))) (seat protected (r .hot .a0) (r .e0)) (r .hot .a0 .entries) (r .hot .dev .banlimit) (r .hot .dev .n1limit) (r .e0),
+    entry-across octets (acrossN1 0 protected (g .cause) (rowNow (r .hot) 0 protected g)) (r .hot .a0 .net) (r .hot .a1 .entries) (r .hot .dev .banlimit) (r .hot .dev .n1limit) (r .e1),
     list-put (toRoaming 0 (g .cause) (rowNow (r .hot) 0 protected g)) (r .hot .a0 .net) (r .hot .a0 .code) protected (r .hot .dev .roaming) (r .roaming),
     count-put (toRoaming 0 (g .cause) (rowNow (r .hot) 0 protected g)) (r .hot .a0 .net) (r .hot .a0 .code) protected (r .hot .dev .roaming) (r .roaming),
     list-put (toRegional 0 (g .cause) (rowNow (r .hot) 0 protected g)) (r .hot .a0 .net) (r .hot .a0 .code) protected (r .hot .dev .regional) (r .regional),
     count-put (toRegional 0 (g .cause) (rowNow (r .hot) 0 protected g)) (r .hot .a0 .net) (r .hot .a0 .code) protected (r .hot .dev .regional) (r .regional),
   )
   carried (suc zero) h = rw (
-    entry-marked (markIn (rowText (rowNow (r .hot) 1 protected g))) (seat protected (r .hot .a1) (r .e1)) (r .hot .a1 .entries) (r .hot .dev .banlimit) (r .hot .dev .n1limit) (r .e1),
-    entry-across (acrossN1 1 protected (g .cause) (rowNow (r .hot) 1 protected g)) (r .hot .a1 .net) (r .hot .a0 .entries) (r .hot .dev .banlimit) (r .hot .dev .n1limit) (r .e0),
+    entry-marked octets (markIn (rowText (rowNow (r .hot) 1 protected g))) (seat protected (r .hot .a1) (r .e1)) (r .hot .a1 .entries) (r .hot .dev .banlimit) (r .hot .dev .n1limit) (r .e1),
+    entry-across octets (acrossN1 1 protected (g .cause) (rowNow (r .hot) 1 protected g)) (r .hot .a1 .net) (r .hot .a0 .entries) (r .hot .dev .banlimit) (r .hot .dev .n1limit) (r .e0),
     list-put (toRoaming 1 (g .cause) (rowNow (r .hot) 1 protected g)) (r .hot .a1 .net) (r .hot .a1 .code) protected (r .hot .dev .roaming) (r .roaming),
     count-put (toRoaming 1 (g .cause) (rowNow (r .hot) 1 protected g)) (r .hot .a1 .net) (r .hot .a1 .code) protected (r .hot .dev .roaming) (r .roaming),
     list-put (toRegional 1 (g .cause) (rowNow (r .hot) 1 protected g)) (r .hot .a1 .net) (r .hot .a1 .code) protected (r .hot .dev .regional) (r .regional),
@@ -93,7 +93,7 @@ module _ (r : Record) (protected : ℕ) (draws : Draws) (g : Reject) (octets : L
   unfolding effectOf messageEffect askOf accessIn answeredBy answerOf
   reject-is w read taken =
       rw (taken-plan r (Message w protected draws) octets taken, read)
-      (carried w (message-passed (r .hot) w protected draws (readingOf octets) (pendingSeen r w) taken .0))
+      (carried w (message-passed (r .hot) w protected draws (readingOf octets) (pendingSeen r octets w) taken .0))
 
   -- the same of a step, which tests the record first
   pub step-reject : (w : ℕ) → readingOf octets ≡ reading.Reject g → isTaken (stepOf r (Message w protected draws) octets .reply .answer) ≡ true

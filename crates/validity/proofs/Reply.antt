@@ -49,7 +49,7 @@ across-told (n1CounterToLimitIfProtected x) limit a b = refl
 
 module _ (r : Record) (protected : ℕ) (draws : Draws) (g : Reject) (octets : List ℕ) where
   abbrev rejectPlan : ℕ → Plan
-  rejectPlan w = takenPlan (r .hot) w (rejectEffect (r .hot) w protected draws (pendingSeen r w) g (rowNow (r .hot) w protected g))
+  rejectPlan w = takenPlan (r .hot) w (rejectEffect (r .hot) w protected draws (pendingSeen r octets w) g (rowNow (r .hot) w protected g))
 
   abbrev text : ℕ → Text
   text w = rowText (rowNow (r .hot) w protected g)
@@ -59,8 +59,8 @@ module _ (r : Record) (protected : ℕ) (draws : Draws) (g : Reject) (octets : L
 
   reply-told : (w : ℕ) → isFlag w ≡ true → carry r octets (rejectPlan w) .reply ≡ rejectReply r w protected draws g
   unfolding joinedOf together carriedOut doneOf takenPlan takenReply toldOf rejectEffect rowTurn otherTurn accessOf otherOf rejectReply
-  reply-told zero h = rw (turned-orders (text 0) 0 (r .hot .dev .cardlimit) (g .cause) (pendingSeen r 0 .found) time (r .hot .a0), across-told (acrossOf (text 0)) (r .hot .dev .cardlimit) (r .hot .a1) (r .hot .a1))
-  reply-told (suc zero) h = rw (turned-orders (text 1) 1 (r .hot .dev .cardlimit) (g .cause) (pendingSeen r 1 .found) time (r .hot .a1), across-told (acrossOf (text 1)) (r .hot .dev .cardlimit) (r .hot .a0) (r .hot .a0))
+  reply-told zero h = rw (turned-orders (text 0) 0 (r .hot .dev .cardlimit) (g .cause) (pendingSeen r octets 0 .found) time (r .hot .a0), across-told (acrossOf (text 0)) (r .hot .dev .cardlimit) (r .hot .a1) (r .hot .a1))
+  reply-told (suc zero) h = rw (turned-orders (text 1) 1 (r .hot .dev .cardlimit) (g .cause) (pendingSeen r octets 1 .found) time (r .hot .a1), across-told (acrossOf (text 1)) (r .hot .dev .cardlimit) (r .hot .a0) (r .hot .a0))
   reply-told (suc (suc w)) h = absurd (no-third w h)
 
   -- a message that was read as a reject, and taken
@@ -69,7 +69,7 @@ module _ (r : Record) (protected : ℕ) (draws : Draws) (g : Reject) (octets : L
   unfolding effectOf messageEffect askOf accessIn answeredBy answerOf
   reject-reply w read taken =
       rw (taken-plan r (Message w protected draws) octets taken, read)
-      (reply-told w (message-passed (r .hot) w protected draws (readingOf octets) (pendingSeen r w) taken .0))
+      (reply-told w (message-passed (r .hot) w protected draws (readingOf octets) (pendingSeen r octets w) taken .0))
 
   -- the same of a step, which tests the record first
   pub step-reject-reply : (w : ℕ) → readingOf octets ≡ reading.Reject g → isTaken (stepOf r (Message w protected draws) octets .reply .answer) ≡ true

@@ -3,7 +3,7 @@ use Prim.Native.Nat.{ℕ}
 use mathlib.Core.Path.{_≡_, refl}
 use mathlib.Core.Bool.{Bool, true, false, cond}
 use lib.Dec.{eqb}
-use Rattle.laws.specs.Bounds.{oneMore}
+use Rattle.entries.specs.Entries.{grown}
 use Rattle.record.specs.declared.Access.{Access}
 use Rattle.record.specs.Tests.{both, either, within, upTo, isFlag, isShort, isClear0}
 use Rattle.record.specs.Network.{isNetwork, half, isDigit}
@@ -11,14 +11,10 @@ use Rattle.turns.specs.declared.Order.{Order}
 use Rattle.turns.specs.declared.Order.the-variants.{Leave, Stop, Run}
 use Rattle.turns.specs.declared.Orders.{Orders}
 use Rattle.turns.specs.Timers.{flagAfter, clocked}
-use Rattle.record.specs.Setters.{inState, withStatus, withAttempts, forgotten, emptied, counted, pending, keyed, taught}
+use Rattle.record.specs.Setters.{inState, withStatus, withAttempts, forgotten, emptied, counted, pending, keyed, taught, withEntries}
 use Rattle.record.proofs.Bounds.{one}
 use Rattle.validity.proofs.Bools.{both-true, more-fits}
 use Rattle.validity.proofs.Good.{Fit}
-
--- the entries' count after a ban or a bar
-abbrev pub grown : Bool → ℕ → ℕ
-grown found n = cond found n (oneMore 16 n)
 
 pub grown-fits : (found : Bool) (n : ℕ) → upTo 16 n ≡ true → upTo 16 (grown found n) ≡ true
 grown-fits true n e = e
@@ -101,6 +97,11 @@ module _ (limit : ℕ) (a : Access) (g : Fit limit a) where
     equivalents = p;
     entries = g .entries;
   }
+
+  pub fit-entries : (n : ℕ) → upTo 16 n ≡ true → Fit limit (withEntries n a)
+  unfolding withEntries
+  fit-entries n p =
+      record { mode = g .mode; flags = g .flags; t3502length = g .t3502length; pending = g .pending; known = g .known; cardcounter = g .cardcounter; equivalents = g .equivalents; entries = p }
 
   pub fit-clocked : (o : Orders) → Fit limit (clocked o a)
   unfolding clocked

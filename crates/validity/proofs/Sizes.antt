@@ -12,7 +12,8 @@ use Rattle.entries.specs.declared.Entries.{Entries}
 use Rattle.entries.specs.declared.Seat.{Seat}
 use Rattle.entries.specs.declared.Deed.{Deed}
 use Rattle.entries.specs.declared.Deed.the-variants as deed
-use Rattle.entries.specs.Entries.{entriesHeld, placeIn, hasEntry, liftMark, bumped, putAt, clearUnless, raised, banned, barredBy, unforbidden, n1ToLimit, swept, powered, none, entriesAfter}
+use Rattle.entries.specs.Entries.{entriesHeld, placeIn, hasEntry, liftMark, bumped, putAt, clearUnless, raised, banned, barredBy, unforbidden, n1ToLimit, swept, powered, grown, imported, importedAll, none, entriesAfter}
+use Rattle.networks.specs.Networks.{networksIn}
 use Rattle.areas.specs.declared.Task.{Task}
 use Rattle.areas.specs.declared.Task.the-variants as task
 use Rattle.areas.specs.Areas.{areaOf, isProtected, areaPlace, listedIn, marked, remarked, placed, stayed, sweptList, listAfter}
@@ -106,6 +107,16 @@ module _ (t : Entries) (w : Columns t) where
     barred = w .barred;
   }
 
+  pub imported-columns : (net count : ℕ) → Columns (imported net count t)
+  unfolding imported
+  imported-columns net count = record {
+    nets = put-length (t .nets) (placeIn count net (t .nets)) net 16 (w .nets);
+    bans = clear-length (hasEntry count net (t .nets)) (t .bans) (placeIn count net (t .nets)) 16 (w .bans);
+    n1s = clear-length (hasEntry count net (t .nets)) (t .n1s) (placeIn count net (t .nets)) 16 (w .n1s);
+    forbidden = put-length (t .forbidden) (placeIn count net (t .nets)) 1 16 (w .forbidden);
+    barred = clear-length (hasEntry count net (t .nets)) (t .barred) (placeIn count net (t .nets)) 16 (w .barred);
+  }
+
   swept-columns : (count banlimit n1limit : ℕ) → Columns (swept count banlimit n1limit t)
   unfolding swept
   swept-columns count banlimit n1limit = record {
@@ -126,16 +137,23 @@ module _ (t : Entries) (w : Columns t) where
     barred = length-replicate {A = ℕ} 16 0;
   }
 
-entries-columns : (k : Deed) (count banlimit n1limit : ℕ) (t : Entries) → Columns t → Columns (entriesAfter k count banlimit n1limit t)
+-- networks one after the other
+all-columns : (xs : List ℕ) (count : ℕ) (t : Entries) → Columns t → Columns (importedAll xs count t)
+unfolding importedAll
+all-columns [] count t w = w
+all-columns (net ∷ rest) count t w = all-columns rest (grown (hasEntry count net (t .nets)) count) (imported net count t) (imported-columns t w net count)
+
+entries-columns : (k : Deed) (octets : List ℕ) (count banlimit n1limit : ℕ) (t : Entries) → Columns t → Columns (entriesAfter k octets count banlimit n1limit t)
 unfolding entriesAfter
-entries-columns deed.Nothing count banlimit n1limit t w = w
-entries-columns (deed.Ban s) count banlimit n1limit t w = banned-columns t w s banlimit
-entries-columns (deed.Bar s) count banlimit n1limit t w = barred-columns t w s n1limit
-entries-columns (deed.Accept s) count banlimit n1limit t w = accepted-columns t w s
-entries-columns (deed.ToLimit net) count banlimit n1limit t w = limit-columns t w net count n1limit
-entries-columns deed.Sweep count banlimit n1limit t w = swept-columns t w count banlimit n1limit
-entries-columns deed.Power count banlimit n1limit t w = cycled-columns t w count banlimit
-entries-columns deed.Fresh count banlimit n1limit t w = none-columns
+entries-columns deed.Nothing octets count banlimit n1limit t w = w
+entries-columns (deed.Ban s) octets count banlimit n1limit t w = banned-columns t w s banlimit
+entries-columns (deed.Bar s) octets count banlimit n1limit t w = barred-columns t w s n1limit
+entries-columns (deed.Accept s) octets count banlimit n1limit t w = accepted-columns t w s
+entries-columns (deed.ToLimit net) octets count banlimit n1limit t w = limit-columns t w net count n1limit
+entries-columns deed.Import octets count banlimit n1limit t w = all-columns (networksIn octets) count t w
+entries-columns deed.Sweep octets count banlimit n1limit t w = swept-columns t w count banlimit n1limit
+entries-columns deed.Power octets count banlimit n1limit t w = cycled-columns t w count banlimit
+entries-columns deed.Fresh octets count banlimit n1limit t w = none-columns
 
 -- those that stay, and as many behind them as before
 swept-length : (count : ℕ) (xs : List ℕ) → length (sweptList count xs) ≡ length xs
@@ -186,8 +204,8 @@ suci-length octets keep.Card suci e = copied-length (atMost 64 (length octets)) 
 pub advance-sized : (r : Record) (e : Event) (octets : List ℕ) → Sized r → Sized (advanceOf r e octets .next)
 unfolding advanceOf joinedOf together partsAfter carriedOut doneOf tableAfter keptAfter
 advance-sized r e octets s = record {
-  e0 = entries-columns (deedOf p 0) (r .hot .a0 .entries) (r .hot .dev .banlimit) (r .hot .dev .n1limit) (r .e0) (s .e0);
-  e1 = entries-columns (deedOf p 1) (r .hot .a1 .entries) (r .hot .dev .banlimit) (r .hot .dev .n1limit) (r .e1) (s .e1);
+  e0 = entries-columns (deedOf p 0) octets (r .hot .a0 .entries) (r .hot .dev .banlimit) (r .hot .dev .n1limit) (r .e0) (s .e0);
+  e1 = entries-columns (deedOf p 1) octets (r .hot .a1 .entries) (r .hot .dev .banlimit) (r .hot .dev .n1limit) (r .e1) (s .e1);
   roaming = list-length (p .work .roaming) (r .hot .dev .roaming) (r .roaming) (s .roaming);
   regional = list-length (p .work .regional) (r .hot .dev .regional) (r .regional) (s .regional);
   guti0 = guti-length (eqb (p .access) 0) octets (p .work .keep) (r .guti0) (s .guti0);

@@ -15,7 +15,7 @@ use Rattle.record.specs.declared.Hot.{Hot}
 use Rattle.record.specs.declared.Record.{Record}
 use Rattle.record.specs.Answers.{isTaken}
 use Rattle.record.specs.New.{newDevice, newAccess, emptyRecord, newRecord}
-use Rattle.record.specs.Setters.{inState, withStatus, withAttempts, counted, pending, keyed, taught}
+use Rattle.record.specs.Setters.{inState, withStatus, withAttempts, counted, pending, keyed, taught, withEntries}
 use Rattle.record.specs.Sides.{accessOf, otherOf, hotOf}
 use Rattle.record.specs.Tests.{either}
 use Rattle.ranges.specs.Valid.{validOf}
@@ -26,9 +26,9 @@ use Rattle.turns.specs.Words.{Across, untouched, cardCounterToLimit, n1CounterT
 use Rattle.turns.specs.Rejects.{rowText}
 use Rattle.turns.specs.Turns.{started, updated, keySet, accepted, t3511Out, t3502Out, t3346Out, clockTurn, otherTurned, otherTurn}
 use Rattle.checks.specs.Answers.{mayStart, rowNow, runs}
-use Rattle.effects.specs.Effects.{Effect, ticked, cardEffect, startEffect, updateEffect, keyEffect, t3512Time, acceptT3512, acceptEffect, clockEffect, t3247Effect, t3512Effect, deviceEffect, timerEffect, powerEffect, rejectEffect}
+use Rattle.effects.specs.Effects.{Effect, ticked, cardEffect, startEffect, updateEffect, keyEffect, t3512Time, acceptT3512, acceptEffect, clockEffect, t3247Effect, t3512Effect, deviceEffect, timerEffect, powerEffect, rejectEffect, importEffect}
 use Rattle.rules.specs.declared.Event.{Event}
-use Rattle.rules.specs.declared.Event.the-variants.{Card, Start, Message, Timer, Power, Key, Update, Unknown}
+use Rattle.rules.specs.declared.Event.the-variants.{Card, Start, Message, Timer, Power, Key, Update, Import, Unknown}
 use Rattle.rules.specs.Plan.{askOf, accessIn, answerOf, messageEffect, effectOf, hotAfter, takenPlan}
 use Rattle.events.specs.Parts.{withCounts, doneOf, carriedOut}
 use Rattle.events.specs.Step.{together, joinedOf, stepOf}
@@ -149,15 +149,16 @@ module _ (r : Record) (g : Good r) (s : Steady r) where
       go false q = rw q (clock-steady number w q f)
 
   event-steady : (e : Event) (octets : List ℕ) → isTaken (answeredBy r e octets) ≡ true → Leaves h (accessIn e) (effectIn r e octets)
-  unfolding answeredBy answerOf askOf accessIn effectOf cardEffect powerEffect flagAfter isTaken
+  unfolding answeredBy answerOf askOf accessIn effectOf cardEffect powerEffect importEffect withEntries flagAfter isTaken
   event-steady (Card home) octets t = refl
   event-steady (Start w manual net code) octets t =
-      start-steady w net code (start-passed h w manual net code (seenAt r (Start w manual net code)) (listedAt r (Start w manual net code)) t .4)
+      start-steady w net code (start-passed h w manual net code (seenAt r (Start w manual net code) octets) (listedAt r (Start w manual net code)) t .4)
   event-steady (Message w protected draws) octets t = message-steady w protected draws (readingOf octets) _ (message-passed h w protected draws (readingOf octets) _ t .1)
   event-steady (Timer number w) octets t = timer-steady number w (timer-passed h number w t .2)
   event-steady Power octets t = refl
   event-steady (Key w set) octets t = key-steady w set
   event-steady (Update w regtype net code uplink sessions) octets t = update-steady w regtype net code uplink sessions
+  event-steady Import octets t = s
   event-steady Unknown octets t = absurd (false≢true t)
 
 pub steady-kept : (r : Record) (e : Event) (octets : List ℕ) → Steady r → Steady (stepOf r e octets .next)

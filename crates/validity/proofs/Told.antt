@@ -16,7 +16,7 @@ use Rattle.record.specs.declared.Answer.the-variants.{Range}
 use Rattle.record.specs.declared.Hot.{Hot}
 use Rattle.record.specs.declared.Record.{Record}
 use Rattle.record.specs.Answers.{isTaken}
-use Rattle.record.specs.Setters.{inState, withStatus, withAttempts, forgotten, emptied, counted, pending, keyed, taught}
+use Rattle.record.specs.Setters.{inState, withStatus, withAttempts, forgotten, emptied, counted, pending, keyed, taught, withEntries}
 use Rattle.record.specs.Sides.{accessOf, otherOf, hotOf}
 use Rattle.ranges.specs.Valid.{validOf}
 use Rattle.turns.specs.declared.Order.{Order}
@@ -28,9 +28,9 @@ use Rattle.turns.specs.Words.{Text, says, asT3510Out, Across, untouched, cardCo
 use Rattle.turns.specs.Rejects.{t3346Time, rowText}
 use Rattle.turns.specs.Turns.{still, started, updated, keySet, accepted, startFailed, updateFailed, failed, t3510Out, t3511Out, t3502Out, t3346Out, clockTurn, cycled, renewed, turned, rowTurn, otherTurned, otherTurn}
 use Rattle.checks.specs.Answers.{rowNow}
-use Rattle.effects.specs.Effects.{Effect, ticked, cardEffect, startEffect, updateEffect, keyEffect, acceptEffect, clockEffect, t3247Effect, t3512Effect, deviceEffect, timerEffect, powerEffect, rejectEffect}
+use Rattle.effects.specs.Effects.{Effect, ticked, cardEffect, startEffect, updateEffect, keyEffect, acceptEffect, clockEffect, t3247Effect, t3512Effect, deviceEffect, timerEffect, powerEffect, rejectEffect, importEffect}
 use Rattle.rules.specs.declared.Event.{Event}
-use Rattle.rules.specs.declared.Event.the-variants.{Card, Start, Message, Timer, Power, Key, Update, Unknown}
+use Rattle.rules.specs.declared.Event.the-variants.{Card, Start, Message, Timer, Power, Key, Update, Import, Unknown}
 use Rattle.rules.specs.Plan.{accessIn, messageEffect, effectOf, hotAfter, takenReply, refusedReply, takenPlan}
 use Rattle.events.specs.Parts.{withCounts, doneOf, carriedOut}
 use Rattle.events.specs.Step.{together, joinedOf, stepOf}
@@ -129,7 +129,7 @@ message-owned h b protected draws (reading.Bad f at) s = record { mine = still-o
 
 -- a card change and a power cycle stop every timer
 event-owned : (h : Hot) (e : Event) (s : Seen) (octets : List ℕ) → Owned h (accessIn e) (effectOf h e s octets)
-unfolding accessIn effectOf cardEffect renewed startEffect started updateEffect updated pending inState keyEffect keySet keyed powerEffect cycled flagAfter
+unfolding accessIn effectOf cardEffect renewed startEffect started updateEffect updated pending inState keyEffect keySet keyed powerEffect cycled importEffect withEntries accessOf otherOf flagAfter
 event-owned h (Card home) s octets = record { mine = record { t3510 = refl; t3511 = refl; t3502 = refl; t3346 = refl }; theirs = record { t3510 = refl; t3511 = refl; t3502 = refl; t3346 = refl } }
 event-owned h (Start b manual net code) s octets = record { mine = record { t3510 = refl; t3511 = refl; t3502 = refl; t3346 = refl }; theirs = still-owns (otherOf h b) }
 event-owned h (Message b protected draws) s octets = message-owned h b protected draws (readingOf octets) s
@@ -137,6 +137,7 @@ event-owned h (Timer number b) s octets = timer-owned h number b
 event-owned h Power s octets = record { mine = record { t3510 = refl; t3511 = refl; t3502 = refl; t3346 = refl }; theirs = record { t3510 = refl; t3511 = refl; t3502 = refl; t3346 = refl } }
 event-owned h (Key b set) s octets = record { mine = record { t3510 = refl; t3511 = refl; t3502 = refl; t3346 = refl }; theirs = still-owns (otherOf h b) }
 event-owned h (Update b regtype net code uplink sessions) s octets = record { mine = record { t3510 = refl; t3511 = refl; t3502 = refl; t3346 = refl }; theirs = still-owns (otherOf h b) }
+event-owned h Import s octets = record { mine = record { t3510 = refl; t3511 = refl; t3502 = refl; t3346 = refl }; theirs = still-owns (otherOf h 0) }
 event-owned h Unknown s octets = record { mine = still-owns (accessOf h 0); theirs = still-owns (otherOf h 0) }
 
 module _ (r : Record) (octets : List ℕ) where
@@ -167,6 +168,6 @@ module _ (r : Record) (octets : List ℕ) where
   timers-told e = go (validOf r) refl (isTaken (answeredBy r e octets)) refl
     where
       go : (s : Bool) → validOf r ≡ s → (s′ : Bool) → isTaken (answeredBy r e octets) ≡ s′ → TellsTrue (stepOf r e octets .reply) r (stepOf r e octets .next)
-      go true v true t = rw (v, taken-plan r e octets t) (plan-told (accessIn e) (effectIn r e octets) (event-owned (r .hot) e (seenAt r e) octets) (eqb (accessIn e) 0) refl)
+      go true v true t = rw (v, taken-plan r e octets t) (plan-told (accessIn e) (effectIn r e octets) (event-owned (r .hot) e (seenAt r e octets) octets) (eqb (accessIn e) 0) refl)
       go true v false t = rw (v, refused r e octets t) (refused-told (answeredBy r e octets) (accessIn e))
       go false v s′ t = rw v (refused-told Range 0)

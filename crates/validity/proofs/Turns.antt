@@ -8,6 +8,7 @@ use lib.Dec.{ltb, eqb}
 use mathlib.Core.Logic.{_≢_}
 use borrow.Author.Tests.{leb-true, le-leb, eqb-true, eqb-false}
 use Rattle.laws.specs.Bounds.{oneMore}
+use Rattle.entries.specs.Entries.{grown}
 use Rattle.record.specs.declared.Access.{Access}
 use Rattle.record.specs.Tests.{both, either, within, upTo, isFlag, isShort, isClear0}
 use Rattle.record.specs.Network.{isNetwork}
@@ -19,11 +20,11 @@ use Rattle.turns.specs.declared.Row.the-variants.{CardBelow, CardLimit, CardPro
 use Rattle.turns.specs.Timers.{flagAfter, quiet, starting, answered, retrying, resting, t3511Stops, t3502Stops, t3346Stops, halted, clocked}
 use Rattle.turns.specs.Words.{Text, says, asT3510Out, Words, Counter, kept, upByOne, toLimit, zeroed, Across, untouched, cardCounterToLimit, n1CounterToLimitIfProtected, Timing, stopT3510, stopT3510RunT3346, holds, counterAfter, isUpdating, stateAfter, ordersAfter, isMark, markIn, acrossOf, applied}
 use Rattle.turns.specs.Rejects.{rowText, needsEntry}
-use Rattle.record.specs.Setters.{inState, withStatus, withAttempts, forgotten, emptied, counted, pending, keyed, taught}
+use Rattle.record.specs.Setters.{inState, withStatus, withAttempts, forgotten, emptied, counted, pending, keyed, taught, withEntries}
 use Rattle.turns.specs.Turns.{turnOf, still, started, updated, keySet, accepted, startFailed, updateFailed, failed, t3510Out, t3511Out, t3502Out, t3346Out, cycled, renewed, turned, rowTurn, otherTurned, otherTurn}
 use Rattle.validity.proofs.Bools.{either-first, more-fits}
 use Rattle.validity.proofs.Good.{Fit, Timely, Carded}
-use Rattle.validity.proofs.Setters.{grown, grown-fits, fit-state, fit-status, fit-attempts, fit-forgotten, fit-emptied, fit-counted, fit-pending, fit-keyed, fit-taught, fit-clocked}
+use Rattle.validity.proofs.Setters.{grown-fits, fit-state, fit-status, fit-attempts, fit-forgotten, fit-emptied, fit-counted, fit-pending, fit-keyed, fit-taught, fit-entries, fit-clocked}
 
 -- the access after its turn
 abbrev pub after : Turn → Access
@@ -93,6 +94,10 @@ module _ (card limit : ℕ) (a : Access) (g : Fit limit a) where
       equivalents = omega arith;
       entries = refl;
     }
+
+    pub imported-turned : (n : ℕ) → upTo 16 n ≡ true → Turned card limit (a .equivalents) n (after (still (withEntries n a)))
+    unfolding clocked flagAfter withEntries
+    imported-turned n p = record { fit = fit-clocked limit (withEntries n a) (fit-entries limit a g n p) quiet; timely = t; carded = c; equivalents = omega arith; entries = refl }
 
     pub key-turned : (set : ℕ) → upTo 7 set ≡ true → Turned card limit (a .equivalents) (a .entries) (after (keySet set a))
     unfolding keySet clocked flagAfter keyed

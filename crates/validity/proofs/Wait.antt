@@ -20,7 +20,7 @@ use Rattle.record.specs.declared.Made.{Made}
 use Rattle.record.specs.declared.Record.{Record}
 use Rattle.record.specs.Answers.{isTaken}
 use Rattle.record.specs.New.{newAccess, emptyRecord, newRecord, mayMake, madeOf}
-use Rattle.record.specs.Setters.{inState, withStatus, withAttempts, forgotten, emptied, counted, pending, keyed, taught}
+use Rattle.record.specs.Setters.{inState, withStatus, withAttempts, forgotten, emptied, counted, pending, keyed, taught, withEntries}
 use Rattle.record.specs.Sides.{accessOf, otherOf, hotOf}
 use Rattle.record.specs.Tests.{either, flip}
 use Rattle.ranges.specs.Valid.{validOf}
@@ -32,10 +32,10 @@ use Rattle.turns.specs.Words.{Across, untouched, cardCounterToLimit, n1CounterT
 use Rattle.turns.specs.Rejects.{t3346Time, rowText}
 use Rattle.turns.specs.Turns.{still, started, updated, keySet, accepted, startFailed, updateFailed, failed, t3510Out, t3511Out, t3502Out, t3346Out, clockTurn, cycled, renewed, turned, rowTurn, otherTurned, otherTurn}
 use Rattle.checks.specs.Answers.{rowNow}
-use Rattle.effects.specs.Effects.{Effect, ticked, cardEffect, startEffect, updateEffect, keyEffect, acceptEffect, clockEffect, t3247Effect, t3512Effect, deviceEffect, timerEffect, powerEffect, rejectEffect}
+use Rattle.effects.specs.Effects.{Effect, ticked, cardEffect, startEffect, updateEffect, keyEffect, acceptEffect, clockEffect, t3247Effect, t3512Effect, deviceEffect, timerEffect, powerEffect, rejectEffect, importEffect}
 use Rattle.rules.specs.declared.Asked.the-variants.{On}
 use Rattle.rules.specs.declared.Event.{Event}
-use Rattle.rules.specs.declared.Event.the-variants.{Card, Start, Message, Timer, Power, Key, Update, Unknown}
+use Rattle.rules.specs.declared.Event.the-variants.{Card, Start, Message, Timer, Power, Key, Update, Import, Unknown}
 use Rattle.rules.specs.Plan.{askOf, accessIn, answerOf, messageEffect, effectOf, hotAfter, takenReply, takenPlan, deedOn, deedOf}
 use Rattle.events.specs.Parts.{tableAfter, withCounts, doneOf, carriedOut, gutiAfter, equivalentsAfter, suciAfter, keptAfter}
 use Rattle.events.specs.Step.{together, joinedOf, advanceOf, stepOf}
@@ -155,18 +155,19 @@ module _ (r : Record) (s : BothWait r) where
       go false q d q′ = rw q (record { mine = clock-waits number b; theirs = still-waits (otherOf h b) (other-waits b) })
 
   event-waits : (e : Event) (octets : List ℕ) → isTaken (answeredBy r e octets) ≡ true → Waited (effectIn r e octets)
-  unfolding answeredBy answerOf askOf effectOf cardEffect renewed newAccess startEffect started updateEffect updated pending inState keyEffect keySet keyed powerEffect cycled withAttempts clocked flagAfter isTaken
+  unfolding answeredBy answerOf askOf effectOf cardEffect renewed newAccess startEffect started updateEffect updated pending inState keyEffect keySet keyed powerEffect cycled importEffect withEntries withAttempts clocked flagAfter isTaken
   event-waits (Card home) octets t = record { mine = refl; theirs = refl }
   event-waits (Start b manual net code) octets t =
-      let p = start-passed h b manual net code (seenAt r (Start b manual net code)) (listedAt r (Start b manual net code)) t in
+      let p = start-passed h b manual net code (seenAt r (Start b manual net code) octets) (listedAt r (Start b manual net code)) t in
       record { mine = either-first (eqb (accessOf h b .t3346) 0) false (p .5); theirs = still-waits (otherOf h b) (other-waits b) }
-  event-waits (Message b protected draws) octets t = message-waits b protected draws (readingOf octets) (seenAt r (Message b protected draws))
+  event-waits (Message b protected draws) octets t = message-waits b protected draws (readingOf octets) (seenAt r (Message b protected draws) octets)
   event-waits (Timer number b) octets t = timer-waits number b
   event-waits Power octets t = record { mine = refl; theirs = refl }
   event-waits (Key b set) octets t = record { mine = own-waits b; theirs = still-waits (otherOf h b) (other-waits b) }
   event-waits (Update b regtype net code uplink sessions) octets t =
-      let p = update-passed h b regtype net code uplink sessions (seenAt r (Update b regtype net code uplink sessions)) (listedAt r (Update b regtype net code uplink sessions)) t in
+      let p = update-passed h b regtype net code uplink sessions (seenAt r (Update b regtype net code uplink sessions) octets) (listedAt r (Update b regtype net code uplink sessions)) t in
       record { mine = either-first (eqb (accessOf h b .t3346) 0) false (p .7); theirs = still-waits (otherOf h b) (other-waits b) }
+  event-waits Import octets t = record { mine = s .0; theirs = still-waits (h .a1) (s .1) }
   event-waits Unknown octets t = absurd (false≢true t)
 
 -- access 0 is the event's own or the other

@@ -14,12 +14,12 @@ use Rattle.events.specs.Parts.{seenOf, listedOf}
 abbrev pub askIn : Record → Event → Ask
 askIn r e = askOf (r .hot) e
 
--- what stands about its network, and whether its area is listed
-abbrev pub seenAt : Record → Event → Seen
-seenAt r e = seenOf (askIn r e) (r .hot) (r .e0) (r .e1)
+-- what stands about its network or its file, and whether its area is listed
+abbrev pub seenAt : Record → Event → List ℕ → Seen
+seenAt r e octets = seenOf (askIn r e) octets (r .hot) (r .e0) (r .e1)
 
 abbrev pub listedAt : Record → Event → Bool
 listedAt r e = listedOf (siteOf e) (r .hot) (r .roaming) (r .regional)
 
 unfoldable pub answeredBy : Record → Event → List ℕ → Answer
-answeredBy r e octets = answerOf (r .hot) e (seenAt r e) (listedAt r e) octets
+answeredBy r e octets = answerOf (r .hot) e (seenAt r e octets) (listedAt r e) octets

@@ -7,6 +7,7 @@ pub mod Reject
 pub mod Rows
 pub mod Causes
 pub mod Reply
+pub mod Import
 pub mod Power
 pub mod Update
 pub mod Wait

@@ -8,6 +8,8 @@
 // state is followed with the record of docs/src, so that starts, updates, messages and timers
 // come when they have an effect.
 
+#[path = "../../../docs/src/card.rs"]
+mod card;
 #[allow(dead_code)]
 #[path = "../../../docs/src/log.rs"]
 mod log;
@@ -73,9 +75,11 @@ enum Phase {
     Busy,
     /// Networks that bar N1 over one access and then over the other.
     Both,
+    /// The card's file is read between bans and what lifts them, and into tables that are full.
+    Imports,
 }
 
-const PHASES: [Phase; 18] = [
+const PHASES: [Phase; 19] = [
     Phase::Mixed,
     Phase::Mixed,
     Phase::Mixed,
@@ -94,6 +98,7 @@ const PHASES: [Phase; 18] = [
     Phase::Busy,
     Phase::Busy,
     Phase::Both,
+    Phase::Imports,
 ];
 
 /// The cause with which a network may ask for time.
@@ -110,6 +115,8 @@ const PERIODS: [u8; 16] = [
     0x00, 0x01, 0x1F, 0x21, 0x3F, 0x41, 0x5F, 0x61, 0x7F, 0x81, 0x9F, 0xA1, 0xBF, 0xC1, 0xDF, 0xE5,
 ];
 const LONG: [u8; 7] = [0x70, 0x71, 0x72, 0x75, 0x79, 0x7F, 0x77];
+/// How many places of the card's file a log record has at most.
+const PLACES: usize = (65535 - 2) / 3;
 /// Messages that a network or a device sends and no event reads.
 const TYPES: [u8; 8] = [0x41, 0x43, 0x45, 0x54, 0x56, 0x5D, 0x64, 0x68];
 
@@ -212,12 +219,66 @@ impl Generator {
         body
     }
 
+    /// A network that has an entry on access 0, or that starts name.
+    fn known_network(&mut self) -> [u8; 3] {
+        let entries = self.record.access[0].entries;
+        if !entries.is_empty() && self.random.odds(50) {
+            return entries[self.random.below(entries.len())].network;
+        }
+        network(self.random.below(8))
+    }
+
+    /// None, some or all of the networks that have an entry on access 0, and as many new ones as
+    /// there are free entries, one more or four more.
+    fn filling(&mut self) -> Vec<[u8; 3]> {
+        let access = self.record.access[0];
+        let room = 16 - access.entries.len() + self.random.pick(&[0, 0, 1, 4]);
+        let first = 8 + self.random.below(50);
+        let new = (first..).map(network).filter(|network| access.entry(network).is_none());
+        let share = self.random.pick(&[0, 50, 100]);
+        let known = access.entries.iter().filter(|_| self.random.odds(share));
+        known.map(|entry| entry.network).chain(new.take(room)).collect()
+    }
+
+    /// The card's file: a few networks or a filling one's, and among them unused places and doubles.
+    fn file(&mut self) -> Vec<[u8; 3]> {
+        let mut file = Vec::new();
+        if self.random.odds(if self.phase == Phase::Imports { 25 } else { 5 }) {
+            file = self.filling();
+        } else {
+            let count = self.random.below(5);
+            file.extend((0..count).map(|_| self.known_network()));
+        }
+        for _ in 0..self.random.below(5) {
+            let double = file.get(self.random.below(3 * file.len() + 1));
+            let code = double.copied().unwrap_or(card::UNUSED);
+            file.insert(self.random.below(file.len() + 1), code);
+        }
+        file
+    }
+
+    /// In a wild log also of a file as long as a record may be, or that ends within a place.
+    fn import(&mut self) -> Vec<u8> {
+        let mut file: Vec<[u8; 3]> = self.file().into_iter().map(|code| self.code(code)).collect();
+        if self.wild && !file.is_empty() && self.random.below(100) == 0 {
+            file = file.repeat(1 + self.random.below(PLACES / file.len()));
+        }
+        let mut body = [&[10, 0], file.as_flattened()].concat();
+        if self.spoil(6) {
+            body.extend(self.random.pick(&[&[0x00][..], &[0xFF], &[0x00, 0xF1], &[0xFF, 0xFF]]));
+        }
+        body
+    }
+
     /// A network that may be started, in most cases.
     fn choose(&mut self, a: usize) -> [u8; 3] {
         let mut chosen = self.record.home;
         let entries = &self.record.access[a].entries;
         if self.phase == Phase::Manual && entries.len() > 2 && self.random.odds(70) {
             return entries[self.random.below(3)].network;
+        }
+        if self.phase == Phase::Imports && !entries.is_empty() && self.random.odds(50) {
+            return entries[self.random.below(entries.len())].network;
         }
         if self.random.odds(20) {
             return chosen;
@@ -290,7 +351,10 @@ impl Generator {
 
     fn start(&mut self, a: usize) -> Vec<u8> {
         let access = self.access(a);
-        let manual = self.flag(if self.phase == Phase::Manual { 50 } else { 15 });
+        let manual = self.flag(match self.phase {
+            Phase::Manual | Phase::Imports => 50,
+            _ => 15,
+        });
         let mut body = vec![2, 0, access, manual];
         let place = self.place(a);
         let waits = self.record.access[a].t3346;
@@ -386,6 +450,7 @@ impl Generator {
             Phase::Lost => self.random.pick(&[22, 9, 10, 98, 22, 5, 96, 72]),
             Phase::Busy => self.random.pick(&[22, 22, 22, 22, 22, 22, 22, 11, 15, 27, 9, 111]),
             Phase::Both => self.random.pick(&[27, 27, 27, 27, 72, 11]),
+            Phase::Imports => self.random.pick(&[11, 11, 11, 73, 27, 22]),
             _ if self.wild && self.random.odds(10) => self.random.octet(),
             _ => self.random.pick(&CAUSES),
         }
@@ -590,6 +655,7 @@ impl Generator {
             Phase::Register => 80,
             Phase::Mixed => 25,
             Phase::Manual => 40,
+            Phase::Imports => 30,
             Phase::Areas => 1,
             Phase::Moving if self.updating(a) => 55,
             Phase::Lost if self.updating(a) => 8,
@@ -693,7 +759,7 @@ impl Generator {
     /// An event picked without regard to the state.
     fn stray(&mut self) -> Vec<u8> {
         let a = self.random.below(2);
-        match self.random.below(7) {
+        match self.random.below(8) {
             0 => self.start(a),
             1 | 2 => self.message(a),
             3 => {
@@ -703,6 +769,7 @@ impl Generator {
             }
             4 => self.key(a),
             5 => self.update(a),
+            6 => self.import(),
             _ => self.idle(a),
         }
     }
@@ -720,11 +787,18 @@ impl Generator {
         }
         self.left -= 1;
         if !self.record.card && self.random.odds(80) {
-            return self.card();
+            return if self.random.odds(20) { self.import() } else { self.card() };
         }
-        let calm = matches!(self.phase, Phase::Areas | Phase::Networks);
-        if self.record.t3247 && self.random.below(1000) < if calm { 5 } else { 40 } {
+        let lifts = match self.phase {
+            Phase::Areas | Phase::Networks => 5,
+            Phase::Imports => 150,
+            _ => 40,
+        };
+        if self.record.t3247 && self.random.below(1000) < lifts {
             return self.timer(4, 0);
+        }
+        if self.phase == Phase::Imports && self.random.odds(25) {
+            return self.carded();
         }
         if self.random.odds(3) {
             return self.stray();
@@ -735,8 +809,22 @@ impl Generator {
         self.steered()
     }
 
+    /// An import in most cases; else a card, with which all bans go, or a power cycle, which leaves
+    /// the card's.
+    fn carded(&mut self) -> Vec<u8> {
+        match self.random.below(10) {
+            0 => self.card(),
+            1 => vec![5, 0],
+            _ => self.import(),
+        }
+    }
+
     fn steered(&mut self) -> Vec<u8> {
-        let mut a = self.random.odds(if self.phase == Phase::Areas { 10 } else { 42 }) as usize;
+        let mut a = self.random.odds(match self.phase {
+            Phase::Areas => 10,
+            Phase::Imports => 20,
+            _ => 42,
+        }) as usize;
         let stuck = |state: u8| state == 5 || state == 0;
         let states = [self.record.access[0].state, self.record.access[1].state];
         let moves = match self.phase {

@@ -35,17 +35,23 @@ to-limit-requires c κs = search needs
 enum-told-2 : tie.Need-enum-told-2
 enum-told-2 c = search needs
 
-sweep-both-requires : tie.Need-sweep-both-requires
-sweep-both-requires c κs = search needs
+take-in-requires : tie.Need-take-in-requires
+take-in-requires c κs = search needs
 
 enum-told-3 : tie.Need-enum-told-3
 enum-told-3 c = search needs
 
-cycle-requires : tie.Need-cycle-requires
-cycle-requires c κs = search needs
+sweep-both-requires : tie.Need-sweep-both-requires
+sweep-both-requires c κs = search needs
 
 enum-told-4 : tie.Need-enum-told-4
 enum-told-4 c = search needs
+
+cycle-requires : tie.Need-cycle-requires
+cycle-requires c κs = search needs
+
+enum-told-5 : tie.Need-enum-told-5
+enum-told-5 c = search needs
 
 wipe-requires : tie.Need-wipe-requires
 wipe-requires c κs = search needs
@@ -71,16 +77,20 @@ unfolding entriesAfter n1ToLimit
 returns-5 c = rw (c .before .before .before .before .k4 .given .1, c .to-limit .ensures)
 
 returns-6 : tie.Need-returns-6
-unfolding entriesAfter swept
-returns-6 c = rw (c .before .before .before .before .before .enum-told2 .given .1, c .sweep-both .ensures .0, c .sweep-both .ensures .1)
+unfolding entriesAfter
+returns-6 c = rw (c .before .before .before .before .before .before .enum-told2 .given .1) (c .take-in .ensures)
 
 returns-7 : tie.Need-returns-7
-unfolding entriesAfter powered
-returns-7 c = rw (c .before .before .before .before .enum-told3 .given .1, c .cycle .ensures .0, c .cycle .ensures .1)
+unfolding entriesAfter swept
+returns-7 c = rw (c .before .before .before .before .before .enum-told3 .given .1, c .sweep-both .ensures .0, c .sweep-both .ensures .1)
 
 returns-8 : tie.Need-returns-8
+unfolding entriesAfter powered
+returns-8 c = rw (c .before .before .before .before .enum-told4 .given .1, c .cycle .ensures .0, c .cycle .ensures .1)
+
+returns-9 : tie.Need-returns-9
 unfolding entriesAfter
-returns-8 c = rw (c .before .before .before .before .before .before .enum-told4 .given .1) (c .wipe .ensures)
+returns-9 c = rw (c .before .before .before .before .before .before .enum-told5 .given .1) (c .wipe .ensures)
 
 pub tend-spec : {M : Type 1} → statement M
 tend-spec =
@@ -96,10 +106,12 @@ tend-spec =
     enum-known-k-4
     to-limit-requires
     enum-told-2
-    sweep-both-requires
+    take-in-requires
     enum-told-3
-    cycle-requires
+    sweep-both-requires
     enum-told-4
+    cycle-requires
+    enum-told-5
     wipe-requires
     returns
     returns-2
@@ -108,4 +120,5 @@ tend-spec =
     returns-5
     returns-6
     returns-7
-    returns-8)
+    returns-8
+    returns-9)

@@ -4,12 +4,12 @@ use borrow.Author.Needs.{needs}
 use Rattle.record.proofs.setters.entered.Statement.{statement}
 use Rattle.record.proofs.setters.entered.Tie as tie
 
-more-requires : tie.Need-more-requires
-more-requires c κs = search needs
+grow-requires : tie.Need-grow-requires
+grow-requires c κs = search needs
 
 returns : tie.Need-returns
 unfolding entered
 returns c = cc
 
 pub entered-spec : {M : Type 1} → statement M
-entered-spec = tie.close (tie.spec more-requires returns)
+entered-spec = tie.close (tie.spec grow-requires returns)

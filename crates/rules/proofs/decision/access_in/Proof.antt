@@ -28,6 +28,9 @@ enum-known-e-5 c = search needs
 enum-told-3 : tie.Need-enum-told-3
 enum-told-3 c = search needs
 
+enum-told-4 : tie.Need-enum-told-4
+enum-told-4 c = search needs
+
 returns : tie.Need-returns
 unfolding accessIn
 returns c = rw (c .enum-told .given .1)
@@ -60,6 +63,10 @@ returns-8 : tie.Need-returns-8
 unfolding accessIn
 returns-8 c = rw (c .enum-told3 .given .1)
 
+returns-9 : tie.Need-returns-9
+unfolding accessIn
+returns-9 c = rw (c .enum-told4 .given .1)
+
 pub access-in-spec : {M : Type 1} → statement M
 access-in-spec =
     tie.close
@@ -72,6 +79,7 @@ access-in-spec =
     enum-known-e-4
     enum-known-e-5
     enum-told-3
+    enum-told-4
     returns
     returns-2
     returns-3
@@ -79,4 +87,5 @@ access-in-spec =
     returns-5
     returns-6
     returns-7
-    returns-8)
+    returns-8
+    returns-9)

@@ -46,6 +46,12 @@ update-answer-requires c κs = search needs
 enum-told-2 : tie.Need-enum-told-2
 enum-told-2 c = search needs
 
+import-answer-requires : tie.Need-import-answer-requires
+import-answer-requires c κs = search needs
+
+enum-told-3 : tie.Need-enum-told-3
+enum-told-3 c = search needs
+
 returns : tie.Need-returns
 unfolding answerOf
 returns c = rw (c .before .before .e .given .1) (c .card-answer .ensures)
@@ -76,7 +82,11 @@ returns-7 c = rw (c .before .before .e6 .given .1) (c .update-answer .ensures)
 
 returns-8 : tie.Need-returns-8
 unfolding answerOf
-returns-8 c = rw (c .enum-told2 .given .1)
+returns-8 c = rw (c .before .enum-told2 .given .1) (c .import-answer .ensures)
+
+returns-9 : tie.Need-returns-9
+unfolding answerOf
+returns-9 c = rw (c .enum-told3 .given .1)
 
 pub answer-of-spec : {M : Type 1} → statement M
 answer-of-spec =
@@ -96,6 +106,8 @@ answer-of-spec =
     enum-known-e-6
     update-answer-requires
     enum-told-2
+    import-answer-requires
+    enum-told-3
     returns
     returns-2
     returns-3
@@ -103,4 +115,5 @@ answer-of-spec =
     returns-5
     returns-6
     returns-7
-    returns-8)
+    returns-8
+    returns-9)

@@ -31,6 +31,9 @@ enum-known-e-3 c = search needs
 enum-told-5 : tie.Need-enum-told-5
 enum-told-5 c = search needs
 
+enum-told-6 : tie.Need-enum-told-6
+enum-told-6 c = search needs
+
 returns : tie.Need-returns
 unfolding askOf
 returns c = rw (c .enum-told .given .1)
@@ -63,6 +66,10 @@ returns-8 : tie.Need-returns-8
 unfolding askOf
 returns-8 c = rw (c .enum-told5 .given .1)
 
+returns-9 : tie.Need-returns-9
+unfolding askOf
+returns-9 c = rw (c .enum-told6 .given .1)
+
 pub ask-of-spec : {M : Type 1} → statement M
 ask-of-spec =
     tie.close
@@ -76,6 +83,7 @@ ask-of-spec =
     enum-told-4
     enum-known-e-3
     enum-told-5
+    enum-told-6
     returns
     returns-2
     returns-3
@@ -83,4 +91,5 @@ ask-of-spec =
     returns-5
     returns-6
     returns-7
-    returns-8)
+    returns-8
+    returns-9)

@@ -1,4 +1,4 @@
--- Event by event, as the definition; the length of a card that is taken fits an octet, and a message's reading is that of its octets. Assumes nothing.
+-- Event by event, as the definition; what a taken card or import keeps in an octet fits it, and a message's reading is that of its octets. Assumes nothing.
 use native.Mathlib.Omega.{arith}
 use Rattle.rules.specs.Plan.{accessIn, effectOf}
 use borrow.Author.Needs.{needs}
@@ -9,7 +9,7 @@ enum-known-e : tie.Need-enum-known-e
 enum-known-e c = search needs
 
 cast-card-effect : tie.Need-cast-card-effect
-cast-card-effect c = omega (arith, c .before .before .before .before .pre .0 _ (c .before .e .given .1))
+cast-card-effect c = omega (arith, rw (c .before .e .given .1) at (c .before .before .before .before .pre .0))
 
 card-effect-requires : tie.Need-card-effect-requires
 card-effect-requires c κs = search needs
@@ -53,6 +53,15 @@ update-effect-requires c κs = search needs
 enum-told-2 : tie.Need-enum-told-2
 enum-told-2 c = search needs
 
+cast-import-effect : tie.Need-cast-import-effect
+cast-import-effect c = omega (arith, rw (c .before .enum-told2 .given .1) at (c .before .before .before .before .pre .0))
+
+import-effect-requires : tie.Need-import-effect-requires
+import-effect-requires c κs = search needs
+
+enum-told-3 : tie.Need-enum-told-3
+enum-told-3 c = search needs
+
 none-requires : tie.Need-none-requires
 none-requires c κs = search needs
 
@@ -86,7 +95,11 @@ returns-7 c = rw (c .before .before .e6 .given .1) (c .update-effect .ensures)
 
 returns-8 : tie.Need-returns-8
 unfolding effectOf accessIn
-returns-8 c = rw (c .before .enum-told2 .given .1) (c .none .ensures)
+returns-8 c = rw (c .before .before .enum-told2 .given .1) (c .import-effect .ensures)
+
+returns-9 : tie.Need-returns-9
+unfolding effectOf accessIn
+returns-9 c = rw (c .before .enum-told3 .given .1) (c .none .ensures)
 
 pub effect-of-spec : {M : Type 1} → statement M
 effect-of-spec =
@@ -108,6 +121,9 @@ effect-of-spec =
     enum-known-e-6
     update-effect-requires
     enum-told-2
+    cast-import-effect
+    import-effect-requires
+    enum-told-3
     none-requires
     returns
     returns-2
@@ -116,4 +132,5 @@ effect-of-spec =
     returns-5
     returns-6
     returns-7
-    returns-8)
+    returns-8
+    returns-9)

@@ -1,5 +1,5 @@
--- The answer decides; a card is taken only with a SUCI of at most 64 octets, so its length fits an octet. Assumes nothing.
-use Prim.Native.Nat.{ℕ, _<_}
+-- The answer decides; a card is taken only with a SUCI of at most 64 octets, an import only with at most sixteen entries: both fit an octet. Assumes nothing.
+use Prim.Native.Nat.{ℕ}
 use native.Mathlib.Omega.{arith}
 use mathlib.Core.Path.{_≡_, refl}
 use mathlib.Core.Bool.{Bool, true, false}
@@ -12,8 +12,12 @@ use Rattle.record.specs.Tests.{both}
 use Rattle.record.specs.Network.{isNetwork}
 use Rattle.record.specs.Answers.{isTaken}
 use Rattle.record.specs.declared.Answer.the-variants as answer
-use Rattle.checks.specs.Answers.{check, cardAnswer}
-use Rattle.rules.specs.Plan.{answerOf, planOf}
+use Rattle.record.specs.declared.Hot.{Hot}
+use Rattle.entries.specs.declared.Seen.{Seen}
+use Rattle.checks.specs.Answers.{check, cardAnswer, importRange, importAnswer}
+use Rattle.rules.specs.declared.Event.{Event}
+use Rattle.rules.specs.declared.Event.the-variants.{Card, Start, Message, Timer, Power, Key, Update, Import, Unknown}
+use Rattle.rules.specs.Plan.{Fits, answerOf, planOf}
 use Rattle.rules.proofs.decision.plan_of.Statement.{statement}
 use Rattle.rules.proofs.decision.plan_of.Tie as tie
 
@@ -25,11 +29,26 @@ passed true true false e t = t
 passed true false false e t = t
 passed false b false e t = t
 
-short : (home : ℕ) (o : List ℕ) → isTaken (cardAnswer home o) ≡ true → length o < 256
-unfolding cardAnswer
-short home o t =
+room : (a b : Bool) → isTaken (check a answer.Range (check b answer.Full answer.Taken)) ≡ true → b ≡ true
+unfolding isTaken
+room a true t = refl
+room true false t = t
+room false false t = t
+
+-- the answer, event by event
+fits : (h : Hot) (e : Event) (s : Seen) (listed : Bool) (o : List ℕ) → isTaken (answerOf h e s listed o) ≡ true → Fits e (s .at) o
+unfolding answerOf cardAnswer importAnswer
+fits h (Card home) s listed o t =
     let most : leb (length o) 64 ≡ true = passed (isNetwork home) (leb 9 (length o)) (leb (length o) 64) (eqb (getD o 0 0) 1) t in
     omega (arith, leb-true (length o) 64 most)
+fits h (Start w manual net code) s listed o t = tt
+fits h (Message w protected draws) s listed o t = tt
+fits h (Timer number w) s listed o t = tt
+fits h Power s listed o t = tt
+fits h (Key w set) s listed o t = tt
+fits h (Update w regtype net code uplink sessions) s listed o t = tt
+fits h Import s listed o t = omega (arith, leb-true (s .at) 16 (room (importRange o) (leb (s .at) 16) t))
+fits h Unknown s listed o t = tt
 
 heard-requires : tie.Need-heard-requires
 heard-requires c κs = search needs
@@ -38,8 +57,7 @@ answer-of-requires : tie.Need-answer-of-requires
 answer-of-requires c κs = search needs
 
 decided-by-requires : tie.Need-decided-by-requires
-unfolding answerOf
-decided-by-requires c κs = ((λ t home i. short home _ (rw (c .answer-of .ensures, i) at t)), c .before .heard .ensures)
+decided-by-requires c κs = ((λ t. fits _ _ _ _ _ (rw (c .answer-of .ensures) at t)), c .before .heard .ensures)
 
 returns : tie.Need-returns
 unfolding planOf

@@ -1,0 +1,111 @@
+// A card's file of forbidden networks: whether they all find an entry, and taking them in.
+use crate::find;
+use crate::one_more;
+use crate::put;
+use crate::put_net;
+use crate::put_when;
+use crate::size;
+use networks::is_unused;
+use networks::network_at;
+ghost use mathlib.Core.Path.{_≡_};
+ghost use mathlib.Core.Bool.{cond};
+ghost use Prim.Native.Nat.{_+_, _≤_};
+ghost use Rattle.networks.specs.Networks.{networksIn};
+ghost use Rattle.entries.specs.Entries.{hasEntry, putAt, entriesOf, grown, imported, importedAll, heldWith};
+ghost use Rattle.entries.specs.Counting.{isPassed};
+
+// A network that is neither among the first n, those with an entry, nor among the k new ones is one more of these. Sixteen have a place: a seventeenth is
+// counted alone.
+fn join(net: u32, n: usize, nets: &[u32; 16], k: usize, new: &mut [u32; 16]) -> usize
+    requires { ⌜ (n ≤ 16) × (k ≤ 16) ⌝ }
+    ensures { λ r. ⌜ r ≡ cond (isPassed net n (now (nets .entry)) k (now (new .entry))) k (k + 1) ⌝ }
+    ensures { λ r. ⌜ r ≤ k + 1 ⌝ }
+    ensures { λ r. ⌜ now (new .exit) ≡ cond (isPassed net n (now (nets .entry)) k (now (new .entry))) (now (new .entry)) (putAt (now (new .entry)) k net) ⌝ }
+{
+    if is_unused(net) {
+        return k;
+    }
+    if find(nets, n, net) < n {
+        return k;
+    }
+    if find(new, k, net) < k {
+        return k;
+    }
+    put_net(new, k, net);
+    k + 1
+}
+
+// The new networks are counted in a list of their own, so that nothing is written before all are known to fit. One look over the file, and at most
+// thirty-two numbers for each network.
+pub fn held_with(count: u8, file: &[u8], nets: &[u32; 16]) -> usize
+    ensures { λ r. ⌜ r ≡ heldWith count (now (file .entry)) (now (nets .entry)) ⌝ }
+{
+    let n = size(count);
+    let mut new = [0u32; 16];
+    let mut k: usize = 0;
+    let mut i: usize = 0;
+    while 2 < file.len() - i {
+        let net = network_at(file, i);
+        k = join(net, n, nets, k, &mut new);
+        if 16 < n + k {
+            return 17;
+        }
+        i += 3;
+    }
+    n + k
+}
+
+// One entry more where the network had none.
+pub fn grow(found: bool, count: u8) -> u8
+    ensures { λ r. ⌜ r ≡ grown found count ⌝ }
+{
+    if found { count } else { one_more(16, count) }
+}
+
+// One network: its mark, and zeros beside it in a new entry.
+fn admit(
+    net: u32,
+    count: u8,
+    nets: &mut [u32; 16],
+    bans: &mut [u8; 16],
+    n1s: &mut [u8; 16],
+    forbidden: &mut [u8; 16],
+    barred: &mut [u8; 16],
+) -> u8
+    ensures { λ r. ⌜ r ≡ grown (hasEntry count net (now (nets .entry))) count ⌝ }
+    ensures { λ r. ⌜ entriesOf (now (nets .exit)) (now (bans .exit)) (now (n1s .exit)) (now (forbidden .exit)) (now (barred .exit)) ≡ imported net count (entriesOf (now (nets .entry)) (now (bans .entry)) (now (n1s .entry)) (now (forbidden .entry)) (now (barred .entry))) ⌝ }
+{
+    let n = size(count);
+    let at = find(nets, n, net);
+    let found = at < n;
+    let new = !found;
+    put_net(nets, at, net);
+    put_when(new, bans, at, 0);
+    put_when(new, n1s, at, 0);
+    put(forbidden, at, 1);
+    put_when(new, barred, at, 0);
+    grow(found, count)
+}
+
+pub(crate) fn take_in(
+    file: &[u8],
+    count: u8,
+    nets: &mut [u32; 16],
+    bans: &mut [u8; 16],
+    n1s: &mut [u8; 16],
+    forbidden: &mut [u8; 16],
+    barred: &mut [u8; 16],
+)
+    ensures { λ r. ⌜ entriesOf (now (nets .exit)) (now (bans .exit)) (now (n1s .exit)) (now (forbidden .exit)) (now (barred .exit)) ≡ importedAll (networksIn (now (file .entry))) count (entriesOf (now (nets .entry)) (now (bans .entry)) (now (n1s .entry)) (now (forbidden .entry)) (now (barred .entry))) ⌝ }
+{
+    let mut n = count;
+    let mut i: usize = 0;
+    while 2 < file.len() - i {
+        let net = network_at(file, i);
+        i += 3;
+        if is_unused(net) {
+            continue;
+        }
+        n = admit(net, n, nets, bans, n1s, forbidden, barred);
+    }
+}

@@ -1,0 +1,2 @@
+-- Reading a file of networks.
+pub mod Reading

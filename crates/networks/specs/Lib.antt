@@ -1,0 +1,2 @@
+-- Networks in three octets each.
+pub mod Networks

@@ -1,0 +1,2 @@
+-- The card's file of forbidden networks.
+pub mod Usim
