@@ -142,9 +142,10 @@ cardAnswer home suci =
 unfoldable pub importRange : List ℕ → Bool
 importRange file = both (eqb (length file % 3) 0) (every isNetwork (networksIn file))
 
--- Import: 1, "4 if the distinct new networks exceed free entries": with them more than sixteen would be held; the place that was seen is how many
-unfoldable pub importAnswer : List ℕ → Seen → Answer
-importAnswer file s =
-    check (importRange file) answer.Range
+-- Import: 1, "4 if the distinct new networks exceed free entries": with them more than sixteen would be held. What was seen of the file: found, whether it
+-- is one by its range; its place, how many would be held
+unfoldable pub importAnswer : Seen → Answer
+importAnswer s =
+    check (s .found) answer.Range
     (check (leb (s .at) 16) answer.Full
     answer.Taken)

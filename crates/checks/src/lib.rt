@@ -260,13 +260,15 @@ fn codes(file: &[u8]) -> bool
     true
 }
 
-pub fn import_answer(file: &[u8], s: Seen) -> Answer
-    ensures { λ r. ⌜ r ≡ rules.importAnswer (now (file .entry)) s ⌝ }
+pub fn import_range(file: &[u8]) -> bool
+    ensures { λ r. ⌜ r ≡ rules.importRange (now (file .entry)) ⌝ }
 {
-    let range = and(file.len() % 3 == 0, codes(file));
-    check(
-        range,
-        Answer::Range,
-        check(s.at <= 16, Answer::Full, Answer::Taken),
-    )
+    and(file.len() % 3 == 0, codes(file))
+}
+
+pub fn import_answer(s: Seen) -> Answer
+    ensures { λ r. ⌜ r ≡ rules.importAnswer s ⌝ }
+{
+    let room = check(s.at <= 16, Answer::Full, Answer::Taken);
+    check(s.found, Answer::Range, room)
 }

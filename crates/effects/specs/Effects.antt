@@ -255,3 +255,15 @@ sidesOf w e = record {
   work = e .work;
   restart = e .restart;
 }
+
+-- an import, behind an event that changes nothing, as the code has it
+unfoldable pub importedSides : ℕ → Sides → Sides
+importedSides entries x = record {
+  dev = x .dev;
+  t0 = record { orders = x .t0 .orders; access = withEntries entries (x .t0 .access) };
+  t1 = x .t1;
+  t3247 = x .t3247;
+  t3512 = x .t3512;
+  work = importWork;
+  restart = x .restart;
+}

@@ -4,13 +4,10 @@ use crate::Sides;
 use crate::Work;
 use areas::Task;
 use entries::Deed;
-use record::Hot;
 use record::with_entries;
-use turns::Order;
-use turns::still;
 ghost use mathlib.Core.Path.{_≡_};
+ghost use mathlib.Core.Bool.{cond};
 ghost use Rattle.effects.specs.Effects as rules;
-ghost use Rattle.effects.specs.Effects.{sidesOf};
 
 fn import_work() -> Work
     ensures { λ r. ⌜ r ≡ rules.importWork ⌝ }
@@ -24,20 +21,18 @@ fn import_work() -> Work
     }
 }
 
-pub fn import_effect(h: Hot, entries: u8) -> Sides
-    ensures { λ r. ⌜ r ≡ sidesOf 0 (rules.importEffect h entries) ⌝ }
+// What an import adds to an event that changes nothing. It comes behind the other effects: as one more of them it made all of them slower.
+pub fn import_effect(import: bool, entries: u8, x: Sides) -> Sides
+    ensures { λ r. ⌜ r ≡ cond import (rules.importedSides entries x) x ⌝ }
 {
-    let dev = h.dev;
-    let t0 = still(with_entries(entries, h.a0));
-    let t1 = still(h.a1);
-    let work = import_work();
-    Sides {
-        dev,
-        t0,
-        t1,
-        t3247: Order::Leave,
-        t3512: Order::Leave,
-        work,
-        restart: false,
+    if import {
+        let t = x.t0;
+        let mut turn = t;
+        turn.access = with_entries(entries, t.access);
+        let mut q = x;
+        q.t0 = turn;
+        q.work = import_work();
+        return q;
     }
+    x
 }

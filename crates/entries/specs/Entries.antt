@@ -1,6 +1,6 @@
 -- One access's entries and what becomes of them. Assumes nothing.
 use Prim.Native.Nat.{ℕ, _+_}
-use mathlib.Core.Bool.{Bool, true, false, cond}
+use mathlib.Core.Bool.{Bool, true, cond}
 use mathlib.Core.List.{List, [], _∷_}
 use lib.Dec.{ltb, eqb}
 use lib.ListN.{length, set, getD, replicate}
@@ -153,10 +153,6 @@ newIn known (net ∷ rest) = cond (known net) (newIn known rest) (net ∷ newIn 
 -- the entries held once each network of a file has one: the first free place then; where they are more than sixteen, seventeen
 unfoldable pub heldWith : ℕ → List ℕ → List ℕ → ℕ
 heldWith count file nets = atMost 17 (entriesHeld count + length (newIn (λ m. hasEntry count m nets) (networksIn file)))
-
--- what stands about a file: no entry, no mark, and the first free place once its networks have theirs
-unfoldable pub fileSeen : ℕ → List ℕ → List ℕ → Seen
-fileSeen count file nets = record { at = heldWith count file nets; found = false; forbidden = 0; barred = 0 }
 
 -- a new record's: zeros
 unfoldable pub none : Entries

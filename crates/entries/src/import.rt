@@ -1,4 +1,5 @@
 // A card's file of forbidden networks: whether they all find an entry, and taking them in.
+use crate::Deed;
 use crate::find;
 use crate::one_more;
 use crate::put;
@@ -12,7 +13,7 @@ ghost use mathlib.Core.Bool.{cond};
 ghost use Prim.Native.Nat.{_+_, _≤_};
 ghost use Rattle.networks.specs.Networks.{networksIn};
 ghost use Rattle.entries.specs.Entries.{hasEntry, putAt, entriesOf, grown, imported, importedAll, heldWith};
-ghost use Rattle.entries.specs.Counting.{isPassed};
+ghost use Rattle.entries.specs.Counting.{isPassed, isImport};
 
 // A network that is neither among the first n, those with an entry, nor among the k new ones is one more of these. Sixteen have a place: a seventeenth is
 // counted alone.
@@ -87,7 +88,23 @@ fn admit(
     grow(found, count)
 }
 
-pub(crate) fn take_in(
+pub fn is_import(k: Deed) -> bool
+    ensures { λ r. ⌜ r ≡ isImport k ⌝ }
+{
+    match k {
+        Deed::Nothing => false,
+        Deed::Ban(_) => false,
+        Deed::Bar(_) => false,
+        Deed::Accept(_) => false,
+        Deed::ToLimit(_) => false,
+        Deed::Import => true,
+        Deed::Sweep => false,
+        Deed::Power => false,
+        Deed::Fresh => false,
+    }
+}
+
+pub fn take_in(
     file: &[u8],
     count: u8,
     nets: &mut [u32; 16],

@@ -1,6 +1,7 @@
 // One access's sixteen network entries, as columns of numbers: searched, struck, lifted and cleared in place.
 ghost use mathlib.Core.Path.{_≡_};
 ghost use mathlib.Core.Bool.{cond};
+ghost use mathlib.Core.List.{[]};
 ghost use Prim.Native.Nat.{_≤_};
 ghost use lib.ListN.{replicate};
 ghost use Rattle.laws.specs.Bounds.{oneMore};
@@ -11,7 +12,8 @@ mod import;
 
 pub use import::grow;
 pub use import::held_with;
-use import::take_in;
+pub use import::is_import;
+pub use import::take_in;
 
 // Dense from 0 to a count that the access keeps; behind it nothing is looked at.
 #[repr(C)]
@@ -23,8 +25,8 @@ pub struct Entries {
     pub barred: [u8; 16],
 }
 
-// What stands in the entries about one network: its place, or the first free one, and its marks. About a file of networks: the first free place once they
-// have theirs.
+// What stands in the entries about one network: its place, or the first free one, and its marks. About an import's file: whether it is one, and the first free
+// place once its networks have theirs.
 pub struct Seen {
     pub at: usize,
     pub found: bool,
@@ -256,10 +258,10 @@ fn wipe(
     *barred = [0u8; 16];
 }
 
-// Barring is striking with the columns changed about. The octets are those beside the event.
+// Barring is striking with the columns changed about. An import's file is not at hand here: `take_in` has it. Each event comes by here twice, and with the
+// file's loop in it this would not be inlined.
 pub fn tend(
     k: Deed,
-    octets: &[u8],
     count: u8,
     banlimit: u8,
     n1limit: u8,
@@ -269,7 +271,7 @@ pub fn tend(
     forbidden: &mut [u8; 16],
     barred: &mut [u8; 16],
 )
-    ensures { λ r. ⌜ entriesOf (now (nets .exit)) (now (bans .exit)) (now (n1s .exit)) (now (forbidden .exit)) (now (barred .exit)) ≡ entriesAfter k (now (octets .entry)) count banlimit n1limit (entriesOf (now (nets .entry)) (now (bans .entry)) (now (n1s .entry)) (now (forbidden .entry)) (now (barred .entry))) ⌝ }
+    ensures { λ r. ⌜ entriesOf (now (nets .exit)) (now (bans .exit)) (now (n1s .exit)) (now (forbidden .exit)) (now (barred .exit)) ≡ entriesAfter k [] count banlimit n1limit (entriesOf (now (nets .entry)) (now (bans .entry)) (now (n1s .entry)) (now (forbidden .entry)) (now (barred .entry))) ⌝ }
 {
     match k {
         Deed::Nothing => {}
@@ -277,7 +279,7 @@ pub fn tend(
         Deed::Bar(s) => strike(s, n1limit, nets, n1s, bans, barred, forbidden),
         Deed::Accept(s) => put_when(s.found, forbidden, s.at, 0),
         Deed::ToLimit(net) => to_limit(count, net, n1limit, nets, n1s),
-        Deed::Import => take_in(octets, count, nets, bans, n1s, forbidden, barred),
+        Deed::Import => {}
         Deed::Sweep => sweep_both(count, banlimit, n1limit, bans, n1s, forbidden, barred),
         Deed::Power => cycle(count, banlimit, bans, forbidden, barred),
         Deed::Fresh => wipe(nets, bans, n1s, forbidden, barred),

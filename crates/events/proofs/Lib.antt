@@ -2,3 +2,4 @@
 pub mod Networks
 pub mod Rest
 pub mod Whole
+pub mod Second

@@ -7,12 +7,15 @@ use lib.Dec.{eqb}
 use Rattle.laws.specs.Bounds.{atMost}
 use Rattle.laws.specs.Upto.{copied}
 use Rattle.record.specs.Tests.{both, either}
-use Rattle.networks.specs.Networks.{networkOf}
 use Rattle.record.specs.New.{zeros}
 use Rattle.record.specs.declared.Hot.{Hot}
 use Rattle.entries.specs.declared.Entries.{Entries}
 use Rattle.entries.specs.declared.Seen.{Seen}
-use Rattle.entries.specs.Entries.{seenIn, fileSeen, entriesAfter}
+use Rattle.entries.specs.Entries.{seenIn, importedAll, heldWith, entriesAfter}
+use Rattle.entries.specs.Counting.{isImport}
+use Rattle.entries.specs.declared.Deed.{Deed}
+use Rattle.networks.specs.Networks.{networkOf, networksIn}
+use Rattle.checks.specs.Answers.{importRange}
 use Rattle.areas.specs.Areas.{areaOf, listedIn, listAfter, countAfter}
 use Rattle.rules.specs.declared.Event.{Event}
 use Rattle.rules.specs.declared.Ask.{Ask}
@@ -34,7 +37,11 @@ unfoldable pub sightOf : ℕ → ℕ → Hot → List ℕ → List ℕ → List 
 sightOf w net h nets0 forbidden0 barred0 nets1 forbidden1 barred1 =
     cond (eqb w 0) (seenIn (h .a0 .entries) net nets0 forbidden0 barred0) (seenIn (h .a1 .entries) net nets1 forbidden1 barred1)
 
--- the octets are those beside the event, an import's file
+-- an import's file: whether it is one, and then the first free place once its networks have theirs; it has no marks itself
+unfoldable pub fileSeen : ℕ → List ℕ → List ℕ → Seen
+fileSeen count file nets = record { at = cond (importRange file) (heldWith count file nets) 0; found = importRange file; forbidden = 0; barred = 0 }
+
+-- the octets are those beside the event
 unfoldable pub seenBy : Ask → List ℕ → Hot → List ℕ → List ℕ → List ℕ → List ℕ → List ℕ → List ℕ → Seen
 seenBy ask.Nothing octets h nets0 forbidden0 barred0 nets1 forbidden1 barred1 = unseen
 seenBy (ask.Network w net) octets h nets0 forbidden0 barred0 nets1 forbidden1 barred1 = sightOf w net h nets0 forbidden0 barred0 nets1 forbidden1 barred1
@@ -54,6 +61,10 @@ plannedOf h e octets e0 e1 roaming regional = planOf h e (seenOf (askOf h e) oct
 
 unfoldable pub tableAfter : Plan → List ℕ → ℕ → ℕ → Hot → Entries → Entries
 tableAfter p octets me count h t = entriesAfter (deedOf p me) octets count (h .dev .banlimit) (h .dev .n1limit) t
+
+-- the file of an import behind what else its deed does
+abbrev pub filedBy : Deed → List ℕ → ℕ → Entries → Entries
+filedBy k file count t = cond (isImport k) (importedAll (networksIn file) count t) t
 
 -- the numbers with the area lists' counts
 unfoldable pub withCounts : ℕ → ℕ → Hot → Hot

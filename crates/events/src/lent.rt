@@ -1,14 +1,16 @@
 // The core: decide on the numbers, then carry out on each access's entries and on each list. It does not test the record.
 use super::Done;
+use entries::Deed;
 use entries::Seen;
 use record::Hot;
 use rules::Ask;
 use rules::Event;
 use rules::Site;
 ghost use mathlib.Core.Path.{_≡_};
-ghost use Rattle.entries.specs.Entries.{fileSeen, entriesOf};
+ghost use mathlib.Core.Bool.{cond};
+ghost use Rattle.entries.specs.Entries.{heldWith, entriesOf};
 ghost use Rattle.events.specs.Parts as parts;
-ghost use Rattle.events.specs.Parts.{sightOf, seenBy, listedOf, withCounts, partsOf, partsAfter};
+ghost use Rattle.events.specs.Parts.{sightOf, fileSeen, filedBy, seenBy, listedOf, withCounts, partsOf, partsAfter};
 
 fn sight(
     access: u8,
@@ -41,13 +43,25 @@ fn unseen() -> Seen
     }
 }
 
-// Of an import the file is gone over.
+// A file that is none is not counted.
+fn held_if(whole: bool, count: u8, file: &[u8], nets: &[u32; 16]) -> usize
+    ensures { λ r. ⌜ r ≡ cond whole (heldWith count (now (file .entry)) (now (nets .entry))) 0 ⌝ }
+{
+    if whole {
+        return entries::held_with(count, file, nets);
+    }
+    0
+}
+
+// Of an import the file is gone over here, where other events do not come by.
 fn filed(file: &[u8], h: Hot, nets0: &[u32; 16]) -> Seen
     ensures { λ r. ⌜ r ≡ fileSeen (h .a0 .entries) (now (file .entry)) (now (nets0 .entry)) ⌝ }
 {
+    let whole = checks::import_range(file);
+    let at = held_if(whole, h.a0.entries, file, nets0);
     Seen {
-        at: entries::held_with(h.a0.entries, file, nets0),
-        found: false,
+        at,
+        found: whole,
         forbidden: 0,
         barred: 0,
     }
@@ -108,6 +122,24 @@ fn counted(roaming: u8, regional: u8, h: Hot) -> Hot
     q
 }
 
+// An import's file, which is access 0's.
+fn file(
+    k: Deed,
+    octets: &[u8],
+    count: u8,
+    nets: &mut [u32; 16],
+    bans: &mut [u8; 16],
+    n1s: &mut [u8; 16],
+    forbidden: &mut [u8; 16],
+    barred: &mut [u8; 16],
+)
+    ensures { λ r. ⌜ entriesOf (now (nets .exit)) (now (bans .exit)) (now (n1s .exit)) (now (forbidden .exit)) (now (barred .exit)) ≡ filedBy k (now (octets .entry)) count (entriesOf (now (nets .entry)) (now (bans .entry)) (now (n1s .entry)) (now (forbidden .entry)) (now (barred .entry))) ⌝ }
+{
+    if entries::is_import(k) {
+        entries::take_in(octets, count, nets, bans, n1s, forbidden, barred);
+    }
+}
+
 pub fn core(
     h: Hot,
     e: Event,
@@ -148,7 +180,6 @@ pub fn core(
     let d1 = rules::deed_on(p.access, mine, theirs, 1);
     entries::tend(
         d0,
-        octets,
         h.a0.entries,
         h.dev.banlimit,
         h.dev.n1limit,
@@ -160,7 +191,6 @@ pub fn core(
     );
     entries::tend(
         d1,
-        octets,
         h.a1.entries,
         h.dev.banlimit,
         h.dev.n1limit,
@@ -169,6 +199,16 @@ pub fn core(
         n1s1,
         forbidden1,
         barred1,
+    );
+    file(
+        d0,
+        octets,
+        h.a0.entries,
+        nets0,
+        bans0,
+        n1s0,
+        forbidden0,
+        barred0,
     );
     let first = work.roaming;
     let second = work.regional;

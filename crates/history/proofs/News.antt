@@ -13,7 +13,7 @@ use Rattle.entries.specs.declared.Deed.{Deed}
 use Rattle.entries.specs.declared.Deed.the-variants as deed
 use Rattle.entries.specs.declared.Seen.{Seen}
 use Rattle.entries.specs.declared.Seat.{Seat}
-use Rattle.entries.specs.Entries.{hasEntry, fileSeen, seatOf, entriesAfter}
+use Rattle.entries.specs.Entries.{hasEntry, seatOf, entriesAfter}
 use Rattle.messages.specs.declared.Reject.{Reject}
 use Rattle.messages.specs.declared.Reading.{Reading}
 use Rattle.messages.specs.declared.Reading.the-variants as reading
@@ -27,7 +27,7 @@ use Rattle.effects.specs.Effects.{cardEffect, startEffect, updateEffect, keyEff
 use Rattle.rules.specs.declared.Event.{Event}
 use Rattle.rules.specs.declared.Event.the-variants.{Card, Start, Message, Timer, Power, Key, Update, Import, Unknown}
 use Rattle.rules.specs.Plan.{askOf, accessIn, answerOf, messageEffect, effectOf}
-use Rattle.events.specs.Parts.{seenBy, seenOf}
+use Rattle.events.specs.Parts.{fileSeen, seenBy, seenOf}
 use Rattle.ranges.specs.Valid.{validOf}
 use Rattle.validity.specs.Answered.{seenAt, answeredBy}
 use Rattle.validity.specs.Sized.{Columns}
@@ -186,7 +186,8 @@ module _ (r : Record) where
       → Fits deed.Import (filedIn r octets) octets (accessOf (r .hot) w .entries) (entriesIn r w .nets)
   unfolding answeredBy answerOf askOf seenOf seenBy fileSeen accessOf entriesIn
   import-fits v octets t w q =
-      rw (← eqb-true 0 w q) (refl, valid-good r v .half0 .fit .entries, import-passed octets (seenAt r Import octets) t .1)
+      let p = import-passed (seenAt r Import octets) t in
+      rw (← eqb-true 0 w q) (refl, valid-good r v .half0 .fit .entries, rw (p .0) at (p .1))
 
   event-news : (e : Event) (octets : List ℕ) → isTaken (answeredBy r e octets) ≡ true → isCardChange e ≡ false → (held : Bool) (w n : ℕ)
       → deedNews (deedIn r e octets w) octets held n ≡ eventNews (r .hot .dev .home) (λ (v : ℕ). accessOf (r .hot) v .net) held w n e octets

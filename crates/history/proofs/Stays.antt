@@ -20,7 +20,7 @@ use Rattle.entries.specs.declared.Seen.{Seen}
 use Rattle.entries.specs.declared.Seat.{Seat}
 use Rattle.entries.specs.declared.Deed.{Deed}
 use Rattle.entries.specs.declared.Deed.the-variants as deed
-use Rattle.entries.specs.Entries.{seenIn, fileSeen, seatOf, grown, heldWith}
+use Rattle.entries.specs.Entries.{seenIn, seatOf, grown, heldWith}
 use Rattle.messages.specs.declared.Reading.{Reading}
 use Rattle.messages.specs.declared.Reading.the-variants as reading
 use Rattle.messages.specs.Message.{readingOf}
@@ -35,11 +35,11 @@ use Rattle.effects.specs.Effects.{Effect, scheduled, cardEffect, startEffect, u
 use Rattle.rules.specs.declared.Event.{Event}
 use Rattle.rules.specs.declared.Event.the-variants.{Card, Start, Message, Timer, Power, Key, Update, Import, Unknown}
 use Rattle.rules.specs.Plan.{askOf, accessIn, answerOf, messageEffect, effectOf}
-use Rattle.events.specs.Parts.{sightOf, seenBy, seenOf}
+use Rattle.events.specs.Parts.{sightOf, fileSeen, seenBy, seenOf}
 use Rattle.validity.specs.Answered.{seenAt, answeredBy}
 use Rattle.validity.proofs.Refusal.{effectIn}
 use Rattle.validity.proofs.Own.{seatIn}
-use Rattle.validity.proofs.Taken.{start-passed, message-passed, timer-passed, key-passed, update-passed}
+use Rattle.validity.proofs.Taken.{start-passed, message-passed, timer-passed, key-passed, update-passed, import-passed}
 use Rattle.history.specs.Cell.{entriesIn}
 use Rattle.history.proofs.Cells.{countBy}
 use Rattle.history.proofs.Next.{other-of}
@@ -199,7 +199,7 @@ module _ (r : Record) where
   message-counts filed octets b protected draws (reading.Bad f at) = record { mine = refl; theirs = refl }
 
   pub event-counts : (e : Event) (octets : List ℕ) → isTaken (answeredBy r e octets) ≡ true → Counts (filedIn r octets) h (accessIn e) (effectIn r e octets)
-  unfolding accessIn effectOf cardEffect renewed newAccess startEffect started updateEffect updated pending inState keyEffect keySet keyed powerEffect turns.cycled importEffect withEntries askOf seenOf seenBy fileSeen withAttempts accessOf otherOf
+  unfolding answeredBy answerOf accessIn effectOf cardEffect renewed newAccess startEffect started updateEffect updated pending inState keyEffect keySet keyed powerEffect turns.cycled importEffect withEntries askOf seenOf seenBy fileSeen withAttempts accessOf otherOf
   event-counts (Card home) octets t = record { mine = refl; theirs = refl }
   event-counts (Start b manual net code) octets t = record { mine = refl; theirs = refl }
   event-counts (Message b protected draws) octets t = message-counts (filedIn r octets) octets b protected draws (readingOf octets)
@@ -207,5 +207,5 @@ module _ (r : Record) where
   event-counts Power octets t = record { mine = refl; theirs = refl }
   event-counts (Key b set) octets t = record { mine = refl; theirs = refl }
   event-counts (Update b regtype net code uplink sessions) octets t = record { mine = refl; theirs = refl }
-  event-counts Import octets t = record { mine = refl; theirs = refl }
+  event-counts Import octets t = record { mine = rw (import-passed (seenAt r Import octets) t .0); theirs = refl }
   event-counts Unknown octets t = record { mine = refl; theirs = refl }

@@ -12,7 +12,7 @@ use borrow.Author.Tests.{leb-true, le-leb, ltb-true, ltb-false, lt-ltb, le-ltb, 
 use Rattle.laws.specs.Upto.{seekTo, every}
 use Rattle.laws.proofs.Seek.{seek-le, seek-found, seek-before, seek-is}
 use Rattle.networks.specs.Networks.{networksIn}
-use Rattle.entries.specs.Entries.{sameNet, entriesHeld, placeIn, hasEntry, peekAt, newIn, heldWith, fileSeen}
+use Rattle.entries.specs.Entries.{sameNet, entriesHeld, placeIn, hasEntry, peekAt, newIn, heldWith}
 use Rattle.entries.proofs.Joining.{held-fits}
 use Rattle.record.specs.Tests.{both, isFlag}
 use Rattle.record.specs.Network.{isNetwork}
@@ -27,7 +27,7 @@ use Rattle.checks.specs.Answers.{importRange, importAnswer}
 use Rattle.rules.specs.declared.Event.the-variants.{Card, Import}
 use Rattle.rules.specs.Plan.{askOf, answerOf, refusedReply}
 use Rattle.events.specs.declared.Outcome.{Outcome}
-use Rattle.events.specs.Parts.{seenBy, seenOf}
+use Rattle.events.specs.Parts.{fileSeen, seenBy, seenOf}
 use Rattle.events.specs.Step.{advanceOf, stepOf}
 use Rattle.usim.specs.Usim.{markedTo, markedOf, fileOf, mayWrite, writeAnswer, fileAfter}
 use Rattle.usim.proofs.Steps.{marked-most}

@@ -105,7 +105,7 @@ answerOf h (Timer number w) s listed octets = timerAnswer h number w
 answerOf h Power s listed octets = answer.Taken
 answerOf h (Key w set) s listed octets = keyAnswer h w set
 answerOf h (Update w regtype net code uplink sessions) s listed octets = updateAnswer h w regtype net code uplink sessions s listed
-answerOf h Import s listed octets = importAnswer octets s
+answerOf h Import s listed octets = importAnswer s
 answerOf h Unknown s listed octets = answer.Range
 
 -- what a taken message does

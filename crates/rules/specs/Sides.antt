@@ -1,9 +1,12 @@
--- A taken event sorted by access 0 and 1, as the code has it. Assumes nothing.
+-- A taken event sorted by access 0 and 1, as the code has it, and which event is an import. Assumes nothing.
 use Prim.Native.Nat.{ℕ}
+use mathlib.Core.Bool.{Bool, true, false}
 use Rattle.record.specs.declared.Hot.{Hot}
 use Rattle.record.specs.declared.Answer.the-variants as answer
 use Rattle.turns.specs.Timers.{flagAfter, toldOf, clocksOf, clocked}
 use Rattle.effects.specs.declared.Sides.{Sides}
+use Rattle.rules.specs.declared.Event.{Event}
+use Rattle.rules.specs.declared.Event.the-variants.{Card, Start, Message, Timer, Power, Key, Update, Import, Unknown}
 use Rattle.rules.specs.declared.Asked.the-variants.{No}
 use Rattle.rules.specs.declared.Reply.{Reply}
 use Rattle.rules.specs.declared.Plan.{Plan}
@@ -33,3 +36,14 @@ replyBy h w x = record {
 
 unfoldable pub planBy : Hot → ℕ → Sides → Plan
 planBy h w x = record { reply = replyBy h w x; hot = hotBy h x; work = x .work; access = w }
+
+unfoldable pub isImport : Event → Bool
+isImport (Card home) = false
+isImport (Start w manual net code) = false
+isImport (Message w protected draws) = false
+isImport (Timer number w) = false
+isImport Power = false
+isImport (Key w set) = false
+isImport (Update w regtype net code uplink sessions) = false
+isImport Import = true
+isImport Unknown = false

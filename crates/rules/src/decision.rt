@@ -39,7 +39,8 @@ use turns::Turn;
 use turns::clocked;
 use turns::still;
 ghost use mathlib.Core.Path.{_≡_};
-ghost use mathlib.Core.Bool.{true, false};
+ghost use mathlib.Core.Bool.{true, false, cond};
+ghost use Prim.Native.Nat.{_<_};
 ghost use Rattle.record.specs.Answers.{isTaken};
 ghost use Rattle.turns.specs.Timers as clocks;
 ghost use Rattle.turns.specs.Turns as events;
@@ -47,7 +48,7 @@ ghost use Rattle.record.specs.Sides.{accessOf};
 ghost use Rattle.effects.specs.Effects as effects;
 ghost use Rattle.rules.specs.Plan as rules;
 ghost use Rattle.effects.specs.Effects.{sidesOf};
-ghost use Rattle.rules.specs.Sides.{hotBy, planBy};
+ghost use Rattle.rules.specs.Sides.{isImport, hotBy, planBy};
 
 // A message is read once, for its answer and its effect; nothing looks at what stands here for another event.
 fn heard(e: Event, octets: &[u8]) -> Reading
@@ -231,7 +232,7 @@ fn answer_of(h: Hot, e: Event, s: Seen, listed: bool, m: Reading, octets: &[u8])
             uplink,
             sessions,
         } => update_answer(h, access, regtype, net, code, uplink, sessions, s, listed),
-        Event::Import => import_answer(octets, s),
+        Event::Import => import_answer(s),
         Event::Unknown => Answer::Range,
     }
 }
@@ -256,11 +257,11 @@ fn message_effect(h: Hot, w: u8, protected: u8, draws: Draws, m: Reading, s: See
     }
 }
 
-// A card that was taken has a SUCI of at most 64 octets; with an import that was taken at most sixteen entries are held.
+// What an import does beside is `import_effect`'s. A card that was taken has a SUCI of at most 64 octets.
 fn effect_of(h: Hot, e: Event, s: Seen, m: Reading, octets: &[u8]) -> Sides
     requires { ⌜ rules.Fits e (s .at) (now octets) ⌝ }
     requires { ⌜ rules.Read e (now octets) m ⌝ }
-    ensures { λ r. ⌜ r ≡ sidesOf (rules.accessIn e) (rules.effectOf h e s (now (octets .entry))) ⌝ }
+    ensures { λ r. ⌜ r ≡ sidesOf (rules.accessIn e) (cond (isImport e) (rules.effectOf h Event.Unknown s (now (octets .entry))) (rules.effectOf h e s (now (octets .entry)))) ⌝ }
 {
     match e {
         Event::Card(home) => card_effect(h, home, octets.len() as u8),
@@ -286,7 +287,7 @@ fn effect_of(h: Hot, e: Event, s: Seen, m: Reading, octets: &[u8]) -> Sides
             uplink,
             sessions,
         } => update_effect(h, access, regtype, net, code, uplink, sessions),
-        Event::Import => import_effect(h, s.at as u8),
+        Event::Import => none(h, 0),
         Event::Unknown => none(h, 0),
     }
 }
@@ -341,6 +342,49 @@ fn refused_plan(h: Hot, w: u8, n: Answer) -> Plan
     }
 }
 
+fn imports(e: Event) -> bool
+    ensures { λ r. ⌜ r ≡ isImport e ⌝ }
+{
+    match e {
+        Event::Card(_) => false,
+        Event::Start {
+            access: _,
+            manual: _,
+            net: _,
+            code: _,
+        } => false,
+        Event::Message {
+            access: _,
+            protected: _,
+            draws: _,
+        } => false,
+        Event::Timer {
+            number: _,
+            access: _,
+        } => false,
+        Event::Power => false,
+        Event::Key { access: _, set: _ } => false,
+        Event::Update {
+            access: _,
+            regtype: _,
+            net: _,
+            code: _,
+            uplink: _,
+            sessions: _,
+        } => false,
+        Event::Import => true,
+        Event::Unknown => false,
+    }
+}
+
+// With an import that was taken at most sixteen entries are held.
+fn held_with(import: bool, at: usize) -> u8
+    requires { ⌜ (import ≡ true → at < 256) ⌝ }
+    ensures { λ r. ⌜ r ≡ cond import at 0 ⌝ }
+{
+    if import { at as u8 } else { 0 }
+}
+
 fn decided_by(n: Answer, h: Hot, e: Event, s: Seen, m: Reading, octets: &[u8]) -> Plan
     requires { ⌜ (isTaken n ≡ true → rules.Fits e (s .at) (now octets)) ⌝ }
     requires { ⌜ rules.Read e (now octets) m ⌝ }
@@ -348,8 +392,10 @@ fn decided_by(n: Answer, h: Hot, e: Event, s: Seen, m: Reading, octets: &[u8]) -
 {
     let w = access_in(e);
     if taken(n) {
+        let import = imports(e);
         let x = effect_of(h, e, s, m, octets);
-        return taken_plan(h, w, x);
+        let y = import_effect(import, held_with(import, s.at), x);
+        return taken_plan(h, w, y);
     }
     refused_plan(h, w, n)
 }

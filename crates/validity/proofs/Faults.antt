@@ -29,7 +29,7 @@ use Rattle.record.specs.Network.{isNetwork}
 use Rattle.record.specs.Sides.{accessOf, otherOf}
 use Rattle.record.specs.Tests.{both, flip, within, isFlag}
 use Rattle.turns.specs.Rejects.{isIgnored}
-use Rattle.checks.specs.Answers.{check, isSame, isFree, placeAnswer, startRange, mayStart, startAnswer, updateRange, mayUpdate, updateAnswer, rowNow, isFull, rejectAnswer, readAnswer, messageRange, messageAnswer, timerRange, runs, timerAnswer, keyAnswer, cardAnswer, importRange, importAnswer}
+use Rattle.checks.specs.Answers.{check, isSame, isFree, placeAnswer, startRange, mayStart, startAnswer, updateRange, mayUpdate, updateAnswer, rowNow, isFull, rejectAnswer, readAnswer, messageRange, messageAnswer, timerRange, runs, timerAnswer, keyAnswer, cardAnswer, importAnswer}
 use Rattle.rules.specs.declared.Event.{Event}
 use Rattle.rules.specs.declared.Event.the-variants.{Card, Start, Message, Timer, Power, Key, Update, Import, Unknown}
 use Rattle.rules.specs.Plan.{answerOf, refusedReply}
@@ -106,7 +106,7 @@ module _ (s : List ℕ) where
   answer-tells h (Update w regtype net code uplink sessions) n listed =
       checked (updateRange w regtype net code uplink sessions) Range _ refl
       (checked (mayUpdate h w regtype) State _ refl (place-tells (accessOf h w .t3346) (otherOf h w) 0 net n listed))
-  answer-tells h Import n listed = checked (importRange s) Range _ refl (checked (leb (n .at) 16) Full _ refl (quiet Taken refl))
+  answer-tells h Import n listed = checked (n .found) Range _ refl (checked (leb (n .at) 16) Full _ refl (quiet Taken refl))
   answer-tells h Unknown n listed = quiet Range refl
 
   step-tells : (r : Record) (e : Event) → Tells (stepOf r e s .reply .answer)

@@ -6,7 +6,6 @@ use mathlib.Core.List.{List}
 use native.Mathlib.Omega.{arith}
 use lib.Dec.{leb, eqb}
 use borrow.Author.Tests.{eqb-true, le-leb, leb-true}
-use Rattle.entries.specs.Entries.{fileSeen}
 use Rattle.messages.specs.declared.Reading.{Reading}
 use Rattle.messages.specs.declared.Reading.the-variants as reading
 use Rattle.messages.specs.Message.{readingOf}
@@ -25,7 +24,7 @@ use Rattle.record.specs.Sides.{accessOf}
 use Rattle.checks.specs.Answers.{rowNow, readAnswer, runs}
 use Rattle.effects.specs.Effects.{plain, startEffect, updateEffect, keyEffect, clockEffect, t3247Effect, t3512Effect, deviceEffect, timerEffect}
 use Rattle.rules.specs.Plan.{askOf, accessIn, answerOf, messageEffect, effectOf, takenPlan}
-use Rattle.events.specs.Parts.{seenBy, seenOf}
+use Rattle.events.specs.Parts.{fileSeen, seenBy, seenOf}
 use Rattle.events.specs.Step.{advanceOf, stepOf}
 use Rattle.record.proofs.Bounds.{most, least}
 use Rattle.validity.specs.Sized.{Sized}
@@ -136,8 +135,8 @@ module _ (r : Record) (g : Good r) (z : Sized r) (octets : List ℕ) where
       (either-left (eqb (r .hot .dev .card) 1) (eqb (accessOf (r .hot) w .state) 0) (access-carded r g w) (rw (eqb-true (accessOf (r .hot) w .state) 5 (p .6))))
       regtype net code uplink sessions (p .2) (p .3) (from-two regtype (p .1)) (p .4) (p .5))
   taken-good Import o q =
-      let p = import-passed octets (seenAt r Import octets) q in
-      import-good r g z octets (p .0) (p .1)
+      let p = import-passed (seenAt r Import octets) q in
+      rw (p .0) (import-good r g z octets (p .0) (rw (p .0) at (p .1)))
   taken-good Unknown o q = absurd (false≢true q)
 
 advance-good : (r : Record) (e : Event) (octets : List ℕ) → Sized r → Octets octets → Good r → Good (advanceOf r e octets .next)

@@ -18,7 +18,7 @@ use Rattle.turns.specs.declared.Draws.{Draws}
 use Rattle.turns.specs.Timers.{isDeviceTimer}
 use Rattle.turns.specs.Rejects.{isIgnored, needsEntry}
 use Rattle.record.specs.Sides.{accessOf, otherOf}
-use Rattle.checks.specs.Answers.{check, mayStart, startRange, placeAnswer, startAnswer, updateRange, mayUpdate, updateAnswer, rowNow, isFull, rejectAnswer, readAnswer, messageRange, messageAnswer, timerRange, runs, timerAnswer, keyAnswer, cardAnswer, importRange, importAnswer}
+use Rattle.checks.specs.Answers.{check, mayStart, startRange, placeAnswer, startAnswer, updateRange, mayUpdate, updateAnswer, rowNow, isFull, rejectAnswer, readAnswer, messageRange, messageAnswer, timerRange, runs, timerAnswer, keyAnswer, cardAnswer, importAnswer}
 use Rattle.record.proofs.Bounds.{one, rest}
 use Rattle.validity.proofs.Bools.{flip-true, check-passed, check-rest}
 
@@ -148,11 +148,11 @@ card-passed home suci q =
       rest (within 9 64 (length suci)) (eqb (getD suci 0 0) 1) two,
     )
 
-pub import-passed : (file : List ℕ) (s : Seen) → isTaken (importAnswer file s) ≡ true → (importRange file ≡ true) × (leb (s .at) 16 ≡ true)
+pub import-passed : (s : Seen) → isTaken (importAnswer s) ≡ true → (s .found ≡ true) × (leb (s .at) 16 ≡ true)
 unfolding importAnswer isTaken
-import-passed file s q = (
-  check-passed (importRange file) answer.Range second refl q,
-  check-passed (leb (s .at) 16) answer.Full answer.Taken refl (check-rest (importRange file) answer.Range second refl q),
+import-passed s q = (
+  check-passed (s .found) answer.Range second refl q,
+  check-passed (leb (s .at) 16) answer.Full answer.Taken refl (check-rest (s .found) answer.Range second refl q),
 )
   where
     second : Answer

@@ -1,5 +1,6 @@
 -- `tend` meets its contract: the deed picks the definition, and the callee's contract is that definition. Assumes nothing.
-use Rattle.entries.specs.Entries.{unforbidden, n1ToLimit, swept, powered, entriesAfter}
+use Rattle.entries.specs.Entries.{unforbidden, n1ToLimit, swept, powered, importedAll, entriesAfter}
+use Rattle.networks.specs.Networks.{networksIn}
 use Rattle.entries.proofs.Laws.{turn}
 use borrow.Author.Needs.{needs}
 use Rattle.entries.proofs.tend.Statement.{statement}
@@ -34,9 +35,6 @@ to-limit-requires c κs = search needs
 
 enum-told-2 : tie.Need-enum-told-2
 enum-told-2 c = search needs
-
-take-in-requires : tie.Need-take-in-requires
-take-in-requires c κs = search needs
 
 enum-told-3 : tie.Need-enum-told-3
 enum-told-3 c = search needs
@@ -77,8 +75,8 @@ unfolding entriesAfter n1ToLimit
 returns-5 c = rw (c .before .before .before .before .k4 .given .1, c .to-limit .ensures)
 
 returns-6 : tie.Need-returns-6
-unfolding entriesAfter
-returns-6 c = rw (c .before .before .before .before .before .before .enum-told2 .given .1) (c .take-in .ensures)
+unfolding entriesAfter networksIn importedAll
+returns-6 c = rw (c .enum-told2 .given .1)
 
 returns-7 : tie.Need-returns-7
 unfolding entriesAfter swept
@@ -106,7 +104,6 @@ tend-spec =
     enum-known-k-4
     to-limit-requires
     enum-told-2
-    take-in-requires
     enum-told-3
     sweep-both-requires
     enum-told-4

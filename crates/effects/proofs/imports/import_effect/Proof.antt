@@ -1,5 +1,5 @@
 -- Each part is what its function ensures. Assumes nothing.
-use Rattle.effects.specs.Effects.{importEffect, sidesOf}
+use Rattle.effects.specs.Effects.{importedSides}
 use borrow.Author.Needs.{needs}
 use Rattle.effects.proofs.imports.import_effect.Statement.{statement}
 use Rattle.effects.proofs.imports.import_effect.Tie as tie
@@ -7,20 +7,16 @@ use Rattle.effects.proofs.imports.import_effect.Tie as tie
 with-entries-requires : tie.Need-with-entries-requires
 with-entries-requires c κs = search needs
 
-still-requires : tie.Need-still-requires
-still-requires c κs = search needs
-
-still-requires-2 : tie.Need-still-requires-2
-still-requires-2 c κs = search needs
-
 import-work-requires : tie.Need-import-work-requires
 import-work-requires c κs = search needs
 
 returns : tie.Need-returns
-unfolding sidesOf importEffect
-returns c = rw (c .import-work .ensures, c .before .still2 .ensures, c .before .before .still .ensures, c .before .before .before .with-entries .ensures)
+unfolding importedSides
+returns c = rw (c .before .before .before .if1 .taken, c .import-work .ensures, c .before .with-entries .ensures)
+
+returns-2 : tie.Need-returns-2
+returns-2 c = rw (c .if1 .left)
 
 pub import-effect-spec : {M : Type 1} → statement M
 import-effect-spec =
-    tie.close
-    (tie.spec with-entries-requires still-requires still-requires-2 import-work-requires returns)
+    tie.close (tie.spec with-entries-requires import-work-requires returns returns-2)

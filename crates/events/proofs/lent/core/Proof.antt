@@ -33,6 +33,9 @@ tend-requires c κs = search needs
 tend-requires-2 : tie.Need-tend-requires-2
 tend-requires-2 c κs = search needs
 
+file-requires : tie.Need-file-requires
+file-requires c κs = search needs
+
 tend-requires-3 : tie.Need-tend-requires-3
 tend-requires-3 c κs = search needs
 
@@ -44,16 +47,17 @@ counted-requires c κs = search needs
 
 returns : tie.Need-returns
 returns c =
-    let start = c .before .before .before .before .before .before .before .before .before .before .before .before .before .before .before .before .before .before .before .before .before .before .before .before .before .before .before .before .before .before .before .before .before .before in
-    let asked = c .before .before .before .before .before .before .before .before .before .before .before .before .before .before .before .before .before .before .before .before .before .before .before .before .before .before .before .before .before .before .before .before in
-    let planned = c .before .before .before .before .before .before .before .before .before .before .before .before .before .before .before .before .before .before .before .before in
-    core-law (start .args .h) (start .args .e) (start .args .octets .now) (asked .ask-of .result) (c .before .before .before .before .before .before .before .before .before .before .before .before .before .before .before .before .before .before .before .before .before .before .before .before .site-of .result) (c .before .before .before .before .before .before .before .before .before .before .before .before .before .before .before .before .before .before .before .before .before .before .before .before .before .see .result) (planned .before .listing .result) (planned .plan-of .result)
-    (c .before .before .before .before .before .before .before .before .before .before .before .before .before .before .before .before .before .before .deed-on .result) (c .before .before .before .before .before .before .before .before .before .before .before .before .before .before .before .before .before .deed-on2 .result)
+    let start = c .before .before .before .before .before .before .before .before .before .before .before .before .before .before .before .before .before .before .before .before .before .before .before .before .before .before .before .before .before .before .before .before .before .before .before .before .before .before .before .before in
+    let asked = c .before .before .before .before .before .before .before .before .before .before .before .before .before .before .before .before .before .before .before .before .before .before .before .before .before .before .before .before .before .before .before .before .before .before .before .before .before .before in
+    let planned = c .before .before .before .before .before .before .before .before .before .before .before .before .before .before .before .before .before .before .before .before .before .before .before .before .before .before in
+    let placed = c .before .before .before .before .before .before .before .before .before .before .before .before .before .before .before .before .before .before .before .before .before .before .before .before .before .before .before .before .before .before in
+    core-law (start .args .h) (start .args .e) (start .args .octets .now) (asked .ask-of .result) (placed .site-of .result) (placed .before .see .result) (planned .before .listing .result) (planned .plan-of .result)
+    (c .before .before .before .before .before .before .before .before .before .before .before .before .before .before .before .before .before .before .before .before .before .before .before .before .deed-on .result) (c .before .before .before .before .before .before .before .before .before .before .before .before .before .before .before .before .before .before .before .before .before .before .before .deed-on2 .result)
     (entriesOf (start .args .nets0 .now) (start .args .bans0 .now) (start .args .n1s0 .now) (start .args .forbidden0 .now) (start .args .barred0 .now))
     (entriesOf (start .args .nets1 .now) (start .args .bans1 .now) (start .args .n1s1 .now) (start .args .forbidden1 .now) (start .args .barred1 .now))
-    _ _ (start .args .roaming .now) (start .args .regional .now) _ _ (c .before .before .before .tend3 .result) (c .before .tend4 .result) (c .counted .result)
-    (asked .ask-of .ensures) (c .before .before .before .before .before .before .before .before .before .before .before .before .before .before .before .before .before .before .before .before .before .before .before .before .before .see .ensures) (c .before .before .before .before .before .before .before .before .before .before .before .before .before .before .before .before .before .before .before .before .before .before .before .before .site-of .ensures) (planned .before .listing .ensures) (planned .plan-of .ensures) (c .before .before .before .before .before .before .before .before .before .before .before .before .before .before .before .before .before .before .deed-on .ensures) (c .before .before .before .before .before .before .before .before .before .before .before .before .before .before .before .before .before .deed-on2 .ensures)
-    (c .before .before .before .before .before .before .before .before .before .before .before .tend .ensures) (c .before .before .before .before .before .tend2 .ensures)
+    _ _ _ (start .args .roaming .now) (start .args .regional .now) _ _ (c .before .before .before .tend3 .result) (c .before .tend4 .result) (c .counted .result)
+    (asked .ask-of .ensures) (placed .before .see .ensures) (placed .site-of .ensures) (planned .before .listing .ensures) (planned .plan-of .ensures) (c .before .before .before .before .before .before .before .before .before .before .before .before .before .before .before .before .before .before .before .before .before .before .before .before .deed-on .ensures) (c .before .before .before .before .before .before .before .before .before .before .before .before .before .before .before .before .before .before .before .before .before .before .before .deed-on2 .ensures)
+    (c .before .before .before .before .before .before .before .before .before .before .before .before .before .before .before .before .before .tend .ensures) (c .before .before .before .before .before .before .before .before .before .before .before .tend2 .ensures) (c .before .before .before .before .before .file .ensures)
     (c .before .before .before .tend3 .ensures .0) (c .before .before .before .tend3 .ensures .1) (c .before .tend4 .ensures .0) (c .before .tend4 .ensures .1) (c .counted .ensures)
 
 pub core-spec : {M : Type 1} → statement M
@@ -69,6 +73,7 @@ core-spec =
     deed-on-requires-2
     tend-requires
     tend-requires-2
+    file-requires
     tend-requires-3
     tend-requires-4
     counted-requires

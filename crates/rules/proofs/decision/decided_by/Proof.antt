@@ -1,7 +1,7 @@
--- The test of the answer picks the plan; a taken event goes by access, which makes the same plan. Assumes nothing.
+-- The test of the answer picks the plan; a taken event goes by access, which makes the same plan, an import with its own share behind. Assumes nothing.
 use mathlib.Core.Path.{sym, _∙_}
 use Rattle.rules.specs.Plan.{decidedBy}
-use Rattle.rules.proofs.Sorted.{sorted}
+use Rattle.rules.proofs.Sorted.{sorted, with-import, import-fits}
 use borrow.Author.Needs.{needs}
 use Rattle.rules.proofs.decision.decided_by.Statement.{statement}
 use Rattle.rules.proofs.decision.decided_by.Tie as tie
@@ -12,8 +12,17 @@ access-in-requires c κs = search needs
 taken-requires : tie.Need-taken-requires
 taken-requires c κs = search needs
 
+imports-requires : tie.Need-imports-requires
+imports-requires c κs = search needs
+
 effect-of-requires : tie.Need-effect-of-requires
-effect-of-requires c κs = (c .before .before .before .before .pre .0 (sym (c .before .taken .ensures) ∙ c .if1 .taken), c .before .before .before .before .pre .1)
+effect-of-requires c κs = (c .before .before .before .before .before .pre .0 (sym (c .before .before .taken .ensures) ∙ c .before .if1 .taken), c .before .before .before .before .before .pre .1)
+
+held-with-requires : tie.Need-held-with-requires
+held-with-requires c κs i = import-fits _ _ _ (sym (c .before .imports .ensures) ∙ i) (c .before .before .before .before .before .before .pre .0 (sym (c .before .before .before .taken .ensures) ∙ c .before .before .if1 .taken))
+
+import-effect-requires : tie.Need-import-effect-requires
+import-effect-requires c κs = search needs
 
 taken-plan-requires : tie.Need-taken-plan-requires
 taken-plan-requires c κs = search needs
@@ -21,7 +30,18 @@ taken-plan-requires c κs = search needs
 returns : tie.Need-returns
 unfolding decidedBy
 returns c =
-    rw (← c .before .before .before .taken .ensures, c .before .before .if1 .taken, c .taken-plan .ensures, c .before .effect-of .ensures, c .before .before .before .before .access-in .ensures, sorted)
+    rw (
+      ← c .before .before .before .before .before .before .taken .ensures,
+      c .before .before .before .before .before .if1 .taken,
+      c .taken-plan .ensures,
+      c .before .import-effect .ensures,
+      c .before .before .held-with .ensures,
+      c .before .before .before .effect-of .ensures,
+      c .before .before .before .before .imports .ensures,
+      c .before .before .before .before .before .before .before .access-in .ensures,
+      with-import _ _ _ (c .before .before .before .before .before .before .before .before .before .args .e),
+      sorted,
+    )
 
 refused-plan-requires : tie.Need-refused-plan-requires
 refused-plan-requires c κs = search needs
@@ -36,7 +56,10 @@ decided-by-spec =
     (tie.spec
     access-in-requires
     taken-requires
+    imports-requires
     effect-of-requires
+    held-with-requires
+    import-effect-requires
     taken-plan-requires
     returns
     refused-plan-requires

@@ -14,7 +14,7 @@ use Rattle.record.specs.Answers.{isTaken}
 use Rattle.record.specs.declared.Answer.the-variants as answer
 use Rattle.record.specs.declared.Hot.{Hot}
 use Rattle.entries.specs.declared.Seen.{Seen}
-use Rattle.checks.specs.Answers.{check, cardAnswer, importRange, importAnswer}
+use Rattle.checks.specs.Answers.{check, cardAnswer, importAnswer}
 use Rattle.rules.specs.declared.Event.{Event}
 use Rattle.rules.specs.declared.Event.the-variants.{Card, Start, Message, Timer, Power, Key, Update, Import, Unknown}
 use Rattle.rules.specs.Plan.{Fits, answerOf, planOf}
@@ -47,7 +47,7 @@ fits h (Timer number w) s listed o t = tt
 fits h Power s listed o t = tt
 fits h (Key w set) s listed o t = tt
 fits h (Update w regtype net code uplink sessions) s listed o t = tt
-fits h Import s listed o t = omega (arith, leb-true (s .at) 16 (room (importRange o) (leb (s .at) 16) t))
+fits h Import s listed o t = omega (arith, leb-true (s .at) 16 (room (s .found) (leb (s .at) 16) t))
 fits h Unknown s listed o t = tt
 
 heard-requires : tie.Need-heard-requires
