@@ -10,7 +10,7 @@ use native.Mathlib.Omega.{arith}
 use borrow.Author.Tests.{leb-true, le-leb, lt-leb, not-true, not-false}
 use Rattle.laws.specs.Upto.{over, allTo}
 use Rattle.entries.specs.declared.Entries.{Entries}
-use Rattle.entries.specs.Entries.{entriesHeld}
+use Rattle.entries.specs.Places.{entriesHeld}
 use Rattle.record.specs.declared.Access.{Access}
 use Rattle.record.specs.declared.Record.{Record}
 use Rattle.record.specs.declared.Answer.the-variants.{Taken, Range, Short}

@@ -6,7 +6,7 @@ use lib.ListN.{length, getD}
 use lib.Dec.{leb, eqb}
 use Rattle.laws.specs.Upto.{over, allTo}
 use Rattle.entries.specs.declared.Entries.{Entries}
-use Rattle.entries.specs.Entries.{entriesHeld}
+use Rattle.entries.specs.Places.{entriesHeld}
 use Rattle.record.specs.Tests.{both, either, flip, isShort}
 use Rattle.record.specs.Sides.{accessOf}
 use Rattle.record.specs.Answers.{isTaken}

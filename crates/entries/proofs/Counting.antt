@@ -14,7 +14,8 @@ use Rattle.laws.specs.Upto.{seekTo}
 use Rattle.laws.proofs.Seek.{seek-added}
 use Rattle.networks.specs.Networks.{unused, networkAt, usedBy, networksIn}
 use Rattle.networks.proofs.Reading.{file-next, file-over}
-use Rattle.entries.specs.Entries.{sameNet, entriesHeld, placeIn, hasEntry, putAt, newIn, heldWith}
+use Rattle.entries.specs.Places.{sameNet, entriesHeld, placeIn, hasEntry, putAt}
+use Rattle.entries.specs.Entries.{newIn, heldWith}
 use Rattle.entries.specs.Counting.{knownTo, knownBoth, isPassed}
 
 -- it goes by who is known, however that is said

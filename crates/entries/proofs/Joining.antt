@@ -13,7 +13,8 @@ use borrow.Author.Tests.{ltb-true, ltb-false, lt-ltb, le-ltb, leb-false, lt-leb,
 use Rattle.laws.specs.Upto.{seekTo}
 use Rattle.laws.proofs.Seek.{seek-le, seek-found, seek-added}
 use Rattle.entries.specs.declared.Entries.{Entries}
-use Rattle.entries.specs.Entries.{sameNet, entriesHeld, placeIn, hasEntry, putAt, grown, imported, newIn}
+use Rattle.entries.specs.Places.{sameNet, entriesHeld, placeIn, hasEntry, putAt}
+use Rattle.entries.specs.Entries.{grown, imported, newIn}
 use Rattle.entries.proofs.Counting.{new-same}
 
 pub held-fits : (n : ℕ) → entriesHeld n ≤ 16

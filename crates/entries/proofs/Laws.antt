@@ -5,7 +5,8 @@ use mathlib.Core.Bool.{Bool, true, false, cond, not}
 use mathlib.Core.List.{List}
 use Rattle.entries.specs.declared.Entries.{Entries}
 use Rattle.entries.specs.declared.Seat.{Seat}
-use Rattle.entries.specs.Entries.{putAt, clearUnless, entriesOf, banned, barredBy}
+use Rattle.entries.specs.Places.{putAt}
+use Rattle.entries.specs.Entries.{clearUnless, entriesOf, banned, barredBy}
 
 pub fresh : (found : Bool) (xs : List ℕ) (at : ℕ) → cond (not found) (putAt xs at 0) xs ≡ clearUnless found xs at
 unfolding clearUnless

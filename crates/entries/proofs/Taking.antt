@@ -10,7 +10,8 @@ use Rattle.networks.proofs.Reading.{file-next, file-over}
 use Rattle.entries.specs.declared.Entries.{Entries}
 use Rattle.entries.specs.declared.Deed.{Deed}
 use Rattle.entries.specs.declared.Deed.the-variants as deed
-use Rattle.entries.specs.Entries.{hasEntry, grown, imported, importedAll, entriesAfter}
+use Rattle.entries.specs.Places.{hasEntry}
+use Rattle.entries.specs.Entries.{grown, imported, importedAll, entriesAfter}
 use Rattle.entries.specs.Counting.{isImport}
 
 -- what is left from place i on, taken into these entries, gives the result

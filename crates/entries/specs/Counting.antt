@@ -7,7 +7,7 @@ use Rattle.laws.specs.Upto.{seekTo}
 use Rattle.networks.specs.Networks.{unused}
 use Rattle.entries.specs.declared.Deed.{Deed}
 use Rattle.entries.specs.declared.Deed.the-variants as deed
-use Rattle.entries.specs.Entries.{sameNet}
+use Rattle.entries.specs.Places.{sameNet}
 
 -- a number is among the first n
 abbrev pub knownTo : ℕ → List ℕ → ℕ → Bool

@@ -3,33 +3,16 @@ use Prim.Native.Nat.{ℕ, _+_}
 use mathlib.Core.Bool.{Bool, true, cond}
 use mathlib.Core.List.{List, [], _∷_}
 use lib.Dec.{ltb, eqb}
-use lib.ListN.{length, set, getD, replicate}
+use lib.ListN.{length, getD, replicate}
 use Rattle.laws.specs.Bounds.{atMost, oneMore}
-use Rattle.laws.specs.Upto.{upto, seekTo}
+use Rattle.laws.specs.Upto.{upto}
 use Rattle.networks.specs.Networks.{networksIn}
 use Rattle.entries.specs.declared.Entries.{Entries}
 use Rattle.entries.specs.declared.Seen.{Seen}
 use Rattle.entries.specs.declared.Seat.{Seat}
 use Rattle.entries.specs.declared.Deed.{Deed}
 use Rattle.entries.specs.declared.Deed.the-variants as deed
-
-abbrev pub sameNet : ℕ → ℕ → Bool
-sameNet a b = eqb b a
-
--- entries in use: a count above sixteen counts as sixteen
-unfoldable pub entriesHeld : ℕ → ℕ
-entriesHeld n = atMost 16 n
-
--- the entry of a network, or the first free place
-unfoldable pub placeIn : ℕ → ℕ → List ℕ → ℕ
-placeIn count net nets = seekTo (sameNet net) (entriesHeld count) nets
-
-unfoldable pub hasEntry : ℕ → ℕ → List ℕ → Bool
-hasEntry count net nets = ltb (placeIn count net nets) (entriesHeld count)
-
--- what stands at a place in use, else nothing
-unfoldable pub peekAt : List ℕ → ℕ → ℕ → ℕ
-peekAt xs at n = cond (ltb at n) (getD xs at 0) 0
+use Rattle.entries.specs.Places.{entriesHeld, placeIn, hasEntry, peekAt, putAt}
 
 -- what stands about a network: its place, whether that is its entry, and its marks
 unfoldable pub seenIn : ℕ → ℕ → List ℕ → List ℕ → List ℕ → Seen
@@ -51,9 +34,6 @@ liftMark limit n mark = cond (eqb n 0) mark (cond (ltb n limit) 0 mark)
 -- "+1 if below limit, or to the limit if protected"
 unfoldable pub bumped : ℕ → ℕ → ℕ → ℕ
 bumped limit protected n = cond (eqb protected 0) (oneMore limit n) limit
-
-unfoldable pub putAt : List ℕ → ℕ → ℕ → List ℕ
-putAt xs at v = cond (ltb at 16) (set xs at v) xs
 
 -- a new entry has zeros
 unfoldable pub clearUnless : Bool → List ℕ → ℕ → List ℕ

@@ -12,7 +12,8 @@ ghost use mathlib.Core.Path.{_≡_};
 ghost use mathlib.Core.Bool.{cond};
 ghost use Prim.Native.Nat.{_+_, _≤_};
 ghost use Rattle.networks.specs.Networks.{networksIn};
-ghost use Rattle.entries.specs.Entries.{hasEntry, putAt, entriesOf, grown, imported, importedAll, heldWith};
+ghost use Rattle.entries.specs.Places.{hasEntry, putAt};
+ghost use Rattle.entries.specs.Entries.{entriesOf, grown, imported, importedAll, heldWith};
 ghost use Rattle.entries.specs.Counting.{isPassed, isImport};
 
 // A network that is neither among the first n, those with an entry, nor among the k new ones is one more of these. Sixteen have a place: a seventeenth is

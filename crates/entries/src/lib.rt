@@ -6,7 +6,8 @@ ghost use Prim.Native.Nat.{_≤_};
 ghost use lib.ListN.{replicate};
 ghost use Rattle.laws.specs.Bounds.{oneMore};
 ghost use Rattle.laws.specs.Upto.{upto, seekTo};
-ghost use Rattle.entries.specs.Entries.{sameNet, entriesHeld, placeIn, hasEntry, liftMark, bumped, putAt, raised, peekAt, seenIn, entriesOf, banned, none, entriesAfter};
+ghost use Rattle.entries.specs.Places.{sameNet, entriesHeld, placeIn, hasEntry, putAt, peekAt};
+ghost use Rattle.entries.specs.Entries.{liftMark, bumped, raised, seenIn, entriesOf, banned, none, entriesAfter};
 
 mod import;
 

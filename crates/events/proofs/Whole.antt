@@ -18,7 +18,7 @@ use Rattle.rules.specs.declared.Site.{Site}
 use Rattle.rules.specs.declared.Plan.{Plan}
 use Rattle.rules.specs.Plan.{askOf, siteOf, planOf, deedOn, deedOf}
 use Rattle.events.specs.declared.Done.{Done}
-use Rattle.events.specs.Parts.{seenBy, seenOf, listedOf, plannedOf, tableAfter, filedBy, withCounts, doneOf, partsOf, carriedOut, partsAfter, Kept, keptAfter}
+use Rattle.events.specs.Parts.{seenBy, seenOf, listedOf, plannedOf, tableAfter, withFile, withCounts, doneOf, partsOf, carriedOut, partsAfter, Kept, keptAfter}
 use Rattle.events.proofs.Second.{never-second}
 use Rattle.events.specs.Step.{together, keptIn, joinedOf, advanceOf}
 
@@ -32,7 +32,7 @@ pub core-law : (h : Hot) (e : Event) (octets : List ℕ) (q : Ask) (i : Site) (s
     → d′ ≡ deedOn (p .access) (p .work .mine) (p .work .theirs) 1
     → x′ ≡ entriesAfter d [] (h .a0 .entries) (h .dev .banlimit) (h .dev .n1limit) x
     → y' ≡ entriesAfter d′ [] (h .a1 .entries) (h .dev .banlimit) (h .dev .n1limit) y
-    → x' ≡ filedBy d octets (h .a0 .entries) x′
+    → x' ≡ withFile d octets (h .a0 .entries) x′
     → a' ≡ listAfter (p .work .roaming) (h .dev .roaming) a
     → m ≡ countAfter (p .work .roaming) (h .dev .roaming) a
     → b' ≡ listAfter (p .work .regional) (h .dev .regional) b

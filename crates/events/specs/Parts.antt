@@ -63,8 +63,8 @@ unfoldable pub tableAfter : Plan → List ℕ → ℕ → ℕ → Hot → Entrie
 tableAfter p octets me count h t = entriesAfter (deedOf p me) octets count (h .dev .banlimit) (h .dev .n1limit) t
 
 -- the file of an import behind what else its deed does
-abbrev pub filedBy : Deed → List ℕ → ℕ → Entries → Entries
-filedBy k file count t = cond (isImport k) (importedAll (networksIn file) count t) t
+abbrev pub withFile : Deed → List ℕ → ℕ → Entries → Entries
+withFile k file count t = cond (isImport k) (importedAll (networksIn file) count t) t
 
 -- the numbers with the area lists' counts
 unfoldable pub withCounts : ℕ → ℕ → Hot → Hot

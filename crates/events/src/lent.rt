@@ -10,7 +10,7 @@ ghost use mathlib.Core.Path.{_≡_};
 ghost use mathlib.Core.Bool.{cond};
 ghost use Rattle.entries.specs.Entries.{heldWith, entriesOf};
 ghost use Rattle.events.specs.Parts as parts;
-ghost use Rattle.events.specs.Parts.{sightOf, fileSeen, filedBy, seenBy, listedOf, withCounts, partsOf, partsAfter};
+ghost use Rattle.events.specs.Parts.{sightOf, fileSeen, withFile, seenBy, listedOf, withCounts, partsOf, partsAfter};
 
 fn sight(
     access: u8,
@@ -133,7 +133,7 @@ fn file(
     forbidden: &mut [u8; 16],
     barred: &mut [u8; 16],
 )
-    ensures { λ r. ⌜ entriesOf (now (nets .exit)) (now (bans .exit)) (now (n1s .exit)) (now (forbidden .exit)) (now (barred .exit)) ≡ filedBy k (now (octets .entry)) count (entriesOf (now (nets .entry)) (now (bans .entry)) (now (n1s .entry)) (now (forbidden .entry)) (now (barred .entry))) ⌝ }
+    ensures { λ r. ⌜ entriesOf (now (nets .exit)) (now (bans .exit)) (now (n1s .exit)) (now (forbidden .exit)) (now (barred .exit)) ≡ withFile k (now (octets .entry)) count (entriesOf (now (nets .entry)) (now (bans .entry)) (now (n1s .entry)) (now (forbidden .entry)) (now (barred .entry))) ⌝ }
 {
     if entries::is_import(k) {
         entries::take_in(octets, count, nets, bans, n1s, forbidden, barred);

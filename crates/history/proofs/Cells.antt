@@ -11,7 +11,8 @@ use Rattle.entries.specs.declared.Seat.{Seat}
 use Rattle.entries.specs.declared.Deed.{Deed}
 use Rattle.entries.specs.declared.Deed.the-variants as deed
 use Rattle.networks.specs.Networks.{networksIn}
-use Rattle.entries.specs.Entries.{entriesHeld, placeIn, hasEntry, peekAt, liftMark, bumped, putAt, raised, unforbidden, n1ToLimit, swept, powered, none, grown, heldWith}
+use Rattle.entries.specs.Places.{entriesHeld, placeIn, hasEntry, peekAt, putAt}
+use Rattle.entries.specs.Entries.{liftMark, bumped, raised, unforbidden, n1ToLimit, swept, powered, none, grown, heldWith}
 use Rattle.entries.specs.Entries as entries
 use Rattle.validity.specs.Sized.{Columns}
 use Rattle.validity.proofs.Own.{seatIn}

@@ -11,7 +11,8 @@ use lib.ListN.{length, getD, set}
 use lib.Seq.{getD-set-same, getD-set-other, set-getD}
 use borrow.Author.Tests.{leb-false, ltb-true, ltb-false, lt-ltb, le-ltb, eqb-true, eqb-false}
 use Rattle.laws.specs.Upto.{upto, seekTo}
-use Rattle.entries.specs.Entries.{sameNet, entriesHeld, placeIn, hasEntry, peekAt, putAt, clearUnless, grown}
+use Rattle.entries.specs.Places.{sameNet, entriesHeld, placeIn, hasEntry, peekAt, putAt}
+use Rattle.entries.specs.Entries.{clearUnless, grown}
 use Rattle.entries.proofs.Joining.{has-joined}
 use Rattle.record.specs.New.{zeros}
 use Rattle.validity.proofs.Bools.{most-fits}

@@ -6,7 +6,8 @@ use mathlib.Core.Bool.{Bool, true, false, cond, false≢true, _||_}
 use mathlib.Core.List.{List, [], _∷_, reverse, reverseAux}
 use lib.Dec.{eqb}
 use lib.ListN.{length}
-use Rattle.entries.specs.Entries.{hasEntry, none}
+use Rattle.entries.specs.Places.{hasEntry}
+use Rattle.entries.specs.Entries.{none}
 use Rattle.record.specs.Answers.{numberOf, isTaken}
 use Rattle.record.specs.New.{newDevice, newAccess, emptyRecord, newRecord, mayMake, madeOf}
 use Rattle.ranges.specs.Valid.{validOf}

@@ -9,7 +9,8 @@ use lib.ListN.{length}
 use borrow.Author.Tests.{eqb-true}
 use Rattle.networks.specs.Networks.{networkOf, unused, usedBy, networksIn}
 use Rattle.entries.specs.declared.Entries.{Entries}
-use Rattle.entries.specs.Entries.{placeIn, hasEntry, grown, importedAll, newIn, heldWith}
+use Rattle.entries.specs.Places.{placeIn, hasEntry}
+use Rattle.entries.specs.Entries.{grown, importedAll, newIn, heldWith}
 use Rattle.entries.specs.Entries as entries
 use Rattle.entries.proofs.Joining.{new-room, new-step}
 use Rattle.validity.specs.Sized.{Columns}

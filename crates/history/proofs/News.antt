@@ -13,7 +13,8 @@ use Rattle.entries.specs.declared.Deed.{Deed}
 use Rattle.entries.specs.declared.Deed.the-variants as deed
 use Rattle.entries.specs.declared.Seen.{Seen}
 use Rattle.entries.specs.declared.Seat.{Seat}
-use Rattle.entries.specs.Entries.{hasEntry, seatOf, entriesAfter}
+use Rattle.entries.specs.Places.{hasEntry}
+use Rattle.entries.specs.Entries.{seatOf, entriesAfter}
 use Rattle.messages.specs.declared.Reject.{Reject}
 use Rattle.messages.specs.declared.Reading.{Reading}
 use Rattle.messages.specs.declared.Reading.the-variants as reading

@@ -12,7 +12,7 @@ use lib.Seq.{getD-append-seam}
 use lib.Dec.{leb, ltb, eqb}
 use borrow.Author.Tests.{ltb-true, ltb-false, eq-eqb, eqb-true, eqb-false}
 use Rattle.entries.specs.declared.Entries.{Entries}
-use Rattle.entries.specs.Entries.{sameNet, entriesHeld, placeIn, peekAt}
+use Rattle.entries.specs.Places.{sameNet, entriesHeld, placeIn, peekAt}
 use Rattle.record.specs.Tests.{both, either, flip}
 use Rattle.record.specs.Sides.{accessOf}
 use Rattle.record.specs.New.{madeOf, mayMake}

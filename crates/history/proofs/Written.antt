@@ -12,7 +12,8 @@ use borrow.Author.Tests.{leb-true, le-leb, ltb-true, ltb-false, lt-ltb, le-ltb, 
 use Rattle.laws.specs.Upto.{seekTo, every}
 use Rattle.laws.proofs.Seek.{seek-le, seek-found, seek-before, seek-is}
 use Rattle.networks.specs.Networks.{networksIn}
-use Rattle.entries.specs.Entries.{sameNet, entriesHeld, placeIn, hasEntry, peekAt, newIn, heldWith}
+use Rattle.entries.specs.Places.{sameNet, entriesHeld, placeIn, hasEntry, peekAt}
+use Rattle.entries.specs.Entries.{newIn, heldWith}
 use Rattle.entries.proofs.Joining.{held-fits}
 use Rattle.record.specs.Tests.{both, isFlag}
 use Rattle.record.specs.Network.{isNetwork}

@@ -4,7 +4,7 @@ use mathlib.Core.Bool.{Bool, cond}
 use mathlib.Core.List.{List}
 use lib.Dec.{eqb}
 use Rattle.entries.specs.declared.Entries.{Entries}
-use Rattle.entries.specs.Entries.{entriesHeld, placeIn, hasEntry, peekAt}
+use Rattle.entries.specs.Places.{entriesHeld, placeIn, hasEntry, peekAt}
 use Rattle.record.specs.declared.Record.{Record}
 use Rattle.record.specs.Sides.{accessOf}
 use Rattle.history.specs.History.{Cell}

@@ -5,7 +5,7 @@ use mathlib.Core.List.{List}
 use lib.ListN.{length}
 use lib.Dec.{eqb}
 use Rattle.laws.specs.Upto.{seekTo}
-use Rattle.entries.specs.Entries.{sameNet}
+use Rattle.entries.specs.Places.{sameNet}
 use Rattle.record.specs.Tests.{both}
 use Rattle.cells.specs.Cells.{among}
 use Rattle.history.specs.History.{Cell}

@@ -13,7 +13,7 @@ use Rattle.effects.specs.Effects.{Effect, importEffect, sidesOf, importedSides}
 use Rattle.rules.specs.declared.Event.{Event}
 use Rattle.rules.specs.declared.Event.the-variants.{Card, Start, Message, Timer, Power, Key, Update, Import, Unknown}
 use Rattle.rules.specs.Plan.{Fits, accessIn, effectOf, hotAfter, takenReply, takenPlan}
-use Rattle.rules.specs.Sides.{hotBy, replyBy, planBy, isImport}
+use Rattle.rules.specs.Sides.{hotBy, replyBy, planBy, isImporting}
 
 side : (h : Hot) (w : ℕ) (e : Effect) (b : Bool) → eqb w 0 ≡ b → planBy h w (sidesOf w e) ≡ takenPlan h w e
 unfolding planBy hotBy replyBy sidesOf takenPlan takenReply hotAfter hotOf
@@ -26,10 +26,10 @@ sorted h w e = side h w e (eqb w 0) refl
 module _ (h : Hot) (s : Seen) (octets : List ℕ) where
   -- what the code makes of an event before an import's own share
   abbrev pub before : Event → Sides
-  before e = sidesOf (accessIn e) (cond (isImport e) (effectOf h Unknown s octets) (effectOf h e s octets))
+  before e = sidesOf (accessIn e) (cond (isImporting e) (effectOf h Unknown s octets) (effectOf h e s octets))
 
-  pub with-import : (e : Event) → cond (isImport e) (importedSides (cond (isImport e) (s .at) 0) (before e)) (before e) ≡ sidesOf (accessIn e) (effectOf h e s octets)
-  unfolding isImport accessIn effectOf importEffect importedSides sidesOf accessOf otherOf
+  pub with-import : (e : Event) → cond (isImporting e) (importedSides (cond (isImporting e) (s .at) 0) (before e)) (before e) ≡ sidesOf (accessIn e) (effectOf h e s octets)
+  unfolding isImporting accessIn effectOf importEffect importedSides sidesOf accessOf otherOf
   with-import (Card home) = refl
   with-import (Start w manual net code) = refl
   with-import (Message w protected draws) = refl
@@ -41,8 +41,8 @@ module _ (h : Hot) (s : Seen) (octets : List ℕ) where
   with-import Unknown = refl
 
 -- an import's entries fit an octet
-pub import-fits : (e : Event) (at : ℕ) (octets : List ℕ) → isImport e ≡ true → Fits e at octets → at < 256
-unfolding isImport
+pub import-fits : (e : Event) (at : ℕ) (octets : List ℕ) → isImporting e ≡ true → Fits e at octets → at < 256
+unfolding isImporting
 import-fits (Card home) at octets i f = absurd (false≢true i)
 import-fits (Start w manual net code) at octets i f = absurd (false≢true i)
 import-fits (Message w protected draws) at octets i f = absurd (false≢true i)

@@ -37,13 +37,13 @@ replyBy h w x = record {
 unfoldable pub planBy : Hot → ℕ → Sides → Plan
 planBy h w x = record { reply = replyBy h w x; hot = hotBy h x; work = x .work; access = w }
 
-unfoldable pub isImport : Event → Bool
-isImport (Card home) = false
-isImport (Start w manual net code) = false
-isImport (Message w protected draws) = false
-isImport (Timer number w) = false
-isImport Power = false
-isImport (Key w set) = false
-isImport (Update w regtype net code uplink sessions) = false
-isImport Import = true
-isImport Unknown = false
+unfoldable pub isImporting : Event → Bool
+isImporting (Card home) = false
+isImporting (Start w manual net code) = false
+isImporting (Message w protected draws) = false
+isImporting (Timer number w) = false
+isImporting Power = false
+isImporting (Key w set) = false
+isImporting (Update w regtype net code uplink sessions) = false
+isImporting Import = true
+isImporting Unknown = false

@@ -1,8 +1,6 @@
 // What an event comes to: its answer; if taken its effect, else nothing changed.
-use crate::Ask;
 use crate::Event;
 use crate::Plan;
-use crate::Site;
 use crate::replies::refused_reply;
 use crate::replies::taken_reply;
 use checks::card_answer;
@@ -48,7 +46,7 @@ ghost use Rattle.record.specs.Sides.{accessOf};
 ghost use Rattle.effects.specs.Effects as effects;
 ghost use Rattle.rules.specs.Plan as rules;
 ghost use Rattle.effects.specs.Effects.{sidesOf};
-ghost use Rattle.rules.specs.Sides.{isImport, hotBy, planBy};
+ghost use Rattle.rules.specs.Sides.{isImporting, hotBy, planBy};
 
 // A message is read once, for its answer and its effect; nothing looks at what stands here for another event.
 fn heard(e: Event, octets: &[u8]) -> Reading
@@ -87,88 +85,6 @@ fn heard(e: Event, octets: &[u8]) -> Reading
         } => unread,
         Event::Import => unread,
         Event::Unknown => unread,
-    }
-}
-
-pub fn ask_of(h: Hot, e: Event) -> Ask
-    ensures { λ r. ⌜ r ≡ rules.askOf h e ⌝ }
-{
-    match e {
-        Event::Card(_) => Ask::Nothing,
-        Event::Start {
-            access,
-            manual: _,
-            net,
-            code: _,
-        } => Ask::Network { access, net },
-        Event::Message {
-            access,
-            protected: _,
-            draws: _,
-        } => {
-            let a = access_of(h, access);
-            Ask::Network { access, net: a.net }
-        }
-        Event::Timer {
-            number: _,
-            access: _,
-        } => Ask::Nothing,
-        Event::Power => Ask::Nothing,
-        Event::Key { access: _, set: _ } => Ask::Nothing,
-        Event::Update {
-            access,
-            regtype: _,
-            net,
-            code: _,
-            uplink: _,
-            sessions: _,
-        } => Ask::Network { access, net },
-        Event::Import => Ask::File,
-        Event::Unknown => Ask::Nothing,
-    }
-}
-
-fn site_at(access: u8, net: u32, code: u32) -> Site
-    ensures { λ r. ⌜ r ≡ rules.siteAt access net code ⌝ }
-{
-    if access == 0 {
-        return Site::Area { net, code };
-    }
-    Site::Nothing
-}
-
-pub fn site_of(e: Event) -> Site
-    ensures { λ r. ⌜ r ≡ rules.siteOf e ⌝ }
-{
-    match e {
-        Event::Card(_) => Site::Nothing,
-        Event::Start {
-            access,
-            manual: _,
-            net,
-            code,
-        } => site_at(access, net, code),
-        Event::Message {
-            access: _,
-            protected: _,
-            draws: _,
-        } => Site::Nothing,
-        Event::Timer {
-            number: _,
-            access: _,
-        } => Site::Nothing,
-        Event::Power => Site::Nothing,
-        Event::Key { access: _, set: _ } => Site::Nothing,
-        Event::Update {
-            access,
-            regtype: _,
-            net,
-            code,
-            uplink: _,
-            sessions: _,
-        } => site_at(access, net, code),
-        Event::Import => Site::Nothing,
-        Event::Unknown => Site::Nothing,
     }
 }
 
@@ -261,7 +177,7 @@ fn message_effect(h: Hot, w: u8, protected: u8, draws: Draws, m: Reading, s: See
 fn effect_of(h: Hot, e: Event, s: Seen, m: Reading, octets: &[u8]) -> Sides
     requires { ⌜ rules.Fits e (s .at) (now octets) ⌝ }
     requires { ⌜ rules.Read e (now octets) m ⌝ }
-    ensures { λ r. ⌜ r ≡ sidesOf (rules.accessIn e) (cond (isImport e) (rules.effectOf h Event.Unknown s (now (octets .entry))) (rules.effectOf h e s (now (octets .entry)))) ⌝ }
+    ensures { λ r. ⌜ r ≡ sidesOf (rules.accessIn e) (cond (isImporting e) (rules.effectOf h Event.Unknown s (now (octets .entry))) (rules.effectOf h e s (now (octets .entry)))) ⌝ }
 {
     match e {
         Event::Card(home) => card_effect(h, home, octets.len() as u8),
@@ -343,7 +259,7 @@ fn refused_plan(h: Hot, w: u8, n: Answer) -> Plan
 }
 
 fn imports(e: Event) -> bool
-    ensures { λ r. ⌜ r ≡ isImport e ⌝ }
+    ensures { λ r. ⌜ r ≡ isImporting e ⌝ }
 {
     match e {
         Event::Card(_) => false,
@@ -378,7 +294,7 @@ fn imports(e: Event) -> bool
 }
 
 // With an import that was taken at most sixteen entries are held.
-fn held_with(import: bool, at: usize) -> u8
+fn entries_if(import: bool, at: usize) -> u8
     requires { ⌜ (import ≡ true → at < 256) ⌝ }
     ensures { λ r. ⌜ r ≡ cond import at 0 ⌝ }
 {
@@ -394,7 +310,7 @@ fn decided_by(n: Answer, h: Hot, e: Event, s: Seen, m: Reading, octets: &[u8]) -
     if taken(n) {
         let import = imports(e);
         let x = effect_of(h, e, s, m, octets);
-        let y = import_effect(import, held_with(import, s.at), x);
+        let y = import_effect(import, entries_if(import, s.at), x);
         return taken_plan(h, w, y);
     }
     refused_plan(h, w, n)

@@ -6,13 +6,14 @@ use turns::Clocks;
 use turns::Draws;
 use turns::Told;
 
+mod asking;
 mod decision;
 mod deeds;
 mod replies;
 
-pub use decision::ask_of;
+pub use asking::ask_of;
+pub use asking::site_of;
 pub use decision::plan_of;
-pub use decision::site_of;
 pub use deeds::deed_on;
 pub use replies::refused_reply;
 

@@ -9,7 +9,7 @@ use lib.Seq.{take-at}
 use borrow.Author.Tests.{le-leb, lt-leb, not-true, not-false}
 use Rattle.laws.specs.Upto.{over}
 use Rattle.networks.specs.Networks.{octetsOf}
-use Rattle.entries.specs.Entries.{entriesHeld}
+use Rattle.entries.specs.Places.{entriesHeld}
 use Rattle.entries.proofs.Joining.{held-fits}
 use Rattle.record.specs.declared.Record.{Record}
 use Rattle.record.specs.declared.Answer.the-variants.{Taken, Range, Short}

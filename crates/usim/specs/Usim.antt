@@ -5,7 +5,7 @@ use mathlib.Core.List.{List, [], _∷_, _++_}
 use lib.ListN.{length, getD, replicate}
 use lib.Dec.{leb, eqb}
 use Rattle.networks.specs.Networks.{octetsOf}
-use Rattle.entries.specs.Entries.{entriesHeld}
+use Rattle.entries.specs.Places.{entriesHeld}
 use Rattle.record.specs.Tests.{both}
 use Rattle.record.specs.Answers.{isTaken}
 use Rattle.record.specs.declared.Record.{Record}

@@ -13,7 +13,8 @@ use borrow.Author.Tests.{leb-true, leb-false, le-leb, ltb-true, ltb-false, lt-lt
 use Rattle.laws.specs.Upto.{upto, seekTo}
 use Rattle.entries.specs.declared.Entries.{Entries}
 use Rattle.entries.specs.declared.Seat.{Seat}
-use Rattle.entries.specs.Entries.{sameNet, entriesHeld, placeIn, hasEntry, liftMark, bumped, putAt, clearUnless, raised, banned, barredBy, unforbidden, n1ToLimit, swept, powered, grown, imported}
+use Rattle.entries.specs.Places.{sameNet, entriesHeld, placeIn, hasEntry, putAt}
+use Rattle.entries.specs.Entries.{liftMark, bumped, clearUnless, raised, banned, barredBy, unforbidden, n1ToLimit, swept, powered, grown, imported}
 use Rattle.record.specs.Tests.{upTo, isFlag}
 use Rattle.record.specs.Network.{isNetwork}
 use Rattle.ranges.specs.Valid.{itself}

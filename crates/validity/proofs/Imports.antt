@@ -13,7 +13,8 @@ use Rattle.laws.specs.Upto.{every}
 use Rattle.networks.specs.Networks.{networksIn}
 use Rattle.entries.specs.declared.Entries.{Entries}
 use Rattle.entries.specs.declared.Deed.the-variants as deed
-use Rattle.entries.specs.Entries.{entriesHeld, hasEntry, grown, imported, importedAll, newIn, heldWith, entriesAfter}
+use Rattle.entries.specs.Places.{entriesHeld, hasEntry}
+use Rattle.entries.specs.Entries.{grown, imported, importedAll, newIn, heldWith, entriesAfter}
 use Rattle.entries.proofs.Joining.{new-free, new-step}
 use Rattle.areas.specs.declared.Task.the-variants as task
 use Rattle.record.specs.declared.Record.{Record}

@@ -14,7 +14,8 @@ use Rattle.entries.specs.declared.Seen.{Seen}
 use Rattle.entries.specs.declared.Seat.{Seat}
 use Rattle.entries.specs.declared.Deed.{Deed}
 use Rattle.entries.specs.declared.Deed.the-variants as deed
-use Rattle.entries.specs.Entries.{placeIn, hasEntry, seenIn, seatOf, unforbidden, entriesAfter, grown}
+use Rattle.entries.specs.Places.{placeIn, hasEntry}
+use Rattle.entries.specs.Entries.{seenIn, seatOf, unforbidden, entriesAfter, grown}
 use Rattle.areas.specs.declared.Task.{Task}
 use Rattle.areas.specs.declared.Task.the-variants as task
 use Rattle.messages.specs.declared.Accept.{Accept}

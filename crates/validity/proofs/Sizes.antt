@@ -12,7 +12,8 @@ use Rattle.entries.specs.declared.Entries.{Entries}
 use Rattle.entries.specs.declared.Seat.{Seat}
 use Rattle.entries.specs.declared.Deed.{Deed}
 use Rattle.entries.specs.declared.Deed.the-variants as deed
-use Rattle.entries.specs.Entries.{entriesHeld, placeIn, hasEntry, liftMark, bumped, putAt, clearUnless, raised, banned, barredBy, unforbidden, n1ToLimit, swept, powered, grown, imported, importedAll, none, entriesAfter}
+use Rattle.entries.specs.Places.{entriesHeld, placeIn, hasEntry, putAt}
+use Rattle.entries.specs.Entries.{liftMark, bumped, clearUnless, raised, banned, barredBy, unforbidden, n1ToLimit, swept, powered, grown, imported, importedAll, none, entriesAfter}
 use Rattle.networks.specs.Networks.{networksIn}
 use Rattle.areas.specs.declared.Task.{Task}
 use Rattle.areas.specs.declared.Task.the-variants as task

@@ -3,7 +3,8 @@ use Prim.Native.Nat.{ℕ, _+_}
 use mathlib.Core.List.{List}
 use lib.ListN.{length}
 use Rattle.networks.specs.Networks.{networksIn}
-use Rattle.entries.specs.Entries.{hasEntry, importedAll, newIn}
+use Rattle.entries.specs.Places.{hasEntry}
+use Rattle.entries.specs.Entries.{importedAll, newIn}
 use Rattle.record.specs.Setters.{withEntries}
 use Rattle.record.specs.declared.Record.{Record}
 use Rattle.record.specs.declared.Answer.the-variants.{Taken}

@@ -4,7 +4,8 @@ use mathlib.Core.Bool.{cond}
 use lib.Dec.{eqb}
 use Rattle.laws.specs.Upto.{upto}
 use Rattle.entries.specs.declared.Entries.{Entries}
-use Rattle.entries.specs.Entries.{entriesHeld, liftMark}
+use Rattle.entries.specs.Places.{entriesHeld}
+use Rattle.entries.specs.Entries.{liftMark}
 use Rattle.record.specs.declared.Access.{Access}
 use Rattle.record.specs.declared.Record.{Record}
 use Rattle.record.specs.New.{zeros}

@@ -4,7 +4,8 @@ use mathlib.Core.Bool.{cond}
 use lib.Dec.{eqb}
 use Rattle.entries.specs.declared.Entries.{Entries}
 use Rattle.entries.specs.declared.Seat.{Seat}
-use Rattle.entries.specs.Entries.{placeIn, hasEntry, banned, barredBy, n1ToLimit}
+use Rattle.entries.specs.Places.{placeIn, hasEntry}
+use Rattle.entries.specs.Entries.{banned, barredBy, n1ToLimit}
 use Rattle.areas.specs.Areas.{areaOf, placed, placedCount}
 use Rattle.record.specs.declared.Access.{Access}
 use Rattle.record.specs.declared.Record.{Record}

@@ -4,7 +4,7 @@ use mathlib.Core.Path.{_≡_}
 use lib.ListN.{drop}
 use borrow.Author.Tests.{eq-eqb, ne-eqb}
 use Rattle.laws.specs.Upto.{seekTo}
-use Rattle.entries.specs.Entries.{sameNet}
+use Rattle.entries.specs.Places.{sameNet}
 use Rattle.laws.proofs.Zip.{seek-none, seek-hit, seek-miss, seek-over}
 use borrow.Author.Needs.{needs}
 use native.Mathlib.Omega.{arith}

@@ -1,5 +1,6 @@
 -- `look` meets its contract: the place found, and the marks that stand there.
-use Rattle.entries.specs.Entries.{seenIn, hasEntry, placeIn}
+use Rattle.entries.specs.Places.{hasEntry, placeIn}
+use Rattle.entries.specs.Entries.{seenIn}
 use borrow.Author.Needs.{needs}
 use Rattle.entries.proofs.look.Statement.{statement}
 use Rattle.entries.proofs.look.Tie as tie

@@ -1,5 +1,5 @@
 -- `peek` meets its contract: the test on the place is the definition's.
-use Rattle.entries.specs.Entries.{peekAt}
+use Rattle.entries.specs.Places.{peekAt}
 use borrow.Author.Tests.{lt-ltb, le-ltb}
 use borrow.Author.Needs.{needs}
 use Rattle.entries.proofs.peek.Statement.{statement}

@@ -1,5 +1,5 @@
 -- `put_net` meets its contract: it stores exactly where the place is below sixteen.
-use Rattle.entries.specs.Entries.{putAt}
+use Rattle.entries.specs.Places.{putAt}
 use borrow.Author.Tests.{lt-ltb, le-ltb}
 use borrow.Author.Needs.{needs}
 use Rattle.entries.proofs.put_net.Statement.{statement}

@@ -1,5 +1,6 @@
 -- `raise` meets its contract: a place past the end is left.
-use Rattle.entries.specs.Entries.{raised, putAt}
+use Rattle.entries.specs.Places.{putAt}
+use Rattle.entries.specs.Entries.{raised}
 use borrow.Author.Tests.{lt-ltb, le-ltb}
 use borrow.Author.Needs.{needs}
 use Rattle.entries.proofs.raise.Statement.{statement}

@@ -1,6 +1,6 @@
 -- `size` meets its contract: the test on the count is the definition's.
 use borrow.Author.Needs.{needs}
-use Rattle.entries.specs.Entries.{entriesHeld}
+use Rattle.entries.specs.Places.{entriesHeld}
 use borrow.Author.Tests.{lt-ltb, le-ltb}
 use Rattle.entries.proofs.size.Statement.{statement}
 use Rattle.entries.proofs.size.Tie as tie

@@ -1,5 +1,5 @@
 -- `to_limit` meets its contract: what `find` found is the network's place, and below the count it is its entry.
-use Rattle.entries.specs.Entries.{hasEntry, placeIn}
+use Rattle.entries.specs.Places.{hasEntry, placeIn}
 use borrow.Author.Needs.{needs}
 use Rattle.entries.proofs.to_limit.Statement.{statement}
 use Rattle.entries.proofs.to_limit.Tie as tie

@@ -1,6 +1,7 @@
 -- `admit` meets its contract: each column by its callee's. Assumes nothing.
 use mathlib.Core.Path.{refl}
-use Rattle.entries.specs.Entries.{placeIn, hasEntry, imported}
+use Rattle.entries.specs.Places.{placeIn, hasEntry}
+use Rattle.entries.specs.Entries.{imported}
 use Rattle.entries.proofs.Laws.{fresh}
 use borrow.Author.Needs.{needs}
 use Rattle.entries.proofs.import.admit.Statement.{statement}

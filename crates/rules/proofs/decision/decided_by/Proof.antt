@@ -18,8 +18,8 @@ imports-requires c κs = search needs
 effect-of-requires : tie.Need-effect-of-requires
 effect-of-requires c κs = (c .before .before .before .before .before .pre .0 (sym (c .before .before .taken .ensures) ∙ c .before .if1 .taken), c .before .before .before .before .before .pre .1)
 
-held-with-requires : tie.Need-held-with-requires
-held-with-requires c κs i = import-fits _ _ _ (sym (c .before .imports .ensures) ∙ i) (c .before .before .before .before .before .before .pre .0 (sym (c .before .before .before .taken .ensures) ∙ c .before .before .if1 .taken))
+entries-if-requires : tie.Need-entries-if-requires
+entries-if-requires c κs i = import-fits _ _ _ (sym (c .before .imports .ensures) ∙ i) (c .before .before .before .before .before .before .pre .0 (sym (c .before .before .before .taken .ensures) ∙ c .before .before .if1 .taken))
 
 import-effect-requires : tie.Need-import-effect-requires
 import-effect-requires c κs = search needs
@@ -35,7 +35,7 @@ returns c =
       c .before .before .before .before .before .if1 .taken,
       c .taken-plan .ensures,
       c .before .import-effect .ensures,
-      c .before .before .held-with .ensures,
+      c .before .before .entries-if .ensures,
       c .before .before .before .effect-of .ensures,
       c .before .before .before .before .imports .ensures,
       c .before .before .before .before .before .before .before .access-in .ensures,
@@ -58,7 +58,7 @@ decided-by-spec =
     taken-requires
     imports-requires
     effect-of-requires
-    held-with-requires
+    entries-if-requires
     import-effect-requires
     taken-plan-requires
     returns

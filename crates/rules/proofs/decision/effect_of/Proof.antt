@@ -1,7 +1,7 @@
 -- Event by event, as the definition; what a taken card keeps in an octet fits it, and a message's reading is that of its octets. Assumes nothing.
 use native.Mathlib.Omega.{arith}
 use Rattle.rules.specs.Plan.{accessIn, effectOf}
-use Rattle.rules.specs.Sides.{isImport}
+use Rattle.rules.specs.Sides.{isImporting}
 use borrow.Author.Needs.{needs}
 use Rattle.rules.proofs.decision.effect_of.Statement.{statement}
 use Rattle.rules.proofs.decision.effect_of.Tie as tie
@@ -64,39 +64,39 @@ none-requires-2 : tie.Need-none-requires-2
 none-requires-2 c κs = search needs
 
 returns : tie.Need-returns
-unfolding isImport effectOf accessIn
+unfolding isImporting effectOf accessIn
 returns c = rw (c .before .before .e .given .1) (c .card-effect .ensures)
 
 returns-2 : tie.Need-returns-2
-unfolding isImport effectOf accessIn
+unfolding isImporting effectOf accessIn
 returns-2 c = rw (c .before .before .e2 .given .1) (c .start-effect .ensures)
 
 returns-3 : tie.Need-returns-3
-unfolding isImport effectOf accessIn
+unfolding isImporting effectOf accessIn
 returns-3 c = rw (c .before .before .e3 .given .1, ← rw (c .before .before .e3 .given .1) at (c .before .before .before .before .before .pre .1)) (c .message-effect .ensures)
 
 returns-4 : tie.Need-returns-4
-unfolding isImport effectOf accessIn
+unfolding isImporting effectOf accessIn
 returns-4 c = rw (c .before .before .e4 .given .1) (c .timer-effect .ensures)
 
 returns-5 : tie.Need-returns-5
-unfolding isImport effectOf accessIn
+unfolding isImporting effectOf accessIn
 returns-5 c = rw (c .before .enum-told .given .1) (c .power-effect .ensures)
 
 returns-6 : tie.Need-returns-6
-unfolding isImport effectOf accessIn
+unfolding isImporting effectOf accessIn
 returns-6 c = rw (c .before .before .e5 .given .1) (c .key-effect .ensures)
 
 returns-7 : tie.Need-returns-7
-unfolding isImport effectOf accessIn
+unfolding isImporting effectOf accessIn
 returns-7 c = rw (c .before .before .e6 .given .1) (c .update-effect .ensures)
 
 returns-8 : tie.Need-returns-8
-unfolding isImport effectOf accessIn
+unfolding isImporting effectOf accessIn
 returns-8 c = rw (c .before .enum-told2 .given .1) (c .none .ensures)
 
 returns-9 : tie.Need-returns-9
-unfolding isImport effectOf accessIn
+unfolding isImporting effectOf accessIn
 returns-9 c = rw (c .before .enum-told3 .given .1) (c .none2 .ensures)
 
 pub effect-of-spec : {M : Type 1} → statement M

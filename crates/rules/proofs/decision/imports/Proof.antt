@@ -1,5 +1,5 @@
 -- Event by event, as the definition. Assumes nothing.
-use Rattle.rules.specs.Sides.{isImport}
+use Rattle.rules.specs.Sides.{isImporting}
 use borrow.Author.Needs.{needs}
 use Rattle.rules.proofs.decision.imports.Statement.{statement}
 use Rattle.rules.proofs.decision.imports.Tie as tie
@@ -32,39 +32,39 @@ enum-told-9 : tie.Need-enum-told-9
 enum-told-9 c = search needs
 
 returns : tie.Need-returns
-unfolding isImport
+unfolding isImporting
 returns c = rw (c .enum-told .given .1)
 
 returns-2 : tie.Need-returns-2
-unfolding isImport
+unfolding isImporting
 returns-2 c = rw (c .enum-told2 .given .1)
 
 returns-3 : tie.Need-returns-3
-unfolding isImport
+unfolding isImporting
 returns-3 c = rw (c .enum-told3 .given .1)
 
 returns-4 : tie.Need-returns-4
-unfolding isImport
+unfolding isImporting
 returns-4 c = rw (c .enum-told4 .given .1)
 
 returns-5 : tie.Need-returns-5
-unfolding isImport
+unfolding isImporting
 returns-5 c = rw (c .enum-told5 .given .1)
 
 returns-6 : tie.Need-returns-6
-unfolding isImport
+unfolding isImporting
 returns-6 c = rw (c .enum-told6 .given .1)
 
 returns-7 : tie.Need-returns-7
-unfolding isImport
+unfolding isImporting
 returns-7 c = rw (c .enum-told7 .given .1)
 
 returns-8 : tie.Need-returns-8
-unfolding isImport
+unfolding isImporting
 returns-8 c = rw (c .enum-told8 .given .1)
 
 returns-9 : tie.Need-returns-9
-unfolding isImport
+unfolding isImporting
 returns-9 c = rw (c .enum-told9 .given .1)
 
 pub imports-spec : {M : Type 1} → statement M

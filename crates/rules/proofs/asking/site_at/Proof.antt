@@ -1,8 +1,8 @@
 -- The test is the definition's. Assumes nothing.
 use borrow.Author.Tests.{eq-eqb, ne-eqb}
 use Rattle.rules.specs.Plan.{siteAt}
-use Rattle.rules.proofs.decision.site_at.Statement.{statement}
-use Rattle.rules.proofs.decision.site_at.Tie as tie
+use Rattle.rules.proofs.asking.site_at.Statement.{statement}
+use Rattle.rules.proofs.asking.site_at.Tie as tie
 
 returns : tie.Need-returns
 unfolding siteAt

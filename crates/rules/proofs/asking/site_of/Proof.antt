@@ -1,8 +1,8 @@
 -- Event by event, as the definition. Assumes nothing.
 use Rattle.rules.specs.Plan.{siteOf}
 use borrow.Author.Needs.{needs}
-use Rattle.rules.proofs.decision.site_of.Statement.{statement}
-use Rattle.rules.proofs.decision.site_of.Tie as tie
+use Rattle.rules.proofs.asking.site_of.Statement.{statement}
+use Rattle.rules.proofs.asking.site_of.Tie as tie
 
 enum-told : tie.Need-enum-told
 enum-told c = search needs
