@@ -86,13 +86,18 @@ struct tjernfaug_hot {
     struct tjernfaug_access a1;
 };
 
-/* The network entries of an access, column by column. */
+/*
+ * The network entries of an access, column by column.
+ * ranks: how many of the access's entries were last marked earlier, by a reject or an import: of n entries in use each has another one of 0 to n - 1, and 0 was marked longest ago.
+ * Where all sixteen are in use and a reject needs one more, the entry of lowest rank that is neither forbidden nor barred gives up its place.
+ */
 struct tjernfaug_entries {
     uint32_t nets[16];
     uint8_t bans[16];
     uint8_t n1s[16];
     uint8_t forbidden[16];
     uint8_t barred[16];
+    uint8_t ranks[16];
 };
 
 /*
@@ -145,7 +150,7 @@ struct tjernfaug_notice {
 };
 
 /* The library's layout on x86-64; tests/c/run holds the library to it. */
-_Static_assert(sizeof(struct tjernfaug_record) == 1224, "the record's size");
+_Static_assert(sizeof(struct tjernfaug_record) == 1256, "the record's size");
 _Static_assert(_Alignof(struct tjernfaug_record) == 8, "the record's alignment");
 _Static_assert(sizeof(struct tjernfaug_notice) == 104, "the notice's size");
 _Static_assert(_Alignof(struct tjernfaug_notice) == 8, "the notice's alignment");
@@ -173,6 +178,8 @@ uint32_t tjernfaug_new(struct tjernfaug_record *r, uint8_t cardlimit, uint8_t ba
  * 20 is a start or an update over an access whose T3346 runs: when it has run out, the notice asks for a restart.
  * An import, allowed in each state, marks the file's networks forbidden on access 0. A new one has counter 0, so that T3247 and a power cycle do not lift its mark; one that has an
  * entry keeps its counters. It is 1 if len is not a multiple of three or a code is no network code, and 4 if the new networks, each counted once, exceed the free entries.
+ * A reject that marks a network without an entry, where none is free, takes the place of the one without a mark that was marked longest ago: its counters are forgotten, and the
+ * newcomer has the same index. It is 4 if all sixteen have a mark. An import gives none up.
  * A message at fault is answered by its fault, and the notice's offset tells the octet; of several faults the one at the lowest offset, at a tie the lower number:
  *   13  fewer than the fixed octets: the message's length, or 3, the length octet of an accept whose result has length 0
  *   14  octet 1 not 7E: 0

@@ -12,16 +12,22 @@ fn codes(file: &[u8]) -> impl Iterator<Item = Network> + '_ {
 }
 
 /// The event: each network of the file gets the forbidden mark on access 0, a new one with its
-/// counters 0. A network that stands twice has its entry the second time.
+/// counters 0. A network that stands twice has its entry the second time. No entry is given up for
+/// it; those that it marked go last in R-9's order, among themselves in entry order.
 pub fn import(record: &mut Record, file: &[u8]) -> Reply {
     if file.len() % 3 != 0 || !codes(file).all(|code| is_network(&code)) {
         return Reply::of(RANGE);
     }
     // A copy, since a refusal makes no entry.
     let mut access = record.access[0];
+    let mut named = [false; 16];
     for network in codes(file) {
-        let Some(entry) = access.claim(network) else { return Reply::of(FULL) };
-        entry.forbidden = true;
+        let Some(place) = access.claim(network) else { return Reply::of(FULL) };
+        access.entries[place].forbidden = true;
+        named[place] = true;
+    }
+    for place in (0..16).filter(|place| named[*place]) {
+        access.marked(place);
     }
     record.access[0] = access;
     Reply::of(TAKEN)

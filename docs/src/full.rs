@@ -16,7 +16,8 @@
 // `due` is the time kept for T3512, the one of an access its T3502's.
 // Lists: `-` if empty, else joined by commas in the order held. AREAS: six octets and `:p`
 // (protected) or `:u`. ENTRIES: network, ban counter, N1 counter and marks joined by
-// colons, the marks `F` or `-` (forbidden) then `N` or `-` (N1 not allowed).
+// colons, the marks `F` or `-` (forbidden) then `N` or `-` (N1 not allowed). The order of
+// R-9 is not printed: it shows in who gives up its place, and tests/c holds its octets.
 
 use crate::record::{Access, Areas, Change, Record, Reply, T3247, T3512};
 use std::fmt::Write;

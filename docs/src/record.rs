@@ -1,6 +1,6 @@
 // The registration record of document 01 with the updates of request R-5, the faults of R-1, the
-// waits of R-6 and the counting on both accesses of R-14, and its seven events, updated in place;
-// the eighth, R-8's import, is in card.rs.
+// waits of R-6, the counting on both accesses of R-14 and the places given up of R-9, and its seven
+// events, updated in place; the eighth, R-8's import, is in card.rs.
 
 use crate::message::{self, Accept, Message, Reject};
 
@@ -178,6 +178,8 @@ pub struct Access {
     pub equivalents: List<Network, 15>,
     pub cards: u8,
     pub entries: List<Entry, 16>,
+    /// The places of the entries, the one last marked longest ago first.
+    pub order: List<u8, 16>,
 }
 
 #[derive(Clone, Copy)]
@@ -330,6 +332,7 @@ impl Access {
             equivalents: List::new(),
             cards: 0,
             entries: List::new(),
+            order: List::new(),
         }
     }
 
@@ -341,18 +344,55 @@ impl Access {
         self.entries.iter_mut().find(|entry| entry.network == *network)
     }
 
-    /// The entry of the network, taken into use if it has none; None if all are held.
-    pub fn claim(&mut self, network: Network) -> Option<&mut Entry> {
+    /// The place of the network's entry, taken into use if it has none; None if all are held.
+    /// Whoever asks marks it.
+    pub fn claim(&mut self, network: Network) -> Option<usize> {
         let held = self.entries.iter().position(|entry| entry.network == network);
-        let place = match held {
-            Some(place) => place,
-            None if self.entries.full() => return None,
+        match held {
+            Some(place) => Some(place),
+            None if self.entries.full() => None,
             None => {
                 self.entries.push(Entry { network, ..Entry::default() });
-                self.entries.len() - 1
+                Some(self.entries.len() - 1)
+            }
+        }
+    }
+
+    /// The entry at a place was marked just now, whether or not its mark stood already.
+    pub fn marked(&mut self, place: usize) {
+        self.order.retain(|held| *held as usize != place);
+        self.order.push(place as u8);
+    }
+
+    /// Of the entries with neither mark the one last marked longest ago.
+    fn leaver(&self) -> Option<usize> {
+        let mut places = self.order.iter().map(|place| *place as usize);
+        places.find(|place| !self.entries[*place].forbidden && !self.entries[*place].n1_barred)
+    }
+
+    /// The network's entry for a reject that marks it. If none is free, another network gives up
+    /// its place and is forgotten; None if all sixteen have a mark (document 02, R-9).
+    fn seat(&mut self, network: Network) -> Option<&mut Entry> {
+        let place = match self.claim(network) {
+            Some(place) => place,
+            None => {
+                let place = self.leaver()?;
+                self.entries[place] = Entry { network, ..Entry::default() };
+                place
             }
         };
+        self.marked(place);
         Some(&mut self.entries[place])
+    }
+
+    /// For each entry how many were last marked earlier; zeros behind them. Called by tests alone.
+    #[allow(dead_code)]
+    pub fn ranks(&self) -> [u8; 16] {
+        let mut ranks = [0; 16];
+        for (rank, place) in self.order.iter().enumerate() {
+            ranks[*place as usize] = rank as u8;
+        }
+        ranks
     }
 
     /// An update is pending.
@@ -378,9 +418,9 @@ impl Access {
         self.state = state;
     }
 
-    /// 11, 73 away from home; false if it has no entry and all are held.
+    /// 11, 73 away from home; false if it has no entry, and all sixteen are held and marked.
     fn ban_row(&mut self, a: usize, limit: u8, protected: bool) -> bool {
-        let Some(entry) = self.claim(network_of(&self.pending)) else { return false };
+        let Some(entry) = self.seat(network_of(&self.pending)) else { return false };
         entry.forbidden = true;
         entry.ban = counted(entry.ban, limit, protected);
         self.barred(if a == 0 { SEARCH } else { LIMITED });
@@ -389,9 +429,9 @@ impl Access {
         true
     }
 
-    /// 27, and 72 over access 1; false if it has no entry and all are held.
+    /// 27, and 72 over access 1; false as for `ban_row`.
     fn n1_row(&mut self, limit: u8, protected: bool) -> bool {
-        let Some(entry) = self.claim(network_of(&self.pending)) else { return false };
+        let Some(entry) = self.seat(network_of(&self.pending)) else { return false };
         entry.n1_barred = true;
         entry.n1 = counted(entry.n1, limit, protected);
         self.barred(LIMITED);
@@ -640,7 +680,7 @@ impl Record {
         reply
     }
 
-    /// The row of the table for a cause; false if it needs an entry and all are held.
+    /// The row of the table for a cause; false if it needs an entry and there is none to be had.
     fn row(&mut self, a: usize, cause: u8, protected: bool, reply: &mut Reply) -> bool {
         let this = &mut self.access[a];
         let home = network_of(&this.pending) == self.home;
@@ -705,7 +745,8 @@ impl Record {
     }
 
     /// 27; false as for `n1_row`. Protected, it also takes the network's N1 counter to the limit on
-    /// the other access, if that has an entry, but sets no mark there (document 02, R-14).
+    /// the other access, if that has an entry, but sets no mark there (document 02, R-14), so that
+    /// the order there stays.
     fn n1_rows(&mut self, a: usize, protected: bool) -> bool {
         let limit = self.limits.n1;
         let this = &mut self.access[a];

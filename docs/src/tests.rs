@@ -1,5 +1,5 @@
-// Scenarios worked out by hand from document 01 and requests:
-// rustc --test docs/src/main.rs
+// Scenarios worked out by hand from document 01 and requests and
+// rustc --test docs/src/main.rs
 
 use crate::card;
 use crate::cells;
@@ -57,10 +57,26 @@ fn out(record: &mut Record, number: u8, a: u8) -> Reply {
     record.timer(number, a)
 }
 
+/// The whole record: what `--full` prints, and the order of each access.
 fn text(record: &Record) -> String {
     let mut text = String::new();
     crate::full::record(&mut text, record);
-    text
+    text + &record.access.map(|access| format!(" {:?}", &access.order[..])).concat()
+}
+
+/// The next entry of an access, as if it had just been marked.
+fn hold(access: &mut Access, entry: Entry) {
+    access.order.push(access.entries.len() as u8);
+    access.entries.push(entry);
+}
+
+/// All entries of an access, as if they had been marked in entry order.
+fn table(access: &mut Access, entries: &[Entry]) {
+    access.entries.clear();
+    access.order.clear();
+    for &entry in entries {
+        hold(access, entry);
+    }
 }
 
 /// Access `a` in state 4 on `network`, both accesses with all that a reject could clear.
@@ -539,20 +555,9 @@ fn accepts() {
 #[test]
 fn accept_event() {
     let mut record = pending(0, AWAY);
-    record.access[0].entries.push(Entry {
-        network: AWAY,
-        ban: 2,
-        n1: 1,
-        forbidden: true,
-        n1_barred: true,
-    });
-    record.access[1].entries.push(Entry {
-        network: AWAY,
-        ban: 2,
-        n1: 1,
-        forbidden: true,
-        n1_barred: true,
-    });
+    for access in &mut record.access {
+        hold(access, Entry { network: AWAY, ban: 2, n1: 1, forbidden: true, n1_barred: true });
+    }
     let new = [0x00, 0xF2, 0x20, 1, 2, 3, 4, 5, 6, 7];
     let mut octets = vec![0x7E, 0x00, 0x42, 0x01, 0x01, 0x77, 0x00, 0x0B, 0xF2];
     octets.extend(new);
@@ -650,7 +655,7 @@ fn starts() {
 fn starts_on_listed_networks_and_areas() {
     let mut record = limited(3);
     let entry = Entry { network: AWAY, ban: 1, n1: 0, forbidden: true, n1_barred: false };
-    record.access[0].entries.push(entry);
+    hold(&mut record.access[0], entry);
     record.roaming.push(Listed { area: area(AWAY), protected: false });
     record.regional.push(Listed { area: area(HOME), protected: true });
     assert_eq!(start(&mut record, 0, AWAY), 8);
@@ -742,13 +747,7 @@ fn marked() -> Record {
         for counter in 0..4 {
             let network = [counter, 0, 0];
             let n1 = 3 - counter;
-            access.entries.push(Entry {
-                network,
-                ban: counter,
-                n1,
-                forbidden: true,
-                n1_barred: true,
-            });
+            hold(access, Entry { network, ban: counter, n1, forbidden: true, n1_barred: true });
         }
         access.attempts = 4;
         access.guti = Some(GUTI);
@@ -1184,6 +1183,9 @@ fn valid(record: &Record) {
             assert!(entry.ban <= limits.ban && entry.n1 <= limits.n1 && is_network(&entry.network));
             assert!(access.entries[..place].iter().all(|before| before.network != entry.network));
         }
+        let mut places = access.order.to_vec();
+        places.sort();
+        assert!(places.iter().copied().eq(0..access.entries.len() as u8));
     }
     for areas in [&record.roaming, &record.regional] {
         for (place, held) in areas.iter().enumerate() {
@@ -1374,7 +1376,7 @@ fn thrice_refused() -> Record {
     let mut record = registered(0, HOME);
     assert_eq!(start(&mut record, 1, AWAY), 0);
     let entry = Entry { network: AWAY, ban: 1, n1: 0, forbidden: true, n1_barred: false };
-    record.access[0].entries.push(entry);
+    hold(&mut record.access[0], entry);
     record.roaming.push(Listed { area: area(AWAY), protected: false });
     record
 }
@@ -1416,13 +1418,13 @@ fn updates_are_checked_in_order() {
 fn updates_of_access_1_are_checked_by_its_own_table() {
     let mut record = registered(1, HOME);
     let entry = Entry { network: NEAR, ban: 1, n1: 0, forbidden: true, n1_barred: false };
-    record.access[0].entries.push(entry);
+    hold(&mut record.access[0], entry);
     record.regional.push(Listed { area: area(NEAR), protected: true });
     let mut passed = record;
     assert_eq!(update(&mut passed, 1, 2, NEAR), 0);
     assert_eq!(start(&mut record, 0, AWAY), 0);
     assert_eq!(update(&mut record, 1, 2, AWAY), 7);
-    record.access[1].entries.push(entry);
+    hold(&mut record.access[1], entry);
     assert_eq!(update(&mut record, 1, 2, NEAR), 8);
     assert_eq!(update(&mut record, 1, 2, HOME), 0);
 }
@@ -2156,13 +2158,13 @@ fn faults_in_the_order_of_checks() {
         assert_eq!(record.message(0, 0, drawn(1799), &accept), Reply::of(1));
         assert_eq!(record.message(1, 0, drawn(1800), &accept), Reply::of(6));
         assert_eq!(record.message(0, 0, drawn(1800), &accept), faulty(number, 5));
-        // Cause 3 while the other access is registered: 2. A full table: 4.
+        // Cause 3 while the other access is registered: 2. A full table of marks: 4.
         let rejected = |cause| [&[0x7E, 0x00, 0x44, cause][..], end].concat();
         record.access[1].state = REGISTERED;
         assert_eq!(record.message(0, 0, drawn(1800), &rejected(3)), faulty(number, 4));
         assert_eq!(record.message(0, 0, drawn(1800), &rejected(3)[..4]).answer, 2);
         for index in 1..=16 {
-            record.access[0].entries.push(Entry { network: [index, 0, 0], ..Entry::default() });
+            hold(&mut record.access[0], new([index % 10, 0, index / 10]));
         }
         assert_eq!(record.message(0, 0, drawn(1800), &rejected(11)), faulty(number, 4));
         assert_eq!(record.message(0, 0, drawn(1800), &rejected(11)[..4]).answer, 4);
@@ -2882,7 +2884,7 @@ fn pendings() -> impl Iterator<Item = (usize, u8, Record)> {
 fn laden(mut record: Record) -> Record {
     let entry = Entry { network: AWAY, ban: 2, n1: 1, forbidden: true, n1_barred: true };
     for access in &mut record.access {
-        access.entries.push(entry);
+        hold(access, entry);
         (access.t3511, access.t3502, access.attempts, access.status) = (true, true, 5, 3);
     }
     record.roaming.push(Listed { area: area(AWAY), protected: true });
@@ -2970,7 +2972,7 @@ fn other_causes_do_not_ask_for_time() {
 fn a_time_to_wait_is_always_taken() {
     for (a, protected, mut record) in pendings() {
         for index in 1..=16 {
-            record.access[a].entries.push(Entry { network: [index, 0, 0], ..Entry::default() });
+            hold(&mut record.access[a], new([index % 10, 0, index / 10]));
         }
         record.access[1 - a].state = 5;
         assert_eq!(reject_with(&mut record, a, protected, 27, MINUTE).answer, 4);
@@ -3360,7 +3362,7 @@ fn held(networks: &[Network]) -> List<Entry, 16> {
 fn beside(a: usize, mut record: Record, networks: &[Network]) -> Record {
     record.limits.n1 = 4;
     assert_eq!(start(&mut record, 1 - a as u8, NEAR), 0);
-    record.access[1 - a].entries = held(networks);
+    table(&mut record.access[1 - a], &held(networks));
     record
 }
 
@@ -3439,7 +3441,7 @@ fn a_protected_27_needs_no_entry_on_the_other_access() {
 fn a_protected_27_that_is_not_taken_counts_nowhere() {
     for (a, record) in protected() {
         let mut record = beside(a, record, &[AWAY]);
-        record.access[a].entries = held(&sixteen());
+        table(&mut record.access[a], &held(&sixteen()));
         let before = text(&record);
         assert_eq!(reject(&mut record, a as u8, 1, 27), Reply::of(4));
         assert_eq!(text(&record), before);
@@ -3503,7 +3505,8 @@ fn choosing(a: usize) -> Record {
         [(0x56, true, false), (0x57, false, true), (0x58, true, true), (0x59, false, false)]
     {
         let network = [0x12, 0x34, third];
-        record.access[a].entries.push(Entry { network, ban: 1, n1: 1, forbidden, n1_barred });
+        let entry = Entry { network, ban: 1, n1: 1, forbidden, n1_barred };
+        hold(&mut record.access[a], entry);
     }
     record
 }
@@ -3633,7 +3636,7 @@ fn bad_digits_are_passed_on() {
 #[test]
 fn a_full_table_of_marks() {
     let mut record = limited(3);
-    record.access[1].entries = held(&sixteen());
+    table(&mut record.access[1], &held(&sixteen()));
     let heard: Vec<u32> =
         sixteen().iter().map(|&[first, ..]| (first as u32) << 16).chain([0x160000]).collect();
     assert_eq!(chosen(&record, 1, &heard, 17), Ok(vec![0x160000]));
@@ -3748,9 +3751,14 @@ fn new(network: Network) -> Entry {
 }
 
 /// The import is taken and tells nothing: access 0 has these entries then, and all else stays.
+/// Those that it names are last in the order, among themselves in entry order.
 fn imports(record: &mut Record, networks: &[Network], entries: &[Entry]) {
     let mut expected = *record;
+    let named = |place: &u8| networks.contains(&entries[*place as usize].network);
+    let before = expected.access[0].order.iter().copied().filter(|place| !named(place));
+    let order: Vec<u8> = before.chain((0..entries.len() as u8).filter(named)).collect();
     expected.access[0].entries = List::of(entries);
+    expected.access[0].order = List::of(&order);
     assert_eq!(import(record, networks), Reply::of(0), "{networks:02X?}");
     assert_eq!(text(record), text(&expected), "{networks:02X?}");
     valid(record);
@@ -3801,7 +3809,7 @@ fn an_import_marks_new_networks() {
 fn an_import_marks_networks_that_have_an_entry() {
     for entry in known() {
         let mut record = limited(3);
-        record.access[0].entries = List::of(&known());
+        table(&mut record.access[0], &known());
         let mut entries = known();
         entries[entry.network[0] as usize].forbidden = true;
         imports(&mut record, &[UNUSED, entry.network, entry.network], &entries);
@@ -3809,7 +3817,7 @@ fn an_import_marks_networks_that_have_an_entry() {
         imports(&mut record, &[AWAY, entry.network], &entries);
     }
     let mut record = limited(3);
-    record.access[0].entries = List::of(&known());
+    table(&mut record.access[0], &known());
     let file: Vec<Network> = known().iter().rev().map(|entry| entry.network).collect();
     let all: Vec<Entry> = known().iter().map(|entry| Entry { forbidden: true, ..*entry }).collect();
     imports(&mut record, &file, &all);
@@ -3853,7 +3861,7 @@ fn codes_of_a_file() {
             turns_down(&mut limited(3), file.as_flattened(), 1);
         }
         let mut record = limited(3);
-        record.access[0].entries.push(Entry { network: AWAY, ..Entry::default() });
+        hold(&mut record.access[0], Entry { network: AWAY, ..Entry::default() });
         turns_down(&mut record, [AWAY, code].as_flattened(), 1);
     }
     imports(&mut limited(3), &[[0x12, 0xF4, 0x56]], &[new([0x12, 0xF4, 0x56])]);
@@ -3871,7 +3879,7 @@ fn a_file_that_fills_the_table() {
             .iter()
             .map(|&network| Entry { network, ban: 2, n1: 3, ..Entry::default() })
             .collect();
-        record.access[0].entries = List::of(&entries);
+        table(&mut record.access[0], &entries);
         let mut all: Vec<Entry> =
             entries.iter().map(|entry| Entry { forbidden: true, ..*entry }).collect();
         all.extend(fresh[..16 - count].iter().copied().map(new));
@@ -3917,7 +3925,8 @@ fn what_lifts_an_imported_mark() {
     for (counter, lifted) in [(0, false), (1, true), (2, true), (3, false)] {
         let mut record = limited(3);
         record.t3247 = true;
-        record.access[0].entries.push(Entry { network: AWAY, ban: counter, ..Entry::default() });
+        let entry = Entry { network: AWAY, ban: counter, ..Entry::default() };
+        hold(&mut record.access[0], entry);
         assert_eq!(import(&mut record, &[NEAR, AWAY]).answer, 0);
         let mut cycled = record;
         assert_eq!(cycled.power().answer, 0);
@@ -4010,7 +4019,7 @@ fn an_import_is_for_access_0() {
     assert_eq!(marks_of(&record, 0), [(0, 3, true, false)]);
     assert_eq!(marks_of(&record, 1), [(0, 3, false, true)]);
     let mut record = limited(3);
-    record.access[1].entries = held(&sixteen());
+    table(&mut record.access[1], &held(&sixteen()));
     let entries = sixteen().map(new);
     imports(&mut record, &sixteen(), &entries);
 }
@@ -4066,8 +4075,8 @@ fn filed(record: &Record, length: usize) -> Result<(Vec<u8>, usize), u8> {
 #[test]
 fn a_file_written() {
     let mut record = limited(3);
-    record.access[0].entries = List::of(&known());
-    record.access[1].entries = held(&sixteen());
+    table(&mut record.access[0], &known());
+    table(&mut record.access[1], &held(&sixteen()));
     let list: Vec<Network> = (4..=7).map(|first| [first, 0, 0]).collect();
     for places in 4..=20 {
         let unused = vec![UNUSED; places - 4];
@@ -4078,7 +4087,7 @@ fn a_file_written() {
         let unused = vec![0xFF; 3 * places];
         assert_eq!(filed(&limited(3), 3 * places), Ok((unused, 0)));
     }
-    record.access[0].entries = held(&sixteen());
+    table(&mut record.access[0], &held(&sixteen()));
     assert_eq!(filed(&record, 48), Ok((sixteen().concat(), 16)));
 }
 
@@ -4087,7 +4096,7 @@ fn a_file_written() {
 fn refusals_of_a_file() {
     for count in 0..=16 {
         let mut record = limited(3);
-        record.access[0].entries = held(&sixteen()[..count]);
+        table(&mut record.access[0], &held(&sixteen()[..count]));
         for length in 0..60 {
             let refused = match length {
                 _ if length % 3 != 0 => Some(1),
@@ -4120,4 +4129,431 @@ fn a_file_reads_back() {
         counts[count] += 1;
     }
     assert!(counts.iter().all(|&times| times > 100), "{counts:?}");
+}
+
+// Request R-9: the seventeenth network.
+
+/// A network for each number below 100; none is home.
+fn nth(index: usize) -> Network {
+    [(index % 10) as u8, 0xF5, (index / 10) as u8]
+}
+
+/// A start by hand, which passes a forbidden mark, and a reject of it: the answer to that.
+fn turned_away(record: &mut Record, a: usize, network: Network, protected: u8, cause: u8) -> u8 {
+    assert_eq!(record.start(a as u8, 1, area(network)).answer, 0);
+    reject(record, a as u8, protected, cause).answer
+}
+
+/// Access `a` with the first sixteen networks, marked in that order by rejects of this cause.
+fn sixteen_turned_away(a: usize, cause: u8) -> Record {
+    let mut record = limited(3);
+    for index in 0..16 {
+        assert_eq!(turned_away(&mut record, a, nth(index), 0, cause), 0);
+    }
+    record
+}
+
+/// T3247 out, which lifts every mark that stands below its limit.
+fn lifted(mut record: Record) -> Record {
+    assert_eq!(out(&mut record, 4, 0).answer, 0);
+    record
+}
+
+/// The networks of an access's entries in their order of last marking.
+fn aged(record: &Record, a: usize) -> Vec<Network> {
+    let access = &record.access[a];
+    access.order.iter().map(|place| access.entries[*place as usize].network).collect()
+}
+
+/// The networks of an access's entries by their places.
+fn seated(record: &Record, a: usize) -> Vec<Network> {
+    record.access[a].entries.iter().map(|entry| entry.network).collect()
+}
+
+/// Those of these numbers.
+fn networks(indices: impl IntoIterator<Item = usize>) -> Vec<Network> {
+    indices.into_iter().map(nth).collect()
+}
+
+/// Each cause that marks, over each access on which it does.
+const MARKING: [(usize, u8); 7] = [(0, 11), (0, 73), (0, 27), (1, 11), (1, 73), (1, 27), (1, 72)];
+
+/// A truck through forty networks: each takes the place of the one marked longest ago, counts from
+/// 1 and has its own mark alone. Those behind a place given up stay where they are.
+#[test]
+fn the_oldest_gives_up_its_place() {
+    for (a, cause) in MARKING {
+        let bans = matches!(cause, 11 | 73);
+        let counted = |network| match bans {
+            true => Entry { ban: 1, ..new(network) },
+            false => Entry { network, n1: 1, n1_barred: true, ..Entry::default() },
+        };
+        let mut record = lifted(sixteen_turned_away(a, cause));
+        for index in 16..40 {
+            let mut expected = record.access[a].entries;
+            expected[index % 16] = counted(nth(index));
+            let other = record.access[1 - a];
+            assert_eq!(turned_away(&mut record, a, nth(index), 0, cause), 0);
+            let mut same = record;
+            same.access[a].entries = expected;
+            same.access[1 - a] = other;
+            assert_eq!(text(&record), text(&same), "access {a} cause {cause}");
+            assert_eq!(aged(&record, a), networks(index - 15..=index));
+            valid(&record);
+            if index == 31 {
+                // All sixteen have a mark, until T3247 is out.
+                assert_eq!(turned_away(&mut record, a, nth(50), 0, cause), 4);
+                assert_eq!(reject(&mut record, a as u8, 0, 22).answer, 0);
+                record = lifted(record);
+            }
+        }
+    }
+}
+
+/// The newcomer has nothing of what was at its place: not the counters, though they be at their
+/// limits, and not the other mark's past. What left begins anew as well.
+#[test]
+fn a_place_given_up_is_forgotten() {
+    for (a, cause) in MARKING {
+        for protected in [0, 1] {
+            let mut record = limited(3);
+            table(&mut record.access[a], &held(&networks(0..16)));
+            let entry = &mut record.access[a].entries[7];
+            *entry = Entry { network: nth(7), ban: 3, n1: 3, ..Entry::default() };
+            let mut back = record;
+            assert_eq!(turned_away(&mut record, a, nth(16), protected, cause), 0);
+            let counter = if protected == 1 { 3 } else { 1 };
+            let fresh = match cause {
+                11 | 73 => (counter, 0, true, false),
+                _ => (0, counter, false, true),
+            };
+            assert_eq!(marks_of(&record, a)[7], fresh);
+            assert_eq!(seated(&record, a)[7], nth(16));
+            assert_eq!(record.access[a].entry(&nth(7)).map(|entry| entry.ban), None);
+            // Back where it was, it counts from 1; had it not left, it would be at its limit.
+            record.access[a].entries[7] = Entry { network: nth(16), ..Entry::default() };
+            assert_eq!(turned_away(&mut record, a, nth(7), 0, 11), 0);
+            assert_eq!(marks_of(&record, a)[7], (1, 0, true, false));
+            assert_eq!(turned_away(&mut back, a, nth(7), 0, 11), 0);
+            assert_eq!(marks_of(&back, a)[7], (3, 3, true, false));
+        }
+    }
+}
+
+/// A network at its limit that an accept took off the list is given up like any other, and its
+/// counter with it: three rejects more are counted before T3247 leaves it.
+#[test]
+fn a_counter_at_its_limit_is_lost() {
+    let mut record = limited(3);
+    for index in 0..16 {
+        assert_eq!(turned_away(&mut record, 0, nth(index), 1, 11), 0);
+    }
+    assert_eq!(record.start(0, 1, area(nth(4))).answer, 0);
+    assert_eq!(accept(&mut record, 0), 0);
+    assert_eq!(marks_of(&record, 0)[4], (3, 0, false, false));
+    assert_eq!(record.power().answer, 0);
+    assert_eq!(turned_away(&mut record, 0, nth(16), 0, 11), 0);
+    assert_eq!(seated(&record, 0)[4], nth(16));
+    record = lifted(record);
+    assert_eq!(turned_away(&mut record, 0, nth(4), 0, 11), 0);
+    assert_eq!(seated(&record, 0)[4], nth(4));
+    assert_eq!(marks_of(&record, 0)[4], (1, 0, true, false));
+    record = lifted(record);
+    assert_eq!(start(&mut record, 0, nth(4)), 0);
+}
+
+/// Marked again, by either cause, with the mark standing or lifted: last in the order.
+#[test]
+fn marking_again_makes_it_the_last() {
+    for (a, cause) in MARKING {
+        for again in [11, 27] {
+            for standing in [true, false] {
+                let mut record = sixteen_turned_away(a, cause);
+                if !standing {
+                    record = lifted(record);
+                }
+                for place in [3, 0, 3, 15, 5] {
+                    // An N1 mark keeps a start away, so the one that is asked has been asked before.
+                    let barred = record.access[a].entries[place].n1_barred;
+                    record.access[a].entries[place].n1_barred = false;
+                    assert_eq!(record.start(a as u8, 1, area(nth(place))).answer, 0);
+                    record.access[a].entries[place].n1_barred = barred;
+                    assert_eq!(reject(&mut record, a as u8, 0, again).answer, 0);
+                }
+                let rest = (0..16).filter(|index| ![0, 3, 5, 15].contains(index));
+                assert_eq!(aged(&record, a), networks(rest.chain([0, 3, 15, 5])));
+                assert_eq!(seated(&record, a), networks(0..16));
+                assert_eq!(record.power().answer, 0);
+                for (index, place) in [1, 2, 4, 6, 7].into_iter().enumerate() {
+                    assert_eq!(turned_away(&mut record, a, nth(20 + index), 0, cause), 0);
+                    assert_eq!(seated(&record, a)[place], nth(20 + index));
+                }
+            }
+        }
+    }
+}
+
+/// An accept, T3247, a power cycle, rejects that mark nothing and refusals leave the order.
+#[test]
+fn only_marking_moves_a_network() {
+    for (a, cause) in [(0, 11), (1, 11), (1, 72)] {
+        let mut record = sixteen_turned_away(a, cause);
+        let access = a as u8;
+        assert_eq!(turned_away(&mut record, a, nth(16), 1, 27), 4);
+        assert_eq!(reject(&mut record, access, 1, 22).answer, 0);
+        record = lifted(record);
+        for index in [9, 2] {
+            assert_eq!(start(&mut record, access, nth(index)), 0);
+            assert_eq!(accept(&mut record, access), 0);
+            assert_eq!(update(&mut record, access, 2, nth(index)), 0);
+            assert_eq!(reject(&mut record, access, 0, 95).answer, 0);
+            assert_eq!(record.power().answer, 0);
+            for cause in [3, 15, 22, 111] {
+                assert_eq!(turned_away(&mut record, a, nth(index), 0, cause), 0);
+                record = Record { roaming: List::new(), ..record };
+            }
+        }
+        assert_eq!(turned_away(&mut record, a, HOME, 0, 11), 0);
+        assert_eq!(aged(&record, a), networks(0..16));
+        record.access[1 - a].state = 5;
+        assert_eq!(start(&mut record, access, nth(0)), 0);
+        assert_eq!(reject(&mut record, access, 0, 3).answer, 2);
+        assert_eq!(aged(&record, a), networks(0..16));
+    }
+}
+
+/// A protected 27 counts on the other access without marking there: nobody moves. What gives up
+/// its place gives it up on the receiving access alone.
+#[test]
+fn counting_on_the_other_access_is_no_marking() {
+    for (a, b) in [(0, 1), (1, 0)] {
+        let mut record = limited(3);
+        for access in &mut record.access {
+            let entry = |network| Entry { network, ban: 1, n1: 1, ..Entry::default() };
+            table(access, &networks(0..16).into_iter().map(entry).collect::<Vec<_>>());
+        }
+        record.access[b].entries[5].network = nth(16);
+        let other = record.access[b];
+        assert_eq!(turned_away(&mut record, a, nth(16), 1, 27), 0);
+        assert_eq!(aged(&record, a), networks(1..=16));
+        assert_eq!(marks_of(&record, a)[0], (0, 3, false, true));
+        let mut expected = record;
+        expected.access[b] = other;
+        expected.access[b].entries[5].n1 = 3;
+        assert_eq!(text(&record), text(&expected));
+        // Answer 4 raises nothing there.
+        record.access[a].entries.iter_mut().for_each(|entry| entry.forbidden = true);
+        record.access[b].entries[6].network = nth(17);
+        assert_eq!(record.start(a as u8, 1, area(nth(17))).answer, 0);
+        let before = text(&record);
+        assert_eq!(reject(&mut record, a as u8, 1, 27), Reply::of(4));
+        assert_eq!(text(&record), before);
+    }
+}
+
+/// What one import marked goes last, among itself in entry order, whatever the file's order was;
+/// so the first in entry order gives up its place first.
+#[test]
+fn of_one_import_the_first_in_entry_order() {
+    let mut record = limited(3);
+    for index in 0..12 {
+        assert_eq!(turned_away(&mut record, 0, nth(index), 0, 11), 0);
+    }
+    let file = networks([13, 7, 30, 12, 2, 13, 0, 31]);
+    assert_eq!(import(&mut record, &file).answer, 0);
+    let places = [0, 1, 2, 3, 4, 5, 6, 7, 8, 9, 10, 11, 13, 30, 12, 31];
+    assert_eq!(seated(&record, 0), networks(places));
+    let order = [1, 3, 4, 5, 6, 8, 9, 10, 11, 0, 2, 7, 13, 30, 12, 31];
+    assert_eq!(aged(&record, 0), networks(order));
+    assert_eq!(record.access[0].ranks(), [9, 0, 10, 1, 2, 3, 4, 11, 5, 6, 7, 8, 12, 13, 14, 15]);
+    // A later one of two networks, and then rejects that need a place.
+    assert_eq!(import(&mut record, &networks([4, 3])).answer, 0);
+    for entry in record.access[0].entries.iter_mut() {
+        (entry.forbidden, entry.n1_barred) = (false, false);
+    }
+    let left = [1, 5, 6, 8, 9, 10, 11, 0, 2, 7, 13, 30, 12, 31, 3, 4];
+    for (index, old) in left.into_iter().enumerate() {
+        let place = seated(&record, 0).iter().position(|network| *network == nth(old)).unwrap();
+        assert_eq!(turned_away(&mut record, 0, nth(40 + index), 0, 11), 0);
+        assert_eq!(seated(&record, 0)[place], nth(40 + index));
+    }
+}
+
+/// An import marks again what stood marked; an empty one marks nothing.
+#[test]
+fn an_import_moves_what_it_names() {
+    let mut record = sixteen_turned_away(0, 11);
+    assert_eq!(import(&mut record, &[UNUSED, UNUSED]).answer, 0);
+    assert_eq!(aged(&record, 0), networks(0..16));
+    assert_eq!(import(&mut record, &networks([0])).answer, 0);
+    assert_eq!(aged(&record, 0), networks((1..16).chain([0])));
+    record = lifted(record);
+    assert_eq!(turned_away(&mut record, 0, nth(16), 0, 11), 0);
+    assert_eq!(seated(&record, 0)[1], nth(16));
+}
+
+/// For an import an entry without a mark is held: 4, and nobody leaves.
+#[test]
+fn an_import_gives_none_up() {
+    let mut record = lifted(sixteen_turned_away(0, 11));
+    for file in [&[nth(16)][..], &[nth(0), nth(16)], &[nth(16), UNUSED, nth(0), nth(16)]] {
+        turns_down(&mut record, file.as_flattened(), 4);
+    }
+    assert_eq!(turned_away(&mut record, 0, nth(16), 0, 11), 0);
+    turns_down(&mut record, &nth(0), 4);
+    let mut entries = record.access[0].entries.to_vec();
+    for place in [0, 3] {
+        entries[place].forbidden = true;
+    }
+    imports(&mut record, &[nth(3), nth(16)], &entries);
+}
+
+/// Answer 4 for a reject: all sixteen have a mark, one or both, whatever their counters. With one
+/// mark lifted that place is given up, though it be the youngest.
+#[test]
+fn all_sixteen_marked() {
+    for (a, cause) in MARKING {
+        for place in 0..16 {
+            let mut record = limited(3);
+            table(&mut record.access[a], &held(&networks(0..16)));
+            for (index, entry) in record.access[a].entries.iter_mut().enumerate() {
+                (entry.forbidden, entry.n1_barred) = (index % 3 != 0, index % 3 != 1);
+            }
+            assert_eq!(record.start(a as u8, 0, area(nth(16))).answer, 0);
+            let before = text(&record);
+            for protected in [0, 1] {
+                assert_eq!(reject(&mut record, a as u8, protected, cause), Reply::of(4));
+            }
+            assert_eq!(text(&record), before);
+            let entry = &mut record.access[a].entries[place];
+            (entry.forbidden, entry.n1_barred) = (false, false);
+            assert_eq!(reject(&mut record, a as u8, 0, cause).answer, 0);
+            assert_eq!(seated(&record, a)[place], nth(16));
+            assert_eq!(aged(&record, a)[15], nth(16));
+        }
+    }
+}
+
+/// A free entry is taken before a place is given up, and the own one before either.
+#[test]
+fn a_free_entry_comes_first() {
+    for (a, cause) in MARKING {
+        let mut record = limited(3);
+        for index in 0..15 {
+            assert_eq!(turned_away(&mut record, a, nth(index), 0, cause), 0);
+        }
+        record = lifted(record);
+        assert_eq!(turned_away(&mut record, a, nth(20), 0, cause), 0);
+        assert_eq!(seated(&record, a), networks((0..15).chain([20])));
+        assert_eq!(turned_away(&mut record, a, nth(0), 0, cause), 0);
+        assert_eq!(seated(&record, a), networks((0..15).chain([20])));
+        assert_eq!(aged(&record, a), networks((1..15).chain([20, 0])));
+    }
+}
+
+/// The reject of an update needs an entry as well.
+#[test]
+fn a_place_given_up_in_an_update() {
+    for (a, cause) in MARKING {
+        let mut record = lifted(sixteen_turned_away(a, cause));
+        register(&mut record, a as u8, nth(0));
+        assert_eq!(update(&mut record, a as u8, 2, nth(16)), 0);
+        assert_eq!(reject(&mut record, a as u8, 1, cause).answer, 0);
+        assert_eq!(seated(&record, a), networks([16].into_iter().chain(1..16)));
+    }
+}
+
+/// Fact 8 and R-9's own words: 4 while all have a mark; taken once T3247 is out, and after a card
+/// change, with which the order goes too.
+#[test]
+fn a_card_change_clears_the_order() {
+    for (a, cause) in MARKING {
+        let mut record = sixteen_turned_away(a, cause);
+        assert_eq!(turned_away(&mut record, a, nth(16), 0, cause), 4);
+        let mut later = record;
+        assert_eq!(out(&mut later, 4, 0).answer, 0);
+        assert_eq!(reject(&mut later, a as u8, 0, cause).answer, 0);
+        assert_eq!(seated(&later, a)[0], nth(16));
+        assert_eq!(record.card(HOME, &SUCI).answer, 0);
+        assert!(record.access.iter().all(|access| access.order.is_empty()));
+        for index in [16, 3, 8] {
+            assert_eq!(turned_away(&mut record, a, nth(index), 0, cause), 0);
+        }
+        assert_eq!(aged(&record, a), networks([16, 3, 8]));
+        assert_eq!(record.access[a].ranks(), [0, 1, 2, 0, 0, 0, 0, 0, 0, 0, 0, 0, 0, 0, 0, 0]);
+    }
+}
+
+/// Each network's stamp is the number of the event that marked it last; the order is by stamps, and
+/// by places where one import gave them. Whoever needs a place gets the one with the least stamp.
+#[test]
+fn places_given_up_at_random() {
+    let mut draws = Draws(9);
+    let mut record = limited(2);
+    let mut stamps: [BTreeMap<Network, usize>; 2] = [BTreeMap::new(), BTreeMap::new()];
+    let mut seen = [0; 4];
+    for number in 0..60_000 {
+        let a = draws.below(2) as usize;
+        let network = nth(draws.below(24) as usize);
+        let before = record.access;
+        match draws.below(40) {
+            0..=29 => {
+                let cause = [11, 73, 27, 72][draws.below(4) as usize];
+                let protected = (draws.below(10) == 0) as u8;
+                if record.start(a as u8, 1, area(network)).answer == 0 {
+                    let answer = reject(&mut record, a as u8, protected, cause).answer;
+                    let marks = cause != 72 || a == 1;
+                    let old = needed(&before[a], &stamps[a], network).filter(|_| marks);
+                    let full = marks && old.is_none();
+                    assert_eq!(answer, if full { 4 } else { 0 });
+                    if let Some(place) = old {
+                        let gone = before[a].entries.get(place).filter(|e| e.network != network);
+                        seen[a] += gone.is_some() as usize;
+                        assert_eq!(record.access[a].entries[place].network, network);
+                        stamps[a].insert(network, number);
+                    }
+                    if full {
+                        seen[2] += 1;
+                        record.access[a].state = 1;
+                        record.access[a].t3510 = false;
+                    }
+                }
+            }
+            30..=32 => {
+                let known = before[a].entry(&network).is_some();
+                if known && record.start(a as u8, 1, area(network)).answer == 0 {
+                    assert_eq!(accept(&mut record, a as u8), 0);
+                    record.access[a].state = 1;
+                }
+            }
+            33..=35 => {
+                let file = networks((0..draws.below(4)).map(|_| draws.below(24) as usize));
+                if import(&mut record, &file).answer == 0 {
+                    seen[3] += 1;
+                    stamps[0].extend(file.into_iter().map(|network| (network, number)));
+                }
+            }
+            36 if draws.below(20) == 0 => {
+                assert_eq!(record.card(HOME, &SUCI).answer, 0);
+                stamps = [BTreeMap::new(), BTreeMap::new()];
+            }
+            37 => assert_eq!(record.power().answer, 0),
+            _ => drop(out(&mut record, 4, 0)),
+        }
+        valid(&record);
+        for (access, stamps) in record.access.iter().zip(&stamps) {
+            let key = |place: &u8| (stamps[&access.entries[*place as usize].network], *place);
+            assert!(access.order.is_sorted_by_key(key));
+        }
+    }
+    assert!(seen.iter().all(|&times| times > 1000), "{seen:?}");
+}
+
+/// The place that a network gets: its own, the first free one, or that of the least stamp.
+fn needed(access: &Access, stamps: &BTreeMap<Network, usize>, network: Network) -> Option<usize> {
+    let own = access.entries.iter().position(|entry| entry.network == network);
+    let free = (access.entries.len() < 16).then_some(access.entries.len());
+    let clean = access.entries.iter().enumerate().filter(|(_, e)| !e.forbidden && !e.n1_barred);
+    let old = clean.min_by_key(|(place, entry)| (stamps[&entry.network], *place));
+    own.or(free).or(old.map(|(place, _)| place))
 }

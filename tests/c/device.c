@@ -2,7 +2,8 @@
  * A device and a false cell. At power-up the device reads its card's file of forbidden networks. The cell rejects three registrations with cause 11 and no protection; the
  * device waits for T3247 each time and tries again, until the ban counter is at its limit and it stays quiet. Of the cells that it hears it then tries the first that it may:
  * home. In a busy hour the network asks for ten minutes there, and the device waits. Then the network takes it, after an accept that lost its last octet, and it moves: a
- * mobility update in the next area, and a periodic one once T3512 has run out. Last it writes the card's file, which forbids the same networks for a record just given that card.
+ * mobility update in the next area, and a periodic one once T3512 has run out. It writes the card's file, which forbids the same networks for a record just given that card.
+ * Last it has a new card and goes a long way: sixteen networks turn it away, and the seventeenth finds a place once T3247 has lifted their marks.
  * It writes what it was told to a log, from which the lab's program replays the same states.
  * Usage: device LOG; the states go to standard output as the lab's program prints them.
  */
@@ -13,7 +14,7 @@
 enum { CARD = 1, START, MESSAGE, TIMER, KEY = 6, UPDATE, DRAWS, IMPORT = 10 };
 enum { T3247 = 4, T3512, T3346 };
 enum { MOBILITY = 2, PERIODIC };
-enum { TAKEN = 0, RANGE = 1, STATE = 6, LISTED = 8, SHORT = 12, CUT, PAST = 17, STRANGE, WAITING = 20, REFUSED = 256 };
+enum { TAKEN = 0, RANGE = 1, FULL = 4, STATE = 6, LISTED = 8, SHORT = 12, CUT, PAST = 17, STRANGE, WAITING = 20, REFUSED = 256 };
 
 /* Areas: a network's three octets and an area code's. */
 static const uint8_t away[] = {0x00, 0xF2, 0x20, 0x00, 0x00, 0x2A};
@@ -229,6 +230,22 @@ static int stores(const struct device *d)
     return wrong;
 }
 
+/* Seventeen networks, 005-00 to 005-16, that turn the device away. Sixteen have an entry and a mark, so that the last is answer 4; then T3247 is out, and the first gives up its place. */
+static int passes(struct device *d)
+{
+    const struct tjernfaug_entries *e = &d->record.e0;
+    int wrong = hand(d, CARD, issued, sizeof issued) != TAKEN;
+    for (uint8_t i = 0; i < 17; i++) {
+        const uint8_t area[] = {0x00, 0xF5, (uint8_t)(i % 10 * 16 + i / 10), 0x00, 0x00, 0x2A};
+        wrong |= start(d, area) != TAKEN || reject(d) != (i < 16 ? TAKEN : FULL);
+        wrong |= e->ranks[i % 16] != i % 16;
+    }
+    wrong |= wait(d, T3247, 1800) != TAKEN || reject(d) != TAKEN || d->record.hot.a0.entries != 16;
+    wrong |= e->nets[0] != 0x00F561 || e->bans[0] != 1 || e->forbidden[0] != 1 || e->ranks[0] != 15 || e->ranks[1] != 0 || e->forbidden[1] != 0;
+    fprintf(stderr, "device: %u entries, and the seventeenth network in the place of the first\n", d->record.hot.a0.entries);
+    return wrong;
+}
+
 int main(int argc, char **argv)
 {
     static struct device d;
@@ -241,6 +258,7 @@ int main(int argc, char **argv)
     wrong |= busy(&d);
     wrong |= moves(&d);
     wrong |= stores(&d);
+    wrong |= passes(&d);
     wrong |= fclose(d.log) != 0;
     if (wrong)
         fprintf(stderr, "device: that is wrong\n");

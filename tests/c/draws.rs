@@ -1,5 +1,5 @@
 // The calls that the fuzz run makes, drawn: on a record that lives on events which are often right, and on records changed from it.
-use crate::second::{triple, CAccess, CEntries, CNotice, CRecord, Plain};
+use crate::second::{self, triple, CAccess, CEntries, CNotice, CRecord, Plain};
 use crate::{BAR, CAUSE, CELLS, EVENT, FORBIDDEN, IMPORT, NEW, REQUEST, UNUSED};
 
 const BODY: u32 = 96;
@@ -12,6 +12,8 @@ const CAUSES: [u8; 16] = [3, 6, 7, 11, 12, 13, 15, 22, 27, 72, 73, 95, 96, 97, 9
 const BUSY: u8 = 22;
 /// T3512's longest time.
 const MOST: u32 = 35_712_000;
+/// No entry has it before a reject gives it one.
+const NEWCOMER: u32 = 0x00F900;
 
 /// A call and all that is lent to it.
 pub struct Ask {
@@ -22,6 +24,8 @@ pub struct Ask {
     pub record: CRecord,
     pub notice: CNotice,
     pub arrays: [Vec<u8>; 2],
+    /// The place over access 0 that the event's network is to take from another.
+    pub takes: Option<usize>,
 }
 
 pub struct Draw(u64);
@@ -80,7 +84,7 @@ impl Draw {
     fn ask(&mut self, call: u8, record: CRecord) -> Ask {
         let mut notice = CNotice::zero();
         self.scatter(notice.octets_mut());
-        Ask { call, gaps: self.octet(256), small: [0; 3], kind: 0, record, notice, arrays: [vec![], vec![]] }
+        Ask { call, gaps: self.octet(256), small: [0; 3], kind: 0, record, notice, arrays: [vec![], vec![]], takes: None }
     }
 
     fn hand(&mut self, record: CRecord, (kind, body): (u32, Vec<u8>)) -> Ask {
@@ -348,10 +352,37 @@ fn fill(d: &mut Draw, [cards, bans, n1s]: [u8; 3], a: &mut CAccess, e: &mut CEnt
     (a.net, a.code, a.ksi, a.entries) = (d.net(), d.below(16), d.upto(7), d.upto(16));
     (a.guti, a.visited, a.equivalents) = (d.upto(1), d.upto(1), d.upto(15));
     (a.regtype, a.uplink, a.sessions) = (1 + d.upto(2), d.sessions(), d.sessions());
-    let known = d.below(7) as usize;
+    let (full, most) = (d.below(4) == 0, d.below(7) as usize);
+    let known = if full { 0 } else { most };
     e.nets = std::array::from_fn(|i| if i < known { number(NETS[i]) } else { 0x00F500 + (i as u32 / 10 * 16 + i as u32 % 10) });
     for i in 0..16 {
         (e.bans[i], e.n1s[i], e.forbidden[i], e.barred[i]) = (d.upto(bans), d.upto(n1s), d.upto(1), d.upto(1));
+    }
+    if full {
+        a.entries = 16;
+        marked(d, e);
+    }
+    rank(d, a.entries as usize, &mut e.ranks);
+}
+
+/// Every entry has one mark or both; or, in half of the tables, all but one.
+fn marked(d: &mut Draw, e: &mut CEntries) {
+    for i in 0..16 {
+        (e.forbidden[i], e.barred[i]) = [(1, 0), (0, 1), (1, 1)][d.below(3) as usize];
+    }
+    if d.below(2) == 0 {
+        let i = d.below(16) as usize;
+        (e.forbidden[i], e.barred[i]) = (0, 0);
+    }
+}
+
+/// The ranks of so many entries in any order, and any octets behind them.
+fn rank(d: &mut Draw, count: usize, ranks: &mut [u8; 16]) {
+    d.scatter(ranks);
+    for i in 0..count {
+        let at = d.below(i as u32 + 1) as usize;
+        ranks[i] = i as u8;
+        ranks.swap(at, i);
     }
 }
 
@@ -369,6 +400,47 @@ fn strained(d: &mut Draw, full: &CRecord) -> CRecord {
         _ => r.dev.t3512length = [MOST - 1, MOST, MOST + 1, d.below(MOST) | 1 << (26 + d.below(6))][d.below(4) as usize],
     }
     r
+}
+
+/// The record with one rank changed: to the count of entries or about it, to another one's, to any octet; or, of one in four, behind the entries, if they are not sixteen,
+/// where any is right.
+fn misranked(d: &mut Draw, full: &CRecord) -> CRecord {
+    let (mut r, at) = (*full, d.below(2) as usize);
+    let (count, ranks) = (r.access[at].entries as usize, &mut r.entries[at].ranks);
+    let (behind, any) = (count + d.below(16 - count.min(15) as u32) as usize, d.octet(256));
+    let (i, j) = (d.below(count.max(1) as u32) as usize, d.below(count.max(1) as u32) as usize);
+    match d.below(4) {
+        0 => ranks[i] = [count as u8, count as u8 + 1, any][d.below(3) as usize],
+        1 => ranks[i] = ranks[j],
+        2 => ranks[i] = bent(d, ranks[i]),
+        _ => ranks[behind.min(15)] = any,
+    }
+    r
+}
+
+/// An import of some entries of a full table of access 0 has been taken, in any order of its file, and its marks are lifted; all others have one. So the first of those
+/// entries is to give up its place to the network of this reject.
+fn tied(d: &mut Draw, full: &CRecord) -> Ask {
+    let mut r = *full;
+    let (a, e) = (&mut r.access[0], &mut r.entries[0]);
+    (a.state, a.net, a.entries) = (4, NEWCOMER, 16);
+    rank(d, 16, &mut e.ranks);
+    let (nets, first) = (e.nets, d.below(15) as usize);
+    let mut named = vec![first];
+    for i in first + 1..16 {
+        if i == first + 1 || d.below(3) == 0 {
+            named.insert(d.below(named.len() as u32 + 1) as usize, i);
+        }
+    }
+    let file: Vec<u8> = named.iter().flat_map(|&i| triple(nets[i])).collect();
+    let (_, _, mut r) = second::event(&r, IMPORT, &file);
+    for i in 0..16 {
+        (r.entries[0].forbidden[i], r.entries[0].barred[i]) = (!named.contains(&i) as u8, 0);
+    }
+    let (sure, cause) = (d.octet(2), [11, 73, BAR][d.below(3) as usize]);
+    let octets = reject(d, cause);
+    let event = heard(d, 0, sure, &octets);
+    Ask { takes: Some(first), ..d.hand(r, event) }
 }
 
 /// What the request over an access may show, all of it and each part at its longest.
@@ -471,8 +543,10 @@ pub fn round(d: &mut Draw, live: &CRecord) -> Vec<Ask> {
     let often = if live.dev.card == 0 && d.below(4) > 0 { (1, card(access)) } else { right };
     let (scattered, end) = (random(d), [HOT, ALL][d.below(2) as usize]);
     let (broken, odd, net) = (changed(d, &full, end), strained(d, &full), NETS[d.below(6) as usize]);
-    let (moving, octets, busy, bar) = ((7, update(d, access, net)), message(d), reject(d, BUSY), reject(d, BAR));
+    let (misranked, cause) = (misranked(d, &full), [11, 73, 27, 72][d.below(4) as usize]);
+    let (moving, octets, busy, bar, ban) = ((7, update(d, access, net)), message(d), reject(d, BUSY), reject(d, BAR), reject(d, cause));
     let (said, asked, barred) = (heard(d, access, 1, &octets), heard(d, access, sure, &busy), heard(d, access, sure, &bar));
+    let banned = heard(d, access, sure, &ban);
     let (over, marked) = ([*live, full, scattered][d.below(3) as usize], [*live, full, full, broken][d.below(4) as usize]);
     vec![
         d.hand(*live, often),
@@ -488,6 +562,11 @@ pub fn round(d: &mut Draw, live: &CRecord) -> Vec<Ask> {
         d.hand(full, said),
         d.hand(full, asked),
         d.hand(full, barred),
+        d.hand(full, banned.clone()),
+        d.hand(misranked, banned),
+        d.hand(misranked, (5, vec![])),
+        d.request(misranked, access),
+        tied(d, &full),
         d.cause(octets),
         d.hand(odd, (5, vec![])),
         d.request(odd, access),
@@ -495,7 +574,9 @@ pub fn round(d: &mut Draw, live: &CRecord) -> Vec<Ask> {
         cells(d, *live),
         cells(d, full),
         cells(d, broken),
+        cells(d, misranked),
         import(d, full),
         forbidden(d, marked),
+        forbidden(d, misranked),
     ]
 }

@@ -104,6 +104,8 @@ struct Tally {
     choices: [u64; 13],
     imports: [u64; 14],
     files: [u64; 11],
+    places: [u64; 18],
+    ranks: [u64; 4],
 }
 
 fn fail(what: &str) -> ! {
@@ -242,6 +244,9 @@ fn judge_event(ask: &Ask, got: &Got) -> Result<(), String> {
         let silent = CNotice { offset: got.notice.offset, ..CNotice::zero() };
         alike("the refusal's notice", got.notice.octets(), silent.octets())?;
     }
+    if let Some(first) = ask.takes.filter(|_| got.answer == 0) {
+        hold({ now.entries[0].nets }[first] == was.access[0].net, "of an import's entries another than the first gave up its place")?;
+    }
     judge_fault(ask, got)
 }
 
@@ -379,6 +384,75 @@ fn bars(ask: &Ask, got: &Got) -> [bool; 8] {
         skipped && other.entries == 16,
         left && sure && !taken,
         left && !sure && taken,
+    ]
+}
+
+/// The cause of a reject that is handed in, the access and whether it is protected.
+fn rejected(ask: &Ask) -> Option<(u8, usize, bool)> {
+    let (Some([0x7E, 0x00, 0x44, cause, ..]), [access @ (0 | 1), protected, ..]) = (heard(ask).filter(|_| ask.call == EVENT), &ask.arrays[0][..]) else { return None };
+    Some((*cause, *access as usize, *protected == 1))
+}
+
+/// What R-9 is about. A place given up: over access 0 by 11 or 73 and by 27, over access 1 by 11 or 73, by 27 and by 72; to a protected reject, in an update; by the first of
+/// what one import marked; with a counter at its limit; by another than the first without a mark; behind a marked one that is older; while the other access has an entry of
+/// that network. 4 as all have a mark: over access 0, over access 1. Marked again, and last from then on: while marked, with no mark. An import that is 4 beside an entry
+/// without a mark, and one whose file names entries in another order than theirs.
+fn places(ask: &Ask, got: &Got) -> [bool; 18] {
+    let mut came = [false; 18];
+    if ask.call != EVENT || !valid(&ask.record) {
+        return came;
+    }
+    if ask.kind == IMPORT {
+        let (e, count) = (ask.record.entries[0], ask.record.access[0].entries as usize);
+        let seats: Vec<usize> = named(&ask.arrays[0]).iter().filter_map(|net| place(&got.record, 0, *net)).collect();
+        came[16] = got.answer == 4 && (0..count).any(|i| e.forbidden[i] + e.barred[i] == 0);
+        came[17] = got.answer == 0 && !seats.is_sorted() && seats.iter().any(|i| *i < count);
+    }
+    let Some((cause, at, sure)) = rejected(ask) else { return came };
+    let (was, now, e) = (ask.record.access[at], got.record.access[at], ask.record.entries[at]);
+    let (before, after, other) = (place(&ask.record, at, was.net), place(&got.record, at, was.net), place(&ask.record, 1 - at, was.net));
+    let clean = |i: usize| e.forbidden[i] + e.barred[i] == 0;
+    let limits = ask.record.dev.limits;
+    match (got.answer, before, after) {
+        (0, None, Some(i)) if was.entries == 16 => {
+            let ban = cause == 11 || cause == 73;
+            came[..5].copy_from_slice(&[at == 0 && ban, at == 0 && cause == BAR, at == 1 && ban, at == 1 && cause == BAR, at == 1 && cause == 72]);
+            (came[5], came[6], came[7]) = (sure, was.regtype > 1, ask.takes == Some(i));
+            came[8] = e.bans[i] == limits[1] || e.n1s[i] == limits[2];
+            came[9] = (0..i).any(clean);
+            came[10] = (0..16).any(|j| !clean(j) && e.ranks[j] < e.ranks[i]);
+            came[11] = other.is_some();
+        }
+        (4, ..) => (came[12], came[13]) = (at == 0, at == 1),
+        (0, Some(i), _) if got.record.entries[at].ranks[i] + 1 == now.entries && [11, 73, BAR, 72].contains(&cause) => {
+            (came[14], came[15]) = (!clean(i) && e.ranks[i] + 1 < was.entries, clean(i) && e.ranks[i] + 1 < was.entries);
+        }
+        _ => {}
+    }
+    came
+}
+
+/// What makes a record bad by R-9's ranks alone, of an event that is refused for it: one at the count, one above it, one that stands twice. Last, an octet behind those in use
+/// that is none of theirs, of an event that is taken.
+fn ranks(ask: &Ask, got: &Got) -> [bool; 4] {
+    let mut mended = ask.record;
+    mended.entries.iter_mut().for_each(|e| e.ranks = std::array::from_fn(|i| i as u8));
+    if ask.call != EVENT || !valid(&mended) {
+        return [false; 4];
+    }
+    let bad = !valid(&ask.record) && got.answer == 1;
+    let some = |right: &dyn Fn(u8, &[u8], &[u8]) -> bool| {
+        ask.record.access.iter().zip(&ask.record.entries).any(|(a, e)| {
+            let (held, behind) = e.ranks.split_at(a.entries as usize);
+            right(a.entries, held, behind)
+        })
+    };
+    let twice = |count: u8, held: &[u8]| held.iter().all(|rank| *rank < count) && (1..held.len()).any(|i| held[..i].contains(&held[i]));
+    [
+        bad && some(&|count, held, _| held.contains(&count)),
+        bad && some(&|count, held, _| held.iter().any(|rank| *rank > count)),
+        bad && some(&|count, held, _| twice(count, held)),
+        got.answer == 0 && some(&|count, _, behind| behind.iter().any(|rank| *rank > count)),
     ]
 }
 
@@ -529,7 +603,8 @@ fn count(ask: &Ask, got: &Got, tally: &mut Tally) {
     let counts = tally.deeds.iter_mut().chain(&mut tally.waits).chain(&mut tally.rest).chain(&mut tally.bars).chain(tally.shapes.as_flattened_mut());
     let counts = counts.chain(&mut tally.refusals).chain(&mut tally.choices).chain(&mut tally.imports).chain(&mut tally.files);
     let came = [&deeds(ask, got)[..], &waits(ask, got), &rest(ask, got), &bars(ask, got), shapes(ask, got).as_flattened(), &refusals(ask), &choices(ask, got)].concat();
-    let came = came.into_iter().chain(imports(ask, got)).chain(files(ask, got));
+    let counts = counts.chain(&mut tally.places).chain(&mut tally.ranks);
+    let came = came.into_iter().chain(imports(ask, got)).chain(files(ask, got)).chain(places(ask, got)).chain(ranks(ask, got));
     for (count, came) in counts.zip(came) {
         *count += came as u64;
     }
@@ -599,6 +674,17 @@ fn show_card(imports: [u64; 14], files: [u64; 11]) {
     println!("fuzz: files refused for one reason: length {length} times, record {record}, shorter by a network {short}, no length {no}; 1 before 12 {first} times");
 }
 
+fn show_places(places: [u64; 18], ranks: [u64; 4]) {
+    let [ban, bar, ban1, bar1, n1, sure, moved, tied, limit, later, older, other, full, full1, again, anew, held, sorted] = places;
+    let [count, above, twice, behind] = ranks;
+    println!("fuzz: places given up over access 0 {ban} times by 11 or 73, {bar} by 27; over access 1 {ban1} by 11 or 73, {bar1} by 27, {n1} by 72; {sure} protected, {moved} in an update");
+    println!("fuzz: given up by the first of an import's {tied} times, not by the first without a mark {later}, behind an older one with a mark {older}");
+    println!("fuzz: given up with a counter at its limit {limit} times, to a network that the other access knows {other}");
+    println!("fuzz: 4 as all sixteen have a mark {full} times over access 0, {full1} over access 1; marked again {again} times while marked, {anew} with no mark");
+    println!("fuzz: imports that are 4 beside an entry without a mark {held} times, that rank otherwise than their file {sorted}");
+    println!("fuzz: records invalid by ranks alone: one at the count {count} times, above it {above}, twice {twice}; any octets behind the ranks in use {behind} times");
+}
+
 /// What are about.
 fn show_events(deeds: [u64; 5], waits: [u64; 6], rest: [u64; 10], bars: [u64; 8]) {
     let [mobility, periodic, fell, started, out] = deeds;
@@ -627,7 +713,7 @@ fn main() {
         group(&mut side, words, first..first + LIVES, &mut tally);
     }
     side.end();
-    let Tally { cases, answers, causes, invalid, news, made, requests, written, deeds, waits, rest, bars, shapes, refusals, choices, imports, files } = tally;
+    let Tally { cases, answers, causes, invalid, news, made, requests, written, deeds, waits, rest, bars, shapes, refusals, choices, imports, files, places, ranks } = tally;
     println!("fuzz: {cases} cases, {} events, {invalid} of them on an invalid record", answers.iter().sum::<u64>());
     println!("fuzz: {made} of {news} new records made, {written} of {requests} requests written");
     for (shape, [written, fitted, longest, lacked]) in ["no container", "a container"].iter().zip(shapes) {
@@ -636,10 +722,12 @@ fn main() {
     show_events(deeds, waits, rest, bars);
     show_cells(refusals, choices);
     show_card(imports, files);
+    show_places(places, ranks);
     println!("fuzz: answers 0 to 20 came {answers:?} times, a reject's cause and 269 to 274 {causes:?} times");
     let missing = (0..21).any(|answer| answers[answer] == 0 && !NEVER.contains(&(answer as u32)));
-    let unseen = [&causes[..], &deeds, &waits, &rest, &bars, shapes.as_flattened(), &refusals, &choices, &imports, &files, &[invalid, made, news - made]].concat().contains(&0);
+    let seen = [&causes[..], &deeds, &waits, &rest, &bars, shapes.as_flattened(), &refusals, &choices, &imports, &files, &places, &ranks, &[invalid, made, news - made]].concat();
+    let unseen = seen.contains(&0);
     if seconds > 0 && (missing || unseen) {
-        fail("some answer, deed, shape of a request, choice of cells, import or card's file never came");
+        fail("some answer, deed, shape of a request, choice of cells, import, card's file, place given up or rank never came");
     }
 }

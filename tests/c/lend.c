@@ -26,7 +26,7 @@ struct head {
 #define AT(field) PLACE(RECORD, tjernfaug_record, field)
 #define ACCESS(a) AT(a.net), AT(a.code), AT(a.lastnet), AT(a.lastcode), AT(a.t3502length), AT(a.uplink), AT(a.sessions), AT(a.state), AT(a.status), AT(a.attempts), \
     AT(a.cardcounter), AT(a.t3510), AT(a.t3511), AT(a.t3502), AT(a.guti), AT(a.visited), AT(a.ksi), AT(a.equivalents), AT(a.entries), AT(a.regtype), AT(a.t3346)
-#define ENTRIES(e) AT(e.nets), AT(e.bans), AT(e.n1s), AT(e.forbidden), AT(e.barred)
+#define ENTRIES(e) AT(e.nets), AT(e.bans), AT(e.n1s), AT(e.forbidden), AT(e.barred), AT(e.ranks)
 #define TOLD(field) PLACE(NOTICE, tjernfaug_notice, field)
 #define TIMER(t) TOLD(t.told), TOLD(t.seconds)
 #define TIMERS(c) TIMER(c.t3510), TIMER(c.t3511), TIMER(c.t3502), TIMER(c.t3346)

@@ -54,6 +54,7 @@ pub struct CEntries {
     pub n1s: [u8; 16],
     pub forbidden: [u8; 16],
     pub barred: [u8; 16],
+    pub ranks: [u8; 16],
 }
 
 #[repr(C, packed)]
@@ -142,6 +143,8 @@ fn access_in(r: &CRecord, i: usize) -> Access {
     for j in 0..a.entries as usize {
         entries.push(Entry { network: triple(e.nets[j]), ban: e.bans[j], n1: e.n1s[j], forbidden: e.forbidden[j] == 1, n1_barred: e.barred[j] == 1 });
     }
+    let mut order: Vec<u8> = (0..a.entries).collect();
+    order.sort_by_key(|&j| e.ranks[j as usize]);
     let mut equivalents = List::new();
     for j in 0..a.equivalents as usize {
         equivalents.push(triple(r.equivalents[i][j]));
@@ -165,6 +168,7 @@ fn access_in(r: &CRecord, i: usize) -> Access {
         equivalents,
         cards: a.cardcounter,
         entries,
+        order: List::of(&order),
     }
 }
 
@@ -216,7 +220,7 @@ fn access_out(a: &Access) -> CAccess {
 }
 
 fn entries_out(a: &Access) -> CEntries {
-    let mut e = CEntries { nets: [0; 16], bans: [0; 16], n1s: [0; 16], forbidden: [0; 16], barred: [0; 16] };
+    let mut e = CEntries { nets: [0; 16], bans: [0; 16], n1s: [0; 16], forbidden: [0; 16], barred: [0; 16], ranks: a.ranks() };
     for (i, entry) in a.entries.iter().enumerate() {
         e.nets[i] = number(&entry.network);
         e.bans[i] = entry.ban;

@@ -1,4 +1,4 @@
-// Whether document 01, with the fields of, takes the octets of a record as a valid one.
+// Whether document 01, with the fields of, takes the octets of a record as a valid one.
 use crate::second::{CAccess, CDevice, CEntries, CRecord};
 
 pub fn network(n: u32) -> bool {
@@ -15,7 +15,12 @@ fn list(items: &[u64; 40], count: u8) -> bool {
 fn entries(d: &CDevice, e: &CEntries, count: u8) -> bool {
     let (nets, count) = (e.nets, count as usize);
     let fits = |i: usize| e.bans[i] <= d.limits[1] && e.n1s[i] <= d.limits[2] && e.forbidden[i] <= 1 && e.barred[i] <= 1;
-    count <= 16 && (0..count).all(|i| network(nets[i]) && fits(i) && !nets[..i].contains(&nets[i]))
+    count <= 16 && (0..count).all(|i| network(nets[i]) && fits(i) && !nets[..i].contains(&nets[i])) && ranks(&e.ranks[..count])
+}
+
+/// Each of 0 to one below the count stands once.
+fn ranks(held: &[u8]) -> bool {
+    (0..held.len()).all(|rank| held.contains(&(rank as u8)))
 }
 
 fn access(d: &CDevice, a: &CAccess, equivalents: [u32; 15]) -> bool {

@@ -422,9 +422,28 @@ impl Hope<'_> {
         self.set(&name, &joined(&list));
     }
 
+    /// `NAME@FRONT=ITEM`: in the place of the item of that other network or area.
+    fn replace(&mut self, name: &str, front: &str, item: &str) {
+        let name = self.name(name);
+        let mut list = items(&self.fields[&name]);
+        let found = list.iter_mut().find(|held| held.split(':').next() == Some(front));
+        *found.unwrap_or_else(|| panic!("{}: {front} in {name}", self.scene.place)) = item.into();
+        self.set(&name, &joined(&list));
+    }
+
+    /// No entry of an access has a mark.
+    fn bare(&mut self, name: &str) {
+        let name = self.name(name).replace("bare", "entries");
+        let held = items(&self.fields[&name]);
+        let list: Vec<String> =
+            held.iter().map(|item| format!("{}--", &item[..item.len() - 2])).collect();
+        self.set(&name, &joined(&list));
+    }
+
     fn word(&mut self, word: &str) {
         let access = self.scene.access;
         match word {
+            "bare" | "0.bare" | "1.bare" => return self.bare(word),
             "new" => return self.new_record(),
             "off" => return self.off(),
             "paced" => return self.paced(),
@@ -450,6 +469,9 @@ impl Hope<'_> {
             return self.timer(timer, "1", &format!("started:{seconds}"));
         }
         let (name, value) = word.split_once('=').unwrap_or_else(|| panic!("no word: {word}"));
+        if let Some((name, front)) = name.split_once('@') {
+            return self.replace(name, front, value);
+        }
         match name.chars().last() {
             Some(how @ ('+' | '-' | '~')) => self.change(&name[..name.len() - 1], how, value),
             _ => self.set(&self.name(name), value),

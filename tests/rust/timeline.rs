@@ -7,7 +7,8 @@
 // a message that cannot be read with the octet at fault in brackets; the state of access 0 and of
 // access 1 with the attempt counter; T3247; T3512 and whether a periodic update is due, if it ever
 // ran; T3346 of each access where it ever ran; and for each network that an access ever held an
-// entry of, its counters against their limits and its marks. A ban with counter 0 is the card's own.
+// entry of, its counters against their limits and its marks, and where it gave up its place to
+// another. A ban with counter 0 is the card's own.
 
 use std::collections::BTreeMap;
 use std::fmt::Write as _;
@@ -86,6 +87,8 @@ struct Access {
     t3346: bool,
     cards: String,
     entries: BTreeMap<String, Entry>,
+    /// The entries' networks in entry order.
+    places: Vec<String>,
 }
 
 /// One event's row.
@@ -139,13 +142,15 @@ fn number(part: &[&str], name: &str, range: std::ops::Range<usize>) -> Parsed<us
 }
 
 fn access(part: &[&str]) -> Parsed<Access> {
+    let entries = listed(after(part, "entries")?).map(entry).collect::<Parsed<Vec<_>>>()?;
     Ok(Access {
         state: number(part, "state", 0..STATES.len())?,
         kind: number(part, "type", 1..2 + UPDATES.len())?,
         attempts: after(part, "attempts")?.into(),
         t3346: after(part, "T3346")? == "1",
         cards: after(part, "cards")?.into(),
-        entries: listed(after(part, "entries")?).map(entry).collect::<Parsed<_>>()?,
+        places: entries.iter().map(|(network, _)| network.clone()).collect(),
+        entries: entries.into_iter().collect(),
     })
 }
 
@@ -293,11 +298,23 @@ fn wait_lane(picture: &mut Picture, x: usize, which: usize, steps: &[Step]) {
     }
 }
 
+/// The network that gave up its place to another at a row's event, and that other one. A card
+/// change leaves no place, and nothing else puts one network where another was.
+fn given(steps: &[Step], row: usize, which: usize) -> Option<(&str, &str)> {
+    let before = &steps[row.checked_sub(1)?].access[which].places;
+    let mut both = before.iter().zip(&steps[row].access[which].places);
+    both.find(|(old, new)| old != new).map(|(old, new)| (old.as_str(), new.as_str()))
+}
+
 fn entry_lane(picture: &mut Picture, x: usize, which: usize, network: &str, steps: &[Step]) {
     head(picture, x, network, &format!("on access {which}"));
     for (row, step) in steps.iter().enumerate() {
-        let Some(entry) = step.access[which].entries.get(network) else { continue };
         let y = TOP + row * ROW;
+        if let Some((_, new)) = given(steps, row, which).filter(|(old, _)| *old == network) {
+            let style = r##"font-size="10" fill="#555""##;
+            picture.text(x + 6, y + 17, style, &format!("place given up to {new}"));
+        }
+        let Some(entry) = step.access[which].entries.get(network) else { continue };
         let fill = match entry.marks.as_str() {
             "F-" => "#e06666",
             "-N" => "#f6b26b",
@@ -322,14 +339,17 @@ fn parted(label: &str) -> (&str, &str) {
     (event, comment.rsplit_once(": ").map_or("", |(_, octets)| octets))
 }
 
-/// The answer in words, and the octet at fault or else what is told.
-fn answered(step: &Step, octets: &str) -> String {
+/// The answer in words, and the octet at fault or else what is told and whose place was taken.
+fn answered(steps: &[Step], row: usize, octets: &str) -> String {
+    let step = &steps[row];
     let (number, words) = step.answer;
     if FAULTS.contains(&number) {
         return format!("{number} at {}, {words}: {octets}", step.at);
     }
     let told = if step.told.is_empty() { String::new() } else { format!(": {}", step.told) };
-    format!("{number} {words}{told}")
+    let old = (0..2).find_map(|which| given(steps, row, which));
+    let place = old.map_or(String::new(), |(old, _)| format!("; takes the place of {old}"));
+    format!("{number} {words}{told}{place}")
 }
 
 fn events(picture: &mut Picture, labels: &[&str], steps: &[Step]) {
@@ -345,12 +365,13 @@ fn events(picture: &mut Picture, labels: &[&str], steps: &[Step]) {
         picture.text(6, y + 12, "", &format!("{} {short}", row + 1));
         let colour = if step.answer.0 == 0 { "#38761d" } else { "#990000" };
         let style = format!(r#"font-size="10" fill="{colour}""#);
-        picture.text(24, y + 23, &style, &answered(step, octets));
+        picture.text(24, y + 23, &style, &answered(steps, row, octets));
     }
 }
 
-/// T3346's colour is named where it has a lane, and the card's bans where there are some.
-fn legend(picture: &mut Picture, y: usize, waits: bool, card: bool) {
+/// T3346's colour is named where it has a lane, the card's bans and places given up where there
+/// are some.
+fn legend(picture: &mut Picture, y: usize, waits: bool, card: bool, gone: bool) {
     let rows = "Counters stand against their limits. A row shows the record after its event; rows are events, not times.";
     let mut colours = String::from("Red: forbidden. Orange: N1 not allowed. Dark red: both. Grey: entry without a mark. Violet: T3247 runs. Teal: T3512 runs. Yellow: due.");
     if waits {
@@ -358,6 +379,9 @@ fn legend(picture: &mut Picture, y: usize, waits: bool, card: bool) {
     }
     if card {
         colours.push_str(" (card): the card's own ban, which T3247 does not lift.");
+    }
+    if gone {
+        colours.push_str(" A network that gave up its place is forgotten, counters too.");
     }
     for (place, text) in [rows, &colours].iter().enumerate() {
         picture.text(6, y + 20 + place * 16, r##"font-size="11" fill="#333""##, text);
@@ -410,7 +434,8 @@ fn draw(labels: &[&str], steps: &[Step]) -> String {
     }
     events(&mut picture, labels, steps);
     let card = steps.iter().any(|step| step.access[0].entries.values().any(Entry::by_card));
-    legend(&mut picture, bottom, !waits.is_empty(), card);
+    let gone = |row| (0..2).any(|which| given(steps, row, which).is_some());
+    legend(&mut picture, bottom, !waits.is_empty(), card, (0..steps.len()).any(gone));
     picture.0.push_str("</svg>\n");
     picture.0
 }

@@ -83,15 +83,15 @@ unfoldable pub rowNow : Hot → ℕ → ℕ → Reject → Row
 rowNow h w protected g =
     rowOf w (eqb protected 0) (eqb (accessOf h w .net) (h .dev .home)) (ltb (accessOf h w .cardcounter) (h .dev .cardlimit)) (ltb 0 (g .t3346length)) (g .cause)
 
--- "entry needed, network not in the access's table, all 16 entries held"
-unfoldable pub isFull : Row → Seen → Access → Bool
-isFull row s a = both (needsEntry row) (both (flip (s .found)) (leb 16 (a .entries)))
+-- "entry needed, network not in the access's table"; document 02, R-9: "no entry is free and all sixteen have a mark", so that the network has no place
+unfoldable pub isFull : Row → Seen → Bool
+isFull row s = both (needsEntry row) (leb 16 (s .at))
 
 -- a reject: 2, 4
 unfoldable pub rejectAnswer : Hot → ℕ → ℕ → Reject → Seen → Answer
 rejectAnswer h w protected g s =
     check (flip (isIgnored protected (g .cause) (otherOf h w))) answer.Ignored
-    (check (flip (isFull (rowNow h w protected g) s (accessOf h w))) answer.Full
+    (check (flip (isFull (rowNow h w protected g) s)) answer.Full
     answer.Taken)
 
 -- what was read: 13 to 18 of a fault; 10 of an accept; 2, 4 of a reject

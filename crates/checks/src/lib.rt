@@ -152,10 +152,10 @@ fn is_ignored(protected: u8, cause: u8, other: Access) -> bool
     )
 }
 
-fn is_full(row: Row, s: Seen, a: Access) -> bool
-    ensures { λ r. ⌜ r ≡ rules.isFull row s a ⌝ }
+fn is_full(row: Row, s: Seen) -> bool
+    ensures { λ r. ⌜ r ≡ rules.isFull row s ⌝ }
 {
-    and(needs_entry(row), and(not(s.found), 16 <= a.entries))
+    and(needs_entry(row), 16 <= s.at)
 }
 
 fn reject_answer(h: Hot, w: u8, protected: u8, g: Reject, s: Seen) -> Answer
@@ -163,7 +163,7 @@ fn reject_answer(h: Hot, w: u8, protected: u8, g: Reject, s: Seen) -> Answer
 {
     let heeded = not(is_ignored(protected, g.cause, other_of(h, w)));
     let row = row_now(h, w, protected, g);
-    let room = not(is_full(row, s, access_of(h, w)));
+    let room = not(is_full(row, s));
     checks(heeded, Answer::Ignored, room, Answer::Full, Answer::Taken)
 }
 

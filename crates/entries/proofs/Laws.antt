@@ -13,9 +13,13 @@ unfolding clearUnless
 fresh true xs at = refl
 fresh false xs at = refl
 
+pub otherwise : (b : Bool) (xs ys : List ℕ) → cond (not b) xs ys ≡ cond b ys xs
+otherwise true xs ys = refl
+otherwise false xs ys = refl
+
 -- bans and N1 counters, forbidden and barred marks in each other's place
 abbrev turned : Entries → Entries
-turned t = entriesOf (t .nets) (t .n1s) (t .bans) (t .barred) (t .forbidden)
+turned t = entriesOf (t .nets) (t .n1s) (t .bans) (t .barred) (t .forbidden) (t .ranks)
 
 pub turn : (seat : Seat) (limit : ℕ) (s t : Entries) → s ≡ banned seat limit (turned t) → turned s ≡ barredBy seat limit t
 unfolding banned barredBy

@@ -3,3 +3,6 @@ pub mod Counting
 pub mod Joining
 pub mod Laws
 pub mod Taking
+pub mod Naming
+pub mod Ranks
+pub mod Seeing

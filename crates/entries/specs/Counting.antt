@@ -1,12 +1,10 @@
--- How an import's networks are counted, those known are passed by; and which deed is one. Assumes nothing.
+-- How an import's networks are counted: those known are passed by. Assumes nothing.
 use Prim.Native.Nat.{ℕ}
-use mathlib.Core.Bool.{Bool, true, false, cond}
+use mathlib.Core.Bool.{Bool, true, cond}
 use mathlib.Core.List.{List}
 use lib.Dec.{ltb, eqb}
 use Rattle.laws.specs.Upto.{seekTo}
 use Rattle.networks.specs.Networks.{unused}
-use Rattle.entries.specs.declared.Deed.{Deed}
-use Rattle.entries.specs.declared.Deed.the-variants as deed
 use Rattle.entries.specs.Places.{sameNet}
 
 -- a number is among the first n
@@ -20,14 +18,3 @@ knownBoth n nets k new m = cond (knownTo n nets m) true (knownTo k new m)
 -- no network, or one that is known
 abbrev pub isPassed : ℕ → ℕ → List ℕ → ℕ → List ℕ → Bool
 isPassed net n nets k new = cond (eqb net unused) true (knownBoth n nets k new net)
-
-unfoldable pub isImport : Deed → Bool
-isImport deed.Nothing = false
-isImport (deed.Ban s) = false
-isImport (deed.Bar s) = false
-isImport (deed.Accept s) = false
-isImport (deed.ToLimit net) = false
-isImport deed.Import = true
-isImport deed.Sweep = false
-isImport deed.Power = false
-isImport deed.Fresh = false

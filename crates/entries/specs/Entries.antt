@@ -1,6 +1,6 @@
 -- One access's entries and what becomes of them. Assumes nothing.
 use Prim.Native.Nat.{ℕ, _+_}
-use mathlib.Core.Bool.{Bool, true, cond}
+use mathlib.Core.Bool.{Bool, true, false, cond}
 use mathlib.Core.List.{List, [], _∷_}
 use lib.Dec.{ltb, eqb}
 use lib.ListN.{length, getD, replicate}
@@ -13,14 +13,29 @@ use Rattle.entries.specs.declared.Seat.{Seat}
 use Rattle.entries.specs.declared.Deed.{Deed}
 use Rattle.entries.specs.declared.Deed.the-variants as deed
 use Rattle.entries.specs.Places.{entriesHeld, placeIn, hasEntry, peekAt, putAt}
+use Rattle.entries.specs.Order.{lastAt, lastTo, leaverTo}
 
--- what stands about a network: its place, whether that is its entry, and its marks
-unfoldable pub seenIn : ℕ → ℕ → List ℕ → List ℕ → List ℕ → Seen
-seenIn count net nets forbidden barred = record {
+-- what stands about a network: its entry, or the first free place, and its marks
+unfoldable pub foundIn : ℕ → ℕ → List ℕ → List ℕ → List ℕ → Seen
+foundIn count net nets forbidden barred = record {
   at = placeIn count net nets;
   found = hasEntry count net nets;
   forbidden = peekAt forbidden (placeIn count net nets) (entriesHeld count);
   barred = peekAt barred (placeIn count net nets) (entriesHeld count);
+}
+
+-- document 02, R-9: "When an entry is needed and none is free, the one with neither mark that was last marked longest ago .. gives up its place";
+-- where all sixteen have a mark, there is no place
+unfoldable pub placeFor : ℕ → ℕ → List ℕ → List ℕ → List ℕ → List ℕ → ℕ
+placeFor count net nets forbidden barred ranks = cond (ltb (placeIn count net nets) 16) (placeIn count net nets) (leaverTo 16 forbidden barred ranks)
+
+-- the same with that place
+unfoldable pub seenIn : ℕ → ℕ → List ℕ → List ℕ → List ℕ → List ℕ → Seen
+seenIn count net nets forbidden barred ranks = record {
+  at = placeFor count net nets forbidden barred ranks;
+  found = foundIn count net nets forbidden barred .found;
+  forbidden = foundIn count net nets forbidden barred .forbidden;
+  barred = foundIn count net nets forbidden barred .barred;
 }
 
 -- a network written down at the place that was seen
@@ -42,8 +57,12 @@ clearUnless found xs at = cond found xs (putAt xs at 0)
 unfoldable pub raised : List ℕ → ℕ → Bool → ℕ → ℕ → List ℕ
 raised xs at found limit protected = putAt xs at (bumped limit protected (cond found (getD xs at 0) 0))
 
-abbrev pub entriesOf : List ℕ → List ℕ → List ℕ → List ℕ → List ℕ → Entries
-entriesOf nets bans n1s forbidden barred = record { nets = nets; bans = bans; n1s = n1s; forbidden = forbidden; barred = barred }
+abbrev pub entriesOf : List ℕ → List ℕ → List ℕ → List ℕ → List ℕ → List ℕ → Entries
+entriesOf nets bans n1s forbidden barred ranks = record { nets = nets; bans = bans; n1s = n1s; forbidden = forbidden; barred = barred; ranks = ranks }
+
+-- the order, and all else as it was
+abbrev pub withRanks : List ℕ → Entries → Entries
+withRanks ranks t = record { nets = t .nets; bans = t .bans; n1s = t .n1s; forbidden = t .forbidden; barred = t .barred; ranks = ranks }
 
 -- "forbidden mark; ban counter +1 if below limit, or to the limit if protected"
 unfoldable pub banned : Seat → ℕ → Entries → Entries
@@ -53,6 +72,7 @@ banned s limit t = record {
   n1s = clearUnless (s .found) (t .n1s) (s .at);
   forbidden = putAt (t .forbidden) (s .at) 1;
   barred = clearUnless (s .found) (t .barred) (s .at);
+  ranks = t .ranks;
 }
 
 -- "N1 mark, N1 counter as the ban counter"
@@ -63,6 +83,7 @@ barredBy s limit t = record {
   n1s = raised (t .n1s) (s .at) (s .found) limit (s .protected);
   forbidden = clearUnless (s .found) (t .forbidden) (s .at);
   barred = putAt (t .barred) (s .at) 1;
+  ranks = t .ranks;
 }
 
 -- accept: "The network's forbidden mark on this access clears. Counters stay."
@@ -73,6 +94,7 @@ unforbidden s t = record {
   n1s = t .n1s;
   forbidden = cond (s .found) (putAt (t .forbidden) (s .at) 0) (t .forbidden);
   barred = t .barred;
+  ranks = t .ranks;
 }
 
 -- T3247 out: both marks clear by their counters' test
@@ -83,6 +105,7 @@ swept count banlimit n1limit t = record {
   n1s = t .n1s;
   forbidden = upto (liftMark banlimit) (entriesHeld count) (t .bans) (t .forbidden);
   barred = upto (liftMark n1limit) (entriesHeld count) (t .n1s) (t .barred);
+  ranks = t .ranks;
 }
 
 -- power cycle: forbidden marks clear by the same test; all N1 marks clear
@@ -93,6 +116,7 @@ powered count banlimit t = record {
   n1s = t .n1s;
   forbidden = upto (liftMark banlimit) (entriesHeld count) (t .bans) (t .forbidden);
   barred = replicate 16 0;
+  ranks = t .ranks;
 }
 
 -- document 02, R-14, on the other access: "sets the network's N1 counter to the limit"; "The mark stays with the receiving access";
@@ -104,6 +128,7 @@ n1ToLimit net count limit t = record {
   n1s = cond (hasEntry count net (t .nets)) (putAt (t .n1s) (placeIn count net (t .nets)) limit) (t .n1s);
   forbidden = t .forbidden;
   barred = t .barred;
+  ranks = t .ranks;
 }
 
 -- entries held after a network was written down that had one, or had none
@@ -118,12 +143,21 @@ imported net count t = record {
   n1s = clearUnless (hasEntry count net (t .nets)) (t .n1s) (placeIn count net (t .nets));
   forbidden = putAt (t .forbidden) (placeIn count net (t .nets)) 1;
   barred = clearUnless (hasEntry count net (t .nets)) (t .barred) (placeIn count net (t .nets));
+  ranks = cond (hasEntry count net (t .nets)) (t .ranks) (putAt (t .ranks) (placeIn count net (t .nets)) (entriesHeld count));
 }
 
--- networks one after the other
-unfoldable pub importedAll : List ℕ → ℕ → Entries → Entries
-importedAll [] count t = t
-importedAll (net ∷ rest) count t = importedAll rest (grown (hasEntry count net (t .nets)) count) (imported net count t)
+-- networks one after the other; document 02, R-9: those that were named are then the last that were marked, among themselves in entry order
+unfoldable pub importedAll : (ℕ → Bool) → List ℕ → ℕ → Entries → Entries
+importedAll named [] count t = withRanks (lastTo named (entriesHeld count) (entriesHeld count) (t .nets) (t .ranks)) t
+importedAll named (net ∷ rest) count t = importedAll named rest (grown (hasEntry count net (t .nets)) count) (imported net count t)
+
+unfoldable pub isAmong : ℕ → List ℕ → Bool
+isAmong n [] = false
+isAmong n (x ∷ xs) = cond (eqb x n) true (isAmong n xs)
+
+-- a card's file
+abbrev pub fileTaken : List ℕ → ℕ → Entries → Entries
+fileTaken file count t = importedAll (λ n. isAmong n (networksIn file)) (networksIn file) count t
 
 -- "the distinct new networks": those that are not known, each once and in their order
 unfoldable pub newIn : (ℕ → Bool) → List ℕ → List ℕ
@@ -136,16 +170,47 @@ heldWith count file nets = atMost 17 (entriesHeld count + length (newIn (λ m. h
 
 -- a new record's: zeros
 unfoldable pub none : Entries
-none = record { nets = replicate 16 0; bans = replicate 16 0; n1s = replicate 16 0; forbidden = replicate 16 0; barred = replicate 16 0 }
+none = record { nets = replicate 16 0; bans = replicate 16 0; n1s = replicate 16 0; forbidden = replicate 16 0; barred = replicate 16 0; ranks = replicate 16 0 }
 
--- what a deed makes of the entries; the octets are those beside the event, which an import takes
+-- networks, counters and marks after a deed; an import's come behind it
+unfoldable pub marksAfter : Deed → ℕ → ℕ → ℕ → Entries → Entries
+marksAfter deed.Nothing count banlimit n1limit t = t
+marksAfter (deed.Ban s) count banlimit n1limit t = banned s banlimit t
+marksAfter (deed.Bar s) count banlimit n1limit t = barredBy s n1limit t
+marksAfter (deed.Accept s) count banlimit n1limit t = unforbidden s t
+marksAfter (deed.ToLimit net) count banlimit n1limit t = n1ToLimit net count n1limit t
+marksAfter deed.Import count banlimit n1limit t = t
+marksAfter deed.Sweep count banlimit n1limit t = swept count banlimit n1limit t
+marksAfter deed.Power count banlimit n1limit t = powered count banlimit t
+marksAfter deed.Fresh count banlimit n1limit t = withRanks (t .ranks) none
+
+-- the order after a deed (document 02, R-9): "last marked .. by a taken reject or an import", whose own comes behind it
+unfoldable pub ranksAfter : Deed → ℕ → List ℕ → List ℕ
+ranksAfter deed.Nothing count ranks = ranks
+ranksAfter (deed.Ban s) count ranks = lastAt (s .at) (entriesHeld count) ranks
+ranksAfter (deed.Bar s) count ranks = lastAt (s .at) (entriesHeld count) ranks
+ranksAfter (deed.Accept s) count ranks = ranks
+ranksAfter (deed.ToLimit net) count ranks = ranks
+ranksAfter deed.Import count ranks = ranks
+ranksAfter deed.Sweep count ranks = ranks
+ranksAfter deed.Power count ranks = ranks
+ranksAfter deed.Fresh count ranks = replicate 16 0
+
+unfoldable pub isImport : Deed → Bool
+isImport deed.Nothing = false
+isImport (deed.Ban s) = false
+isImport (deed.Bar s) = false
+isImport (deed.Accept s) = false
+isImport (deed.ToLimit net) = false
+isImport deed.Import = true
+isImport deed.Sweep = false
+isImport deed.Power = false
+isImport deed.Fresh = false
+
+-- the file of an import, which is the octets beside the event
+unfoldable pub withFile : Deed → List ℕ → ℕ → Entries → Entries
+withFile k octets count t = cond (isImport k) (fileTaken octets count t) t
+
+-- what a deed makes of the entries
 unfoldable pub entriesAfter : Deed → List ℕ → ℕ → ℕ → ℕ → Entries → Entries
-entriesAfter deed.Nothing octets count banlimit n1limit t = t
-entriesAfter (deed.Ban s) octets count banlimit n1limit t = banned s banlimit t
-entriesAfter (deed.Bar s) octets count banlimit n1limit t = barredBy s n1limit t
-entriesAfter (deed.Accept s) octets count banlimit n1limit t = unforbidden s t
-entriesAfter (deed.ToLimit net) octets count banlimit n1limit t = n1ToLimit net count n1limit t
-entriesAfter deed.Import octets count banlimit n1limit t = importedAll (networksIn octets) count t
-entriesAfter deed.Sweep octets count banlimit n1limit t = swept count banlimit n1limit t
-entriesAfter deed.Power octets count banlimit n1limit t = powered count banlimit t
-entriesAfter deed.Fresh octets count banlimit n1limit t = none
+entriesAfter k octets count banlimit n1limit t = withFile k octets count (withRanks (ranksAfter k count (t .ranks)) (marksAfter k count banlimit n1limit t))

@@ -2,6 +2,7 @@
 use crate::Deed;
 use crate::find;
 use crate::one_more;
+use crate::order::last_when;
 use crate::put;
 use crate::put_net;
 use crate::put_when;
@@ -12,9 +13,10 @@ ghost use mathlib.Core.Path.{_≡_};
 ghost use mathlib.Core.Bool.{cond};
 ghost use Prim.Native.Nat.{_+_, _≤_};
 ghost use Rattle.networks.specs.Networks.{networksIn};
-ghost use Rattle.entries.specs.Places.{hasEntry, putAt};
-ghost use Rattle.entries.specs.Entries.{entriesOf, grown, imported, importedAll, heldWith};
-ghost use Rattle.entries.specs.Counting.{isPassed, isImport};
+ghost use Rattle.entries.specs.Places.{entriesHeld, hasEntry, putAt};
+ghost use Rattle.entries.specs.Entries.{entriesOf, grown, imported, isAmong, fileTaken, heldWith, isImport};
+ghost use Rattle.entries.specs.Order.{lastTo};
+ghost use Rattle.entries.specs.Counting.{isPassed};
 
 // A network that is neither among the first n, those with an entry, nor among the k new ones is one more of these. Sixteen have a place: a seventeenth is
 // counted alone.
@@ -73,9 +75,10 @@ fn admit(
     n1s: &mut [u8; 16],
     forbidden: &mut [u8; 16],
     barred: &mut [u8; 16],
+    ranks: &mut [u8; 16],
 ) -> u8
     ensures { λ r. ⌜ r ≡ grown (hasEntry count net (now (nets .entry))) count ⌝ }
-    ensures { λ r. ⌜ entriesOf (now (nets .exit)) (now (bans .exit)) (now (n1s .exit)) (now (forbidden .exit)) (now (barred .exit)) ≡ imported net count (entriesOf (now (nets .entry)) (now (bans .entry)) (now (n1s .entry)) (now (forbidden .entry)) (now (barred .entry))) ⌝ }
+    ensures { λ r. ⌜ entriesOf (now (nets .exit)) (now (bans .exit)) (now (n1s .exit)) (now (forbidden .exit)) (now (barred .exit)) (now (ranks .exit)) ≡ imported net count (entriesOf (now (nets .entry)) (now (bans .entry)) (now (n1s .entry)) (now (forbidden .entry)) (now (barred .entry)) (now (ranks .entry))) ⌝ }
 {
     let n = size(count);
     let at = find(nets, n, net);
@@ -86,6 +89,7 @@ fn admit(
     put_when(new, n1s, at, 0);
     put(forbidden, at, 1);
     put_when(new, barred, at, 0);
+    put_when(new, ranks, at, n as u8);
     grow(found, count)
 }
 
@@ -105,6 +109,34 @@ pub fn is_import(k: Deed) -> bool
     }
 }
 
+fn names(file: &[u8], net: u32) -> bool
+    ensures { λ r. ⌜ r ≡ isAmong net (networksIn (now (file .entry))) ⌝ }
+{
+    if is_unused(net) {
+        return false;
+    }
+    let mut i: usize = 0;
+    while 2 < file.len() - i {
+        if network_at(file, i) == net {
+            return true;
+        }
+        i += 3;
+    }
+    false
+}
+
+// Those that the file names come last in the order, one after the other from the first place on.
+fn settle(file: &[u8], count: u8, nets: &[u32; 16], ranks: &mut [u8; 16])
+    ensures { λ r. ⌜ now (ranks .exit) ≡ lastTo (λ m. isAmong m (networksIn (now (file .entry)))) (entriesHeld count) (entriesHeld count) (now (nets .entry)) (now (ranks .entry)) ⌝ }
+{
+    let n = size(count);
+    let mut i: usize = 0;
+    while i < n {
+        last_when(names(file, nets[i]), i, count, ranks);
+        i += 1;
+    }
+}
+
 pub fn take_in(
     file: &[u8],
     count: u8,
@@ -113,8 +145,9 @@ pub fn take_in(
     n1s: &mut [u8; 16],
     forbidden: &mut [u8; 16],
     barred: &mut [u8; 16],
+    ranks: &mut [u8; 16],
 )
-    ensures { λ r. ⌜ entriesOf (now (nets .exit)) (now (bans .exit)) (now (n1s .exit)) (now (forbidden .exit)) (now (barred .exit)) ≡ importedAll (networksIn (now (file .entry))) count (entriesOf (now (nets .entry)) (now (bans .entry)) (now (n1s .entry)) (now (forbidden .entry)) (now (barred .entry))) ⌝ }
+    ensures { λ r. ⌜ entriesOf (now (nets .exit)) (now (bans .exit)) (now (n1s .exit)) (now (forbidden .exit)) (now (barred .exit)) (now (ranks .exit)) ≡ fileTaken (now (file .entry)) count (entriesOf (now (nets .entry)) (now (bans .entry)) (now (n1s .entry)) (now (forbidden .entry)) (now (barred .entry)) (now (ranks .entry))) ⌝ }
 {
     let mut n = count;
     let mut i: usize = 0;
@@ -124,6 +157,7 @@ pub fn take_in(
         if is_unused(net) {
             continue;
         }
-        n = admit(net, n, nets, bans, n1s, forbidden, barred);
+        n = admit(net, n, nets, bans, n1s, forbidden, barred, ranks);
     }
+    settle(file, n, nets, ranks);
 }

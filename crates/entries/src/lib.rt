@@ -7,16 +7,19 @@ ghost use lib.ListN.{replicate};
 ghost use Rattle.laws.specs.Bounds.{oneMore};
 ghost use Rattle.laws.specs.Upto.{upto, seekTo};
 ghost use Rattle.entries.specs.Places.{sameNet, entriesHeld, placeIn, hasEntry, putAt, peekAt};
-ghost use Rattle.entries.specs.Entries.{liftMark, bumped, raised, seenIn, entriesOf, banned, none, entriesAfter};
+ghost use Rattle.entries.specs.Entries.{withRanks, foundIn, marksAfter, liftMark, bumped, raised, entriesOf, banned, none};
 
 mod import;
+mod order;
 
 pub use import::grow;
 pub use import::held_with;
 pub use import::is_import;
 pub use import::take_in;
+pub use order::last_when;
+pub use order::leaver;
 
-// Dense from 0 to a count that the access keeps; behind it nothing is looked at.
+// Dense from 0 to a count that the access keeps; behind it nothing is looked at. Ranks are the order of the last marking: how many were marked earlier.
 #[repr(C)]
 pub struct Entries {
     pub nets: [u32; 16],
@@ -24,9 +27,10 @@ pub struct Entries {
     pub n1s: [u8; 16],
     pub forbidden: [u8; 16],
     pub barred: [u8; 16],
+    pub ranks: [u8; 16],
 }
 
-// What stands in the entries about one network: its place, or the first free one, and its marks. About an import's file: whether it is one, and the first free
+// What stands in the entries about one network: its place, else the first free one, and its marks; a seventeenth's is that of the one that gives up its own. About an import's file: whether it is one, and the first free
 // place once its networks have theirs.
 pub struct Seen {
     pub at: usize,
@@ -88,7 +92,7 @@ fn peek(xs: &[u8; 16], at: usize, n: usize) -> u8
 
 // A network with no entry has no marks.
 pub fn look(count: u8, net: u32, nets: &[u32; 16], forbidden: &[u8; 16], barred: &[u8; 16]) -> Seen
-    ensures { λ r. ⌜ r ≡ seenIn count net (now (nets .entry)) (now (forbidden .entry)) (now (barred .entry)) ⌝ }
+    ensures { λ r. ⌜ r ≡ foundIn count net (now (nets .entry)) (now (forbidden .entry)) (now (barred .entry)) ⌝ }
 {
     let n = size(count);
     let at = find(nets, n, net);
@@ -197,7 +201,7 @@ fn strike(
     marks: &mut [u8; 16],
     spare: &mut [u8; 16],
 )
-    ensures { λ r. ⌜ entriesOf (now (nets .exit)) (now (counts .exit)) (now (others .exit)) (now (marks .exit)) (now (spare .exit)) ≡ banned s limit (entriesOf (now (nets .entry)) (now (counts .entry)) (now (others .entry)) (now (marks .entry)) (now (spare .entry))) ⌝ }
+    ensures { λ r. ⌜ entriesOf (now (nets .exit)) (now (counts .exit)) (now (others .exit)) (now (marks .exit)) (now (spare .exit)) [] ≡ banned s limit (entriesOf (now (nets .entry)) (now (counts .entry)) (now (others .entry)) (now (marks .entry)) (now (spare .entry)) []) ⌝ }
 {
     let new = !s.found;
     put_net(nets, s.at, s.net);
@@ -250,7 +254,7 @@ fn wipe(
     forbidden: &mut [u8; 16],
     barred: &mut [u8; 16],
 )
-    ensures { λ r. ⌜ entriesOf (now (nets .exit)) (now (bans .exit)) (now (n1s .exit)) (now (forbidden .exit)) (now (barred .exit)) ≡ none ⌝ }
+    ensures { λ r. ⌜ entriesOf (now (nets .exit)) (now (bans .exit)) (now (n1s .exit)) (now (forbidden .exit)) (now (barred .exit)) [] ≡ withRanks [] none ⌝ }
 {
     *nets = [0u32; 16];
     *bans = [0u8; 16];
@@ -259,8 +263,8 @@ fn wipe(
     *barred = [0u8; 16];
 }
 
-// Barring is striking with the columns changed about. An import's file is not at hand here: `take_in` has it. Each event comes by here twice, and with the
-// file's loop in it this would not be inlined.
+// Barring is striking with the columns changed about. An import's file is not at hand here: `take_in` has it. Nor are the ranks: `last_when` has them. Each event
+// comes by here twice, and with either loop in it this would not be inlined.
 pub fn tend(
     k: Deed,
     count: u8,
@@ -272,7 +276,7 @@ pub fn tend(
     forbidden: &mut [u8; 16],
     barred: &mut [u8; 16],
 )
-    ensures { λ r. ⌜ entriesOf (now (nets .exit)) (now (bans .exit)) (now (n1s .exit)) (now (forbidden .exit)) (now (barred .exit)) ≡ entriesAfter k [] count banlimit n1limit (entriesOf (now (nets .entry)) (now (bans .entry)) (now (n1s .entry)) (now (forbidden .entry)) (now (barred .entry))) ⌝ }
+    ensures { λ r. ⌜ entriesOf (now (nets .exit)) (now (bans .exit)) (now (n1s .exit)) (now (forbidden .exit)) (now (barred .exit)) [] ≡ marksAfter k count banlimit n1limit (entriesOf (now (nets .entry)) (now (bans .entry)) (now (n1s .entry)) (now (forbidden .entry)) (now (barred .entry)) []) ⌝ }
 {
     match k {
         Deed::Nothing => {}

@@ -3,3 +3,5 @@ pub mod Networks
 pub mod Rest
 pub mod Whole
 pub mod Second
+pub mod Orders
+pub mod Sights

@@ -8,8 +8,7 @@ use Rattle.entries.specs.declared.Deed.{Deed}
 use Rattle.entries.specs.declared.Deed.the-variants as deed
 use Rattle.entries.specs.declared.Seat.{Seat}
 use Rattle.entries.specs.declared.Seen.{Seen}
-use Rattle.entries.specs.Entries.{seatOf}
-use Rattle.entries.specs.Counting.{isImport}
+use Rattle.entries.specs.Entries.{seatOf, isImport}
 use Rattle.messages.specs.declared.Reading.{Reading}
 use Rattle.messages.specs.declared.Reading.the-variants as reading
 use Rattle.messages.specs.Message.{readingOf}
@@ -17,7 +16,6 @@ use Rattle.record.specs.declared.Hot.{Hot}
 use Rattle.record.specs.Answers.{isTaken}
 use Rattle.record.specs.Sides.{accessOf}
 use Rattle.turns.specs.declared.Draws.{Draws}
-use Rattle.turns.specs.declared.Row.{Row}
 use Rattle.turns.specs.Timers.{isDeviceTimer}
 use Rattle.turns.specs.Words.{Mark, noMark, forbiddenAndCounted, n1NotAllowedAndCounted, markIn}
 use Rattle.turns.specs.Rejects.{rowText, acrossN1}

@@ -2,7 +2,7 @@
 use Prim.Native.Nat.{ℕ, zero, suc}
 use mathlib.Core.Bool.{Bool, false, cond}
 use mathlib.Core.List.{List, [], _∷_}
-use lib.ListN.{length, getD, drop}
+use lib.ListN.{length, getD, drop, replicate}
 use lib.Dec.{eqb}
 use Rattle.laws.specs.Bounds.{atMost}
 use Rattle.laws.specs.Upto.{copied}
@@ -11,10 +11,12 @@ use Rattle.record.specs.New.{zeros}
 use Rattle.record.specs.declared.Hot.{Hot}
 use Rattle.entries.specs.declared.Entries.{Entries}
 use Rattle.entries.specs.declared.Seen.{Seen}
-use Rattle.entries.specs.Entries.{seenIn, importedAll, heldWith, entriesAfter}
-use Rattle.entries.specs.Counting.{isImport}
 use Rattle.entries.specs.declared.Deed.{Deed}
-use Rattle.networks.specs.Networks.{networkOf, networksIn}
+use Rattle.entries.specs.declared.Deed.the-variants as deed
+use Rattle.entries.specs.Places.{entriesHeld}
+use Rattle.entries.specs.Order.{lastAt}
+use Rattle.entries.specs.Entries.{seenIn, heldWith, entriesAfter}
+use Rattle.networks.specs.Networks.{networkOf}
 use Rattle.checks.specs.Answers.{importRange}
 use Rattle.areas.specs.Areas.{areaOf, listedIn, listAfter, countAfter}
 use Rattle.rules.specs.declared.Event.{Event}
@@ -33,22 +35,22 @@ abbrev pub unseen : Seen
 unseen = record { at = 0; found = false; forbidden = 0; barred = 0 }
 
 -- what access w's entries say about a network
-unfoldable pub sightOf : ℕ → ℕ → Hot → List ℕ → List ℕ → List ℕ → List ℕ → List ℕ → List ℕ → Seen
-sightOf w net h nets0 forbidden0 barred0 nets1 forbidden1 barred1 =
-    cond (eqb w 0) (seenIn (h .a0 .entries) net nets0 forbidden0 barred0) (seenIn (h .a1 .entries) net nets1 forbidden1 barred1)
+unfoldable pub sightOf : ℕ → ℕ → Hot → List ℕ → List ℕ → List ℕ → List ℕ → List ℕ → List ℕ → List ℕ → List ℕ → Seen
+sightOf w net h nets0 forbidden0 barred0 ranks0 nets1 forbidden1 barred1 ranks1 =
+    cond (eqb w 0) (seenIn (h .a0 .entries) net nets0 forbidden0 barred0 ranks0) (seenIn (h .a1 .entries) net nets1 forbidden1 barred1 ranks1)
 
 -- an import's file: whether it is one, and then the first free place once its networks have theirs; it has no marks itself
 unfoldable pub fileSeen : ℕ → List ℕ → List ℕ → Seen
 fileSeen count file nets = record { at = cond (importRange file) (heldWith count file nets) 0; found = importRange file; forbidden = 0; barred = 0 }
 
 -- the octets are those beside the event
-unfoldable pub seenBy : Ask → List ℕ → Hot → List ℕ → List ℕ → List ℕ → List ℕ → List ℕ → List ℕ → Seen
-seenBy ask.Nothing octets h nets0 forbidden0 barred0 nets1 forbidden1 barred1 = unseen
-seenBy (ask.Network w net) octets h nets0 forbidden0 barred0 nets1 forbidden1 barred1 = sightOf w net h nets0 forbidden0 barred0 nets1 forbidden1 barred1
-seenBy ask.File octets h nets0 forbidden0 barred0 nets1 forbidden1 barred1 = fileSeen (h .a0 .entries) octets nets0
+unfoldable pub seenBy : Ask → List ℕ → Hot → List ℕ → List ℕ → List ℕ → List ℕ → List ℕ → List ℕ → List ℕ → List ℕ → Seen
+seenBy ask.Nothing octets h nets0 forbidden0 barred0 ranks0 nets1 forbidden1 barred1 ranks1 = unseen
+seenBy (ask.Network w net) octets h nets0 forbidden0 barred0 ranks0 nets1 forbidden1 barred1 ranks1 = sightOf w net h nets0 forbidden0 barred0 ranks0 nets1 forbidden1 barred1 ranks1
+seenBy ask.File octets h nets0 forbidden0 barred0 ranks0 nets1 forbidden1 barred1 ranks1 = fileSeen (h .a0 .entries) octets nets0
 
 unfoldable pub seenOf : Ask → List ℕ → Hot → Entries → Entries → Seen
-seenOf q octets h e0 e1 = seenBy q octets h (e0 .nets) (e0 .forbidden) (e0 .barred) (e1 .nets) (e1 .forbidden) (e1 .barred)
+seenOf q octets h e0 e1 = seenBy q octets h (e0 .nets) (e0 .forbidden) (e0 .barred) (e0 .ranks) (e1 .nets) (e1 .forbidden) (e1 .barred) (e1 .ranks)
 
 -- whether an area stands in one of the two lists
 unfoldable pub listedOf : Site → Hot → List ℕ → List ℕ → Bool
@@ -62,9 +64,17 @@ plannedOf h e octets e0 e1 roaming regional = planOf h e (seenOf (askOf h e) oct
 unfoldable pub tableAfter : Plan → List ℕ → ℕ → ℕ → Hot → Entries → Entries
 tableAfter p octets me count h t = entriesAfter (deedOf p me) octets count (h .dev .banlimit) (h .dev .n1limit) t
 
--- the file of an import behind what else its deed does
-abbrev pub withFile : Deed → List ℕ → ℕ → Entries → Entries
-withFile k file count t = cond (isImport k) (importedAll (networksIn file) count t) t
+-- the order on access `me`, by the deed on the event's own access
+unfoldable pub orderOn : ℕ → Deed → ℕ → ℕ → List ℕ → List ℕ
+orderOn w deed.Nothing me count ranks = ranks
+orderOn w (deed.Ban s) me count ranks = cond (eqb w me) (lastAt (s .at) (entriesHeld count) ranks) ranks
+orderOn w (deed.Bar s) me count ranks = cond (eqb w me) (lastAt (s .at) (entriesHeld count) ranks) ranks
+orderOn w (deed.Accept s) me count ranks = ranks
+orderOn w (deed.ToLimit net) me count ranks = ranks
+orderOn w deed.Import me count ranks = ranks
+orderOn w deed.Sweep me count ranks = ranks
+orderOn w deed.Power me count ranks = ranks
+orderOn w deed.Fresh me count ranks = replicate 16 0
 
 -- the numbers with the area lists' counts
 unfoldable pub withCounts : ℕ → ℕ → Hot → Hot

@@ -8,11 +8,14 @@ use rules::Event;
 use rules::Site;
 ghost use mathlib.Core.Path.{_≡_};
 ghost use mathlib.Core.Bool.{cond};
-ghost use Rattle.entries.specs.Entries.{heldWith, entriesOf};
+ghost use lib.Dec.{eqb};
+ghost use Rattle.entries.specs.Places.{entriesHeld};
+ghost use Rattle.entries.specs.Order.{lastAt, leaverTo};
+ghost use Rattle.entries.specs.Entries.{foundIn, heldWith, entriesOf, withFile};
 ghost use Rattle.events.specs.Parts as parts;
-ghost use Rattle.events.specs.Parts.{sightOf, fileSeen, withFile, seenBy, listedOf, withCounts, partsOf, partsAfter};
+ghost use Rattle.events.specs.Parts.{sightOf, fileSeen, seenBy, listedOf, withCounts, orderOn, partsOf, partsAfter};
 
-fn sight(
+fn entry_of(
     access: u8,
     net: u32,
     h: Hot,
@@ -23,12 +26,80 @@ fn sight(
     forbidden1: &[u8; 16],
     barred1: &[u8; 16],
 ) -> Seen
-    ensures { λ r. ⌜ r ≡ sightOf access net h (now (nets0 .entry)) (now (forbidden0 .entry)) (now (barred0 .entry)) (now (nets1 .entry)) (now (forbidden1 .entry)) (now (barred1 .entry)) ⌝ }
+    ensures { λ r. ⌜ r ≡ cond (eqb access 0) (foundIn (h .a0 .entries) net (now (nets0 .entry)) (now (forbidden0 .entry)) (now (barred0 .entry))) (foundIn (h .a1 .entries) net (now (nets1 .entry)) (now (forbidden1 .entry)) (now (barred1 .entry))) ⌝ }
 {
     if access == 0 {
         entries::look(h.a0.entries, net, nets0, forbidden0, barred0)
     } else {
         entries::look(h.a1.entries, net, nets1, forbidden1, barred1)
+    }
+}
+
+fn leaver_of(
+    access: u8,
+    forbidden0: &[u8; 16],
+    barred0: &[u8; 16],
+    ranks0: &[u8; 16],
+    forbidden1: &[u8; 16],
+    barred1: &[u8; 16],
+    ranks1: &[u8; 16],
+) -> usize
+    ensures { λ r. ⌜ r ≡ cond (eqb access 0) (leaverTo 16 (now (forbidden0 .entry)) (now (barred0 .entry)) (now (ranks0 .entry))) (leaverTo 16 (now (forbidden1 .entry)) (now (barred1 .entry)) (now (ranks1 .entry))) ⌝ }
+{
+    if access == 0 {
+        entries::leaver(forbidden0, barred0, ranks0)
+    } else {
+        entries::leaver(forbidden1, barred1, ranks1)
+    }
+}
+
+// Only where no entry is free is one looked for that may give up its place.
+fn sight(
+    access: u8,
+    net: u32,
+    h: Hot,
+    nets0: &[u32; 16],
+    forbidden0: &[u8; 16],
+    barred0: &[u8; 16],
+    ranks0: &[u8; 16],
+    nets1: &[u32; 16],
+    forbidden1: &[u8; 16],
+    barred1: &[u8; 16],
+    ranks1: &[u8; 16],
+) -> Seen
+    ensures { λ r. ⌜ r ≡ sightOf access net h (now (nets0 .entry)) (now (forbidden0 .entry)) (now (barred0 .entry)) (now (ranks0 .entry)) (now (nets1 .entry)) (now (forbidden1 .entry)) (now (barred1 .entry)) (now (ranks1 .entry)) ⌝ }
+{
+    let s = entry_of(
+        access,
+        net,
+        h,
+        nets0,
+        forbidden0,
+        barred0,
+        nets1,
+        forbidden1,
+        barred1,
+    );
+    if s.found {
+        return s;
+    }
+    if s.at < 16 {
+        return s;
+    }
+    let at = leaver_of(
+        access,
+        forbidden0,
+        barred0,
+        ranks0,
+        forbidden1,
+        barred1,
+        ranks1,
+    );
+    Seen {
+        at,
+        found: false,
+        forbidden: 0,
+        barred: 0,
     }
 }
 
@@ -74,11 +145,13 @@ fn see(
     nets0: &[u32; 16],
     forbidden0: &[u8; 16],
     barred0: &[u8; 16],
+    ranks0: &[u8; 16],
     nets1: &[u32; 16],
     forbidden1: &[u8; 16],
     barred1: &[u8; 16],
+    ranks1: &[u8; 16],
 ) -> Seen
-    ensures { λ r. ⌜ r ≡ seenBy q (now (octets .entry)) h (now (nets0 .entry)) (now (forbidden0 .entry)) (now (barred0 .entry)) (now (nets1 .entry)) (now (forbidden1 .entry)) (now (barred1 .entry)) ⌝ }
+    ensures { λ r. ⌜ r ≡ seenBy q (now (octets .entry)) h (now (nets0 .entry)) (now (forbidden0 .entry)) (now (barred0 .entry)) (now (ranks0 .entry)) (now (nets1 .entry)) (now (forbidden1 .entry)) (now (barred1 .entry)) (now (ranks1 .entry)) ⌝ }
 {
     match q {
         Ask::Nothing => unseen(),
@@ -89,9 +162,11 @@ fn see(
             nets0,
             forbidden0,
             barred0,
+            ranks0,
             nets1,
             forbidden1,
             barred1,
+            ranks1,
         ),
         Ask::File => filed(octets, h, nets0),
     }
@@ -132,11 +207,41 @@ fn file(
     n1s: &mut [u8; 16],
     forbidden: &mut [u8; 16],
     barred: &mut [u8; 16],
+    ranks: &mut [u8; 16],
 )
-    ensures { λ r. ⌜ entriesOf (now (nets .exit)) (now (bans .exit)) (now (n1s .exit)) (now (forbidden .exit)) (now (barred .exit)) ≡ withFile k (now (octets .entry)) count (entriesOf (now (nets .entry)) (now (bans .entry)) (now (n1s .entry)) (now (forbidden .entry)) (now (barred .entry))) ⌝ }
+    ensures { λ r. ⌜ entriesOf (now (nets .exit)) (now (bans .exit)) (now (n1s .exit)) (now (forbidden .exit)) (now (barred .exit)) (now (ranks .exit)) ≡ withFile k (now (octets .entry)) count (entriesOf (now (nets .entry)) (now (bans .entry)) (now (n1s .entry)) (now (forbidden .entry)) (now (barred .entry)) (now (ranks .entry))) ⌝ }
 {
     if entries::is_import(k) {
-        entries::take_in(octets, count, nets, bans, n1s, forbidden, barred);
+        entries::take_in(octets, count, nets, bans, n1s, forbidden, barred, ranks);
+    }
+}
+
+fn mark(access: u8, at: usize, h: Hot, ranks0: &mut [u8; 16], ranks1: &mut [u8; 16])
+    ensures { λ r. ⌜ now (ranks0 .exit) ≡ cond (eqb access 0) (lastAt at (entriesHeld (h .a0 .entries)) (now (ranks0 .entry))) (now (ranks0 .entry)) ⌝ }
+    ensures { λ r. ⌜ now (ranks1 .exit) ≡ cond (eqb access 1) (lastAt at (entriesHeld (h .a1 .entries)) (now (ranks1 .entry))) (now (ranks1 .entry)) ⌝ }
+{
+    entries::last_when(access == 0, at, h.a0.entries, ranks0);
+    entries::last_when(access == 1, at, h.a1.entries, ranks1);
+}
+
+// The order of both accesses, by the deed on the event's own: no other marks, and a card change is one on both. Before the rest, where it costs least.
+fn order(access: u8, k: Deed, h: Hot, ranks0: &mut [u8; 16], ranks1: &mut [u8; 16])
+    ensures { λ r. ⌜ now (ranks0 .exit) ≡ orderOn access k 0 (h .a0 .entries) (now (ranks0 .entry)) ⌝ }
+    ensures { λ r. ⌜ now (ranks1 .exit) ≡ orderOn access k 1 (h .a1 .entries) (now (ranks1 .entry)) ⌝ }
+{
+    match k {
+        Deed::Nothing => {}
+        Deed::Ban(s) => mark(access, s.at, h, ranks0, ranks1),
+        Deed::Bar(s) => mark(access, s.at, h, ranks0, ranks1),
+        Deed::Accept(_) => {}
+        Deed::ToLimit(_) => {}
+        Deed::Import => {}
+        Deed::Sweep => {}
+        Deed::Power => {}
+        Deed::Fresh => {
+            *ranks0 = [0u8; 16];
+            *ranks1 = [0u8; 16];
+        }
     }
 }
 
@@ -149,15 +254,17 @@ pub fn core(
     n1s0: &mut [u8; 16],
     forbidden0: &mut [u8; 16],
     barred0: &mut [u8; 16],
+    ranks0: &mut [u8; 16],
     nets1: &mut [u32; 16],
     bans1: &mut [u8; 16],
     n1s1: &mut [u8; 16],
     forbidden1: &mut [u8; 16],
     barred1: &mut [u8; 16],
+    ranks1: &mut [u8; 16],
     roaming: &mut [u64; 40],
     regional: &mut [u64; 40],
 ) -> Done
-    ensures { λ r. ⌜ partsOf r (entriesOf (now (nets0 .exit)) (now (bans0 .exit)) (now (n1s0 .exit)) (now (forbidden0 .exit)) (now (barred0 .exit))) (entriesOf (now (nets1 .exit)) (now (bans1 .exit)) (now (n1s1 .exit)) (now (forbidden1 .exit)) (now (barred1 .exit))) (now (roaming .exit)) (now (regional .exit)) ≡ partsAfter h e (now (octets .entry)) (entriesOf (now (nets0 .entry)) (now (bans0 .entry)) (now (n1s0 .entry)) (now (forbidden0 .entry)) (now (barred0 .entry))) (entriesOf (now (nets1 .entry)) (now (bans1 .entry)) (now (n1s1 .entry)) (now (forbidden1 .entry)) (now (barred1 .entry))) (now (roaming .entry)) (now (regional .entry)) ⌝ }
+    ensures { λ r. ⌜ partsOf r (entriesOf (now (nets0 .exit)) (now (bans0 .exit)) (now (n1s0 .exit)) (now (forbidden0 .exit)) (now (barred0 .exit)) (now (ranks0 .exit))) (entriesOf (now (nets1 .exit)) (now (bans1 .exit)) (now (n1s1 .exit)) (now (forbidden1 .exit)) (now (barred1 .exit)) (now (ranks1 .exit))) (now (roaming .exit)) (now (regional .exit)) ≡ partsAfter h e (now (octets .entry)) (entriesOf (now (nets0 .entry)) (now (bans0 .entry)) (now (n1s0 .entry)) (now (forbidden0 .entry)) (now (barred0 .entry)) (now (ranks0 .entry))) (entriesOf (now (nets1 .entry)) (now (bans1 .entry)) (now (n1s1 .entry)) (now (forbidden1 .entry)) (now (barred1 .entry)) (now (ranks1 .entry))) (now (roaming .entry)) (now (regional .entry)) ⌝ }
 {
     let q = rules::ask_of(h, e);
     let s = see(
@@ -167,9 +274,11 @@ pub fn core(
         nets0,
         forbidden0,
         barred0,
+        ranks0,
         nets1,
         forbidden1,
         barred1,
+        ranks1,
     );
     let l = listing(rules::site_of(e), h, roaming, regional);
     let p = rules::plan_of(h, e, s, l, octets);
@@ -178,6 +287,7 @@ pub fn core(
     let theirs = work.theirs;
     let d0 = rules::deed_on(p.access, mine, theirs, 0);
     let d1 = rules::deed_on(p.access, mine, theirs, 1);
+    order(p.access, mine, h, ranks0, ranks1);
     entries::tend(
         d0,
         h.a0.entries,
@@ -209,6 +319,7 @@ pub fn core(
         n1s0,
         forbidden0,
         barred0,
+        ranks0,
     );
     let first = work.roaming;
     let second = work.regional;

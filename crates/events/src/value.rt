@@ -20,11 +20,13 @@ fn advance(r: Record, e: Event, octets: &[u8]) -> Outcome
     let mut n1s0 = s.n1s;
     let mut forbidden0 = s.forbidden;
     let mut barred0 = s.barred;
+    let mut ranks0 = s.ranks;
     let mut nets1 = t.nets;
     let mut bans1 = t.bans;
     let mut n1s1 = t.n1s;
     let mut forbidden1 = t.forbidden;
     let mut barred1 = t.barred;
+    let mut ranks1 = t.ranks;
     let mut roaming = r.roaming;
     let mut regional = r.regional;
     let mut guti0 = r.guti0;
@@ -41,11 +43,13 @@ fn advance(r: Record, e: Event, octets: &[u8]) -> Outcome
         &mut n1s0,
         &mut forbidden0,
         &mut barred0,
+        &mut ranks0,
         &mut nets1,
         &mut bans1,
         &mut n1s1,
         &mut forbidden1,
         &mut barred1,
+        &mut ranks1,
         &mut roaming,
         &mut regional,
     );
@@ -69,6 +73,7 @@ fn advance(r: Record, e: Event, octets: &[u8]) -> Outcome
         n1s: n1s0,
         forbidden: forbidden0,
         barred: barred0,
+        ranks: ranks0,
     };
     let e1 = Entries {
         nets: nets1,
@@ -76,6 +81,7 @@ fn advance(r: Record, e: Event, octets: &[u8]) -> Outcome
         n1s: n1s1,
         forbidden: forbidden1,
         barred: barred1,
+        ranks: ranks1,
     };
     let next = Record {
         hot: hot,

@@ -16,7 +16,7 @@ use Rattle.entries.specs.declared.Entries.{Entries}
 use Rattle.entries.specs.declared.Deed.{Deed}
 use Rattle.entries.specs.declared.Deed.the-variants as deed
 use Rattle.entries.specs.declared.Seen.{Seen}
-use Rattle.entries.specs.Entries.{entriesAfter}
+use Rattle.entries.specs.Entries.{entriesAfter, n1ToLimit, marksAfter, ranksAfter, isImport, withFile}
 use Rattle.messages.specs.declared.Reading.{Reading}
 use Rattle.messages.specs.declared.Reading.the-variants as reading
 use Rattle.messages.specs.Message.{readingOf}
@@ -230,7 +230,7 @@ module _ (r : Record) where
         guti = cond (eqb w 0) (r .guti0) (r .guti1);
         equivalents = cond (eqb w 0) (r .equivalents0) (r .equivalents1);
       }
-      unfolding halfOf halfAfter entriesAfter
+      unfolding halfOf halfAfter n1ToLimit entriesAfter withFile isImport ranksAfter marksAfter
       half-after untouched = refl
       half-after cardCounterToLimit = refl
       half-after n1CounterToLimit = refl

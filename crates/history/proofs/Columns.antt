@@ -6,10 +6,10 @@ use mathlib.Core.Bool.{Bool, true, false, cond, _&&_, _||_}
 use mathlib.Core.List.{List}
 use mathlib.Core.Logic.{_≢_}
 use native.Mathlib.Omega.{arith}
-use lib.Dec.{leb, ltb, eqb}
+use lib.Dec.{ltb, eqb}
 use lib.ListN.{length, getD, set}
 use lib.Seq.{getD-set-same, getD-set-other, set-getD}
-use borrow.Author.Tests.{leb-false, ltb-true, ltb-false, lt-ltb, le-ltb, eqb-true, eqb-false}
+use borrow.Author.Tests.{ltb-true, ltb-false, lt-ltb, le-ltb, eqb-true, eqb-false}
 use Rattle.laws.specs.Upto.{upto, seekTo}
 use Rattle.entries.specs.Places.{sameNet, entriesHeld, placeIn, hasEntry, peekAt, putAt}
 use Rattle.entries.specs.Entries.{clearUnless, grown}
@@ -17,7 +17,7 @@ use Rattle.entries.proofs.Joining.{has-joined}
 use Rattle.record.specs.New.{zeros}
 use Rattle.validity.proofs.Bools.{most-fits}
 use Rattle.laws.proofs.Seek.{seek-le, seek-found, seek-before, seek-is}
-use Rattle.validity.proofs.Arrays.{upto-reads}
+use Rattle.laws.proofs.Arrays.{upto-reads}
 use Rattle.history.specs.Cell.{columnIn}
 
 zero-at : (n k : ℕ) → getD (zeros n) k 0 ≡ 0
@@ -25,11 +25,11 @@ zero-at zero k = refl
 zero-at (suc n) zero = refl
 zero-at (suc n) (suc k) = zero-at n k
 
-size-fits : (count : ℕ) → entriesHeld count ≤ 16
+pub size-fits : (count : ℕ) → entriesHeld count ≤ 16
 unfolding entriesHeld
 size-fits count = most-fits 16 count
 
-size-is : (count : ℕ) → count < 16 → entriesHeld count ≡ count
+pub size-is : (count : ℕ) → count < 16 → entriesHeld count ≡ count
 unfolding entriesHeld
 size-is count h = rw (lt-ltb count 16 h)
 
@@ -41,29 +41,15 @@ below count h = go (ltb count 16) refl h
     go true q j = ltb-true count 16 q
     go false q j = absurd (let g : 16 < 16 = rw q at j in omega arith)
 
-peek-in : (xs : List ℕ) (at n : ℕ) → at < n → peekAt xs at n ≡ getD xs at 0
+pub peek-in : (xs : List ℕ) (at n : ℕ) → at < n → peekAt xs at n ≡ getD xs at 0
 unfolding peekAt
 peek-in xs at n h = rw (lt-ltb at n h)
 
-peek-out : (xs : List ℕ) (at n : ℕ) → n ≤ at → peekAt xs at n ≡ 0
+pub peek-out : (xs : List ℕ) (at n : ℕ) → n ≤ at → peekAt xs at n ≡ 0
 unfolding peekAt
 peek-out xs at n h = rw (le-ltb at n h)
 
--- with no entry in use none has one
-pub none-held : (net : ℕ) (nets : List ℕ) → hasEntry 0 net nets ≡ false
-unfolding hasEntry entriesHeld
-none-held net nets = le-ltb (placeIn 0 net nets) 0 (omega arith)
-
--- a network that has an entry, or finds a free one, has a place
-pub room : (count net : ℕ) (nets : List ℕ) → (hasEntry count net nets ≡ false → leb 16 count ≡ false) → placeIn count net nets < 16
-unfolding hasEntry placeIn
-room count net nets f = go (ltb (seekTo (sameNet net) (entriesHeld count) nets) (entriesHeld count)) refl
-  where
-    go : (b : Bool) → ltb (seekTo (sameNet net) (entriesHeld count) nets) (entriesHeld count) ≡ b → seekTo (sameNet net) (entriesHeld count) nets < 16
-    go true q = omega (arith, ltb-true (seekTo (sameNet net) (entriesHeld count) nets) (entriesHeld count) q, size-fits count)
-    go false q = let h : count < 16 = leb-false 16 count (f q) in omega (arith, seek-le (sameNet net) (entriesHeld count) nets, size-is count h)
-
-put-in : (xs : List ℕ) (at v : ℕ) → at < 16 → putAt xs at v ≡ set xs at v
+pub put-in : (xs : List ℕ) (at v : ℕ) → at < 16 → putAt xs at v ≡ set xs at v
 unfolding putAt
 put-in xs at v h = rw (lt-ltb at 16 h)
 

@@ -1,12 +1,13 @@
--- Demand 3: what the record holds of a network is what the history says, and so is whether it has an entry. By induction on the events: a refused one
--- changes neither, a taken one changes both alike. Assumes nothing.
-use Prim.Native.Nat.{ℕ, _<_}
+-- Demand 3: what the record holds of a network is what the history says, and so are the networks that have an entry, and their order. By induction on the
+-- events: a refused one changes neither, a taken one changes both alike. Assumes nothing.
+use Prim.Native.Nat.{ℕ, _≤_, _<_}
 use mathlib.Core.Path.{_≡_, refl, sym, _∙_, ap}
-use mathlib.Core.Bool.{Bool, true, false, cond, false≢true, _||_}
-use mathlib.Core.List.{List, [], _∷_, reverse, reverseAux}
+use mathlib.Core.Bool.{Bool, true, false, cond}
+use mathlib.Core.List.{List, [], _∷_, reverseAux}
+use native.Mathlib.Omega.{arith}
 use lib.Dec.{eqb}
 use lib.ListN.{length}
-use Rattle.entries.specs.Places.{hasEntry}
+use Rattle.entries.specs.declared.Entries.{Entries}
 use Rattle.entries.specs.Entries.{none}
 use Rattle.record.specs.Answers.{numberOf, isTaken}
 use Rattle.record.specs.New.{newDevice, newAccess, emptyRecord, newRecord, mayMake, madeOf}
@@ -25,15 +26,17 @@ use Rattle.record.proofs.Numbers.{taken-zero}
 use Rattle.validity.proofs.Refusal.{refused, answer-told}
 use Rattle.validity.proofs.Sizes.{advance-sized, new-sized}
 use Rattle.history.specs.Run.{answersOf}
-use Rattle.history.specs.Cell.{cellIn, entriesIn, cellOf, heldIn}
-use Rattle.history.specs.History.{Cell, Limits, News, takenOf, homeAfter, homeOf, pendingAfter, pendingOf, isCardChange, eventNews, puts, isHeld, newsOf, saidBy, saidOf}
-use Rattle.history.proofs.Said.{cellAfter, said-none, said-step}
-use Rattle.history.proofs.Columns.{none-held}
+use Rattle.history.specs.Cell.{Lined, entriesIn, cellOf, heldIn}
+use Rattle.history.specs.Tale.{Limits, News, isOneOf, Tale, begun}
+use Rattle.history.specs.History.{takenOf, homeAfter, homeOf, pendingAfter, pendingOf, eventNews, taleBy, taleAfter, taleOf, saidOf, heldOf}
+use Rattle.history.proofs.Said.{said-none}
 use Rattle.history.proofs.Cells.{cell-none}
+use Rattle.history.proofs.Lined.{lined-has, lined-none}
+use Rattle.history.proofs.Fit.{Fit}
 use Rattle.history.proofs.Next.{next, limitsOf}
 use Rattle.history.proofs.Steps.{home-step, ban-step, n1-step, net-step}
 use Rattle.history.proofs.Stays.{small}
-use Rattle.history.proofs.News.{newsIn, event-cell, event-held, card-cell, card-held}
+use Rattle.history.proofs.News.{newsIn, event-fit, event-few}
 
 -- the record agrees with the taken events, the latest first
 record Agrees (l : Limits) (r : Record) (t : List Heard) : Type 0 where
@@ -42,28 +45,38 @@ record Agrees (l : Limits) (r : Record) (t : List Heard) : Type 0 where
   n1 : r .hot .dev .n1limit ≡ l .n1
   home : r .hot .dev .home ≡ homeOf t
   pending : (w : ℕ) → w < 2 → accessOf (r .hot) w .net ≡ pendingOf t w
-  cells : (w n : ℕ) → w < 2 → cellOf r w n ≡ saidBy l (newsOf t w n)
-  held : (w n : ℕ) → w < 2 → heldIn r w n ≡ isHeld (newsOf t w n)
+  few : (w : ℕ) → w < 2 → accessOf (r .hot) w .entries ≤ 16
+  tale : (w : ℕ) → w < 2 → Fit l (accessOf (r .hot) w .entries) (entriesIn r w) (taleOf l t w)
 
--- what an event is called goes by home, the pending network of its access and of this one, and whether the network has an entry
-alike : {home home′ : ℕ} {held held′ : Bool} → home ≡ home′ → held ≡ held′ → (f f′ : ℕ → ℕ) (w n : ℕ) → f w ≡ f′ w → (e : Event) (octets : List ℕ) → f (accessIn e) ≡ f′ (accessIn e)
-    → eventNews home f held w n e octets ≡ eventNews home′ f′ held′ w n e octets
+-- what an event is called goes by home, and the pending network of its access and of this one
+alike : {home home′ : ℕ} → home ≡ home′ → (held : Bool) (f f′ : ℕ → ℕ) (w n : ℕ) → f w ≡ f′ w → (e : Event) (octets : List ℕ) → f (accessIn e) ≡ f′ (accessIn e)
+    → eventNews home f held w n e octets ≡ eventNews home′ f′ held w n e octets
 unfolding eventNews accessIn
-alike p q f f′ w n s (Card home) octets s′ = refl
-alike p q f f′ w n s (Start b manual net code) octets s′ = refl
-alike p q f f′ w n s (Message b protected draw) octets s′ = rw (p, q, s, s′)
-alike p q f f′ w n s (Timer number b) octets s′ = refl
-alike p q f f′ w n s Power octets s′ = refl
-alike p q f f′ w n s (Key b set) octets s′ = refl
-alike p q f f′ w n s (Update b regtype net code uplink sessions) octets s′ = refl
-alike p q f f′ w n s Import octets s′ = refl
-alike p q f f′ w n s Unknown octets s′ = refl
+alike p held f f′ w n s (Card home) octets s′ = refl
+alike p held f f′ w n s (Start b manual net code) octets s′ = refl
+alike p held f f′ w n s (Message b protected draw) octets s′ = rw (p, s, s′)
+alike p held f f′ w n s (Timer number b) octets s′ = refl
+alike p held f f′ w n s Power octets s′ = refl
+alike p held f f′ w n s (Key b set) octets s′ = refl
+alike p held f f′ w n s (Update b regtype net code uplink sessions) octets s′ = refl
+alike p held f f′ w n s Import octets s′ = refl
+alike p held f f′ w n s Unknown octets s′ = refl
 
-after-same : {l l′ : Limits} {d d′ : News} {c c′ : Cell} → l ≡ l′ → d ≡ d′ → c ≡ c′ → cellAfter l d c ≡ cellAfter l′ d′ c′
-after-same p q s = cc
+-- and what becomes of the tale by the pending network of this one
+by-alike : (l : Limits) (f f′ : ℕ → ℕ) (w : ℕ) → f w ≡ f′ w → (d : ℕ → News) (e : Event) (octets : List ℕ) (k : Tale) → taleBy l f w d e octets k ≡ taleBy l f′ w d e octets k
+unfolding taleBy
+by-alike l f f′ w s d (Card home) octets k = refl
+by-alike l f f′ w s d (Start b manual net code) octets k = refl
+by-alike l f f′ w s d (Message b protected draw) octets k = rw s
+by-alike l f f′ w s d (Timer number b) octets k = refl
+by-alike l f f′ w s d Power octets k = refl
+by-alike l f f′ w s d (Key b set) octets k = refl
+by-alike l f f′ w s d (Update b regtype net code uplink sessions) octets k = refl
+by-alike l f f′ w s d Import octets k = refl
+by-alike l f f′ w s d Unknown octets k = refl
 
-held-same : {d d′ : News} {b b′ : Bool} → d ≡ d′ → b ≡ b′ → (puts d || b) ≡ (puts d′ || b′)
-held-same p q = cc
+by-limits : {l l′ : Limits} {count : ℕ} {t : Entries} {k : Tale} → l ≡ l′ → Fit l count t k → Fit l′ count t k
+by-limits e f = rw e at f
 
 module _ (l : Limits) (r : Record) (t : List Heard) (g : Agrees l r t) (x : Heard) where
   abbrev e : Event
@@ -72,45 +85,25 @@ module _ (l : Limits) (r : Record) (t : List Heard) (g : Agrees l r t) (x : Hear
   limits-are : limitsOf r ≡ l
   limits-are = rw (g .ban, g .n1)
 
-  -- what is said of network n on access w before and after it
-  abbrev before : ℕ → ℕ → List News
-  before w n = newsOf t w n
+  module _ (v : validOf r ≡ true) (k : isTaken (answeredBy r e (x .octets)) ≡ true) (w : ℕ) (hw : w < 2) where
+    abbrev nets : ℕ → ℕ
+    nets b = accessOf (r .hot) b .net
 
-  abbrev said : ℕ → ℕ → News
-  said w n = eventNews (homeOf t) (pendingOf t) (isHeld (before w n)) w n e (x .octets)
+    abbrev before : Tale
+    before = taleOf l t w
 
-  module _ (v : validOf r ≡ true) (k : isTaken (answeredBy r e (x .octets)) ≡ true) (w n : ℕ) (hw : w < 2) where
-    said-same : newsIn r e (x .octets) w n ≡ said w n
-    said-same =
-        alike (g .home) (g .held w n hw) (λ (v : ℕ). accessOf (r .hot) v .net) (pendingOf t) w n (g .pending w hw) e (x .octets)
-        (g .pending (accessIn e) (small r e (x .octets) k))
+    -- its news
+    abbrev said : ℕ → News
+    said n = eventNews (homeOf t) (pendingOf t) (isOneOf n (before .held)) w n e (x .octets)
 
-    -- a card change
-    card-told : (d : Event) → isCardChange d ≡ true → isTaken (answeredBy r d (x .octets)) ≡ true
-        → (cellOf (next r d (x .octets)) w n ≡ saidBy l []) × (heldIn (next r d (x .octets)) w n ≡ false)
-    unfolding isCardChange
-    card-told (Card home) c k = (card-cell r home (x .octets) k w n hw ∙ sym (said-none l), card-held r home (x .octets) k w n hw)
-    card-told (Start b manual net code) c k = absurd (false≢true c)
-    card-told (Message b protected draw) c k = absurd (false≢true c)
-    card-told (Timer number b) c k = absurd (false≢true c)
-    card-told Power c k = absurd (false≢true c)
-    card-told (Key b set) c k = absurd (false≢true c)
-    card-told (Update b regtype net code uplink sessions) c k = absurd (false≢true c)
-    card-told Import c k = absurd (false≢true c)
-    card-told Unknown c k = absurd (false≢true c)
+    said-same : (n : ℕ) → said n ≡ newsIn r (λ m. isOneOf m (before .held)) e (x .octets) w n
+    said-same n = sym (alike (g .home) (isOneOf n (before .held)) nets (pendingOf t) w n (g .pending w hw) e (x .octets) (g .pending (accessIn e) (small r e (x .octets) k)))
 
-    -- a taken event: the cell, and whether there is an entry
-    taken-told : (cellOf (next r e (x .octets)) w n ≡ saidBy l (newsOf (x ∷ t) w n)) × (heldIn (next r e (x .octets)) w n ≡ isHeld (newsOf (x ∷ t) w n))
-    unfolding newsOf isHeld
-    taken-told = go (isCardChange e) refl
-      where
-        go : (b : Bool) → isCardChange e ≡ b → (cellOf (next r e (x .octets)) w n ≡ saidBy l (cond (isCardChange e) [] (said w n ∷ before w n)))
-            × (heldIn (next r e (x .octets)) w n ≡ isHeld (cond (isCardChange e) [] (said w n ∷ before w n)))
-        go true q = rw q (card-told e q k)
-        go false q = rw q (
-          event-cell r v (g .sized .e0) (g .sized .e1) e (x .octets) k q w n hw ∙ after-same limits-are said-same (g .cells w n hw) ∙ sym (said-step l (said w n) (before w n)),
-          event-held r v (g .sized .e0) (g .sized .e1) e (x .octets) k q w n hw ∙ held-same said-same (g .held w n hw),
-        )
+    taken-told : Fit l (accessOf (next r e (x .octets) .hot) w .entries) (entriesIn (next r e (x .octets)) w) (taleOf l (x ∷ t) w)
+    unfolding taleOf taleAfter
+    taken-told =
+        rw (← by-alike l nets (pendingOf t) w (g .pending w hw) said e (x .octets) before)
+        (rw limits-are at (event-fit r v (g .sized .e0) (g .sized .e1) e (x .octets) k w hw before (by-limits (sym limits-are) (g .tale w hw)) said said-same))
 
   agrees-taken : validOf r ≡ true → isTaken (answeredBy r e (x .octets)) ≡ true → Sized (next r e (x .octets)) → Agrees l (next r e (x .octets)) (x ∷ t)
   unfolding homeOf pendingOf
@@ -120,8 +113,8 @@ module _ (l : Limits) (r : Record) (t : List Heard) (g : Agrees l r t) (x : Hear
     n1 = n1-step r e (x .octets) k ∙ g .n1;
     home = home-step r e (x .octets) k ∙ ap (homeAfter e) (g .home);
     pending = λ w hw. net-step r e (x .octets) k w hw ∙ ap (pendingAfter w e) (g .pending w hw);
-    cells = λ w n hw. taken-told v k w n hw .0;
-    held = λ w n hw. taken-told v k w n hw .1;
+    few = λ w hw. event-few r v e (x .octets) k w hw (g .few w hw);
+    tale = λ w hw. taken-told v k w hw;
   }
 
   -- a step, by its answer's number
@@ -161,31 +154,34 @@ module _ (cardlimit banlimit n1limit : ℕ) (capability security : List ℕ) whe
   limits = record { ban = banlimit; n1 = n1limit }
 
   agrees-new : Agrees limits made []
-  unfolding newRecord emptyRecord newDevice newAccess homeOf pendingOf isHeld newsOf accessOf entriesIn cellOf heldIn
+  unfolding newRecord emptyRecord newDevice newAccess homeOf pendingOf taleOf begun accessOf entriesIn
   agrees-new = record {
     sized = new-sized cardlimit banlimit n1limit capability security;
     ban = refl;
     n1 = refl;
     home = refl;
     pending = λ w hw. elim (eqb w 0) as (λ b. cond b (newAccess 0) (newAccess 0) .net ≡ 0) [ true ↦ refl | false ↦ refl ];
-    cells = λ w n hw. elim (eqb w 0) as (λ b. cellIn (cond b (newAccess 0) (newAccess 0) .entries) (cond b none none) n ≡ saidBy limits []) [
-      | true ↦ cell-none 0 n ∙ sym (said-none limits)
-      | false ↦ cell-none 0 n ∙ sym (said-none limits)
-    ];
-    held = λ w n hw. elim (eqb w 0) as (λ b. hasEntry (cond b (newAccess 0) (newAccess 0) .entries) n (cond b none none .nets) ≡ false) [
-      | true ↦ none-held n (none .nets)
-      | false ↦ none-held n (none .nets)
-    ];
+    few = λ w hw. elim (eqb w 0) as (λ b. cond b (newAccess 0) (newAccess 0) .entries ≤ 16) [ true ↦ omega arith | false ↦ omega arith ];
+    tale = λ w hw. elim (eqb w 0) as (λ b. Fit limits (cond b (newAccess 0) (newAccess 0) .entries) (cond b none none) begun) [ true ↦ nothing-told | false ↦ nothing-told ];
   }
+    where
+      nothing-told : Fit limits 0 none begun
+      nothing-told = record { cells = λ n. cell-none 0 n ∙ sym (said-none limits); lined = lined-none (none .nets); order = λ i j h p. absurd (omega arith) }
 
   -- From a new record, whatever its limits, after any events: each network's counters and marks on each access are what the history says.
   pub demand3 : (xs : List Heard) (w n : ℕ) → w < 2 → cellOf (runOf made xs) w n ≡ saidOf limits xs (answersOf made xs) w n
-  unfolding saidOf
-  demand3 xs w n hw = agrees-run limits xs made [] agrees-new .cells w n hw
+  unfolding saidOf cellOf
+  demand3 xs w n hw = agrees-run limits xs made [] agrees-new .tale w hw .cells n
 
-  -- And it has an entry there exactly if the history says so: whether a reject over the other access was skipped is read off the events and answers.
-  pub demand3-held : (xs : List Heard) (w n : ℕ) → w < 2 → heldIn (runOf made xs) w n ≡ isHeld (newsOf (reverse (takenOf xs (answersOf made xs))) w n)
-  demand3-held xs w n hw = agrees-run limits xs made [] agrees-new .held w n hw
+  -- And the entries are those of the networks that the history names, in its order: whether a reject over the other access was skipped, and who gave up its
+  -- place, is read off the events and answers.
+  pub demand3-entries : (xs : List Heard) (w : ℕ) → w < 2 → Lined (accessOf (runOf made xs .hot) w .entries) (entriesIn (runOf made xs) w .nets) (heldOf limits xs (answersOf made xs) w)
+  unfolding heldOf
+  demand3-entries xs w hw = agrees-run limits xs made [] agrees-new .tale w hw .lined
+
+  pub demand3-held : (xs : List Heard) (w n : ℕ) → w < 2 → heldIn (runOf made xs) w n ≡ isOneOf n (heldOf limits xs (answersOf made xs) w)
+  unfolding heldIn
+  demand3-held xs w n hw = lined-has (agrees-run limits xs made [] agrees-new .few w hw) (demand3-entries xs w hw) n
 
   -- the first of what the public call makes, with limits each 1 to 10
   pub demand3-made : mayMake cardlimit banlimit n1limit (length capability) (length security) ≡ true → (xs : List Heard) (w n : ℕ) → w < 2

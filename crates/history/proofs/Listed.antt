@@ -9,7 +9,7 @@ use Rattle.record.specs.Tests.{both, either}
 use Rattle.record.specs.Sides.{accessOf}
 use Rattle.record.specs.New.{newRecord}
 use Rattle.record.specs.declared.Record.{Record}
-use Rattle.entries.specs.Entries.{seenIn}
+use Rattle.entries.specs.Entries.{foundIn, seenIn}
 use Rattle.rules.specs.declared.Event.the-variants.{Start, Update}
 use Rattle.rules.specs.Plan.{askOf}
 use Rattle.checks.specs.Answers.{isFree}
@@ -17,7 +17,8 @@ use Rattle.events.specs.Parts.{sightOf, seenBy, seenOf}
 use Rattle.validity.specs.Answered.{seenAt}
 use Rattle.validity.specs.Run.{Heard, runOf}
 use Rattle.history.specs.Cell.{cellIn, entriesIn, cellOf}
-use Rattle.history.specs.History.{Cell, saidOf}
+use Rattle.history.specs.Tale.{Cell}
+use Rattle.history.specs.History.{saidOf}
 use Rattle.history.specs.Run.{answersOf}
 use Rattle.history.proofs.Demand3.{demand3}
 
@@ -26,7 +27,7 @@ abbrev pub passes : ℕ → Cell → Bool
 passes manual c = both (eqb (c .barred) 0) (either (eqb (c .forbidden) 0) (eqb manual 1))
 
 pub seen : (r : Record) (w manual net code : ℕ) (octets : List ℕ) → w < 2 → isFree manual (seenAt r (Start w manual net code) octets) ≡ passes manual (cellOf r w net)
-unfolding isFree askOf seenOf seenBy sightOf seenIn cellOf cellIn entriesIn accessOf
+unfolding isFree askOf seenOf seenBy sightOf seenIn foundIn cellOf cellIn entriesIn accessOf
 seen r zero manual net code octets h = refl
 seen r (suc zero) manual net code octets h = refl
 seen r (suc (suc w)) manual net code octets h = absurd (omega arith)

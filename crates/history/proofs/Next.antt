@@ -24,9 +24,8 @@ use Rattle.events.specs.Parts.{tableAfter, withCounts, doneOf, carriedOut, guti
 use Rattle.events.specs.Step.{together, joinedOf, advanceOf}
 use Rattle.validity.specs.Answered.{answeredBy}
 use Rattle.validity.proofs.Refusal.{carry, effectIn, taken-plan}
-use Rattle.validity.specs.Sized.{Columns}
 use Rattle.history.specs.Cell.{entriesIn}
-use Rattle.history.specs.History.{Limits}
+use Rattle.history.specs.Tale.{Limits}
 
 -- access w of two
 access-of : (d : Device) (b : ℕ) (mine theirs : Access) (w : ℕ) → b < 2 → w < 2 → accessOf (hotOf d b mine theirs) w ≡ cond (eqb b w) mine theirs
@@ -141,8 +140,3 @@ module _ (r : Record) where
   -- the limits of the network counters
   abbrev pub limitsOf : Limits
   limitsOf = record { ban = r .hot .dev .banlimit; n1 = r .hot .dev .n1limit }
-
-  module _ (c0 : Columns (r .e0)) (c1 : Columns (r .e1)) where
-    pub columns : (w : ℕ) → Columns (entriesIn r w)
-    unfolding entriesIn
-    columns w = elim (eqb w 0) as (λ s. Columns (cond s (r .e0) (r .e1))) [ true ↦ c0 | false ↦ c1 ]

@@ -12,7 +12,8 @@ use Rattle.octets.specs.declared.Ending.the-variants.{Broken, Whole}
 use Rattle.messages.specs.declared.Reading.{Reading}
 use Rattle.messages.specs.declared.Reading.the-variants as reading
 use Rattle.messages.specs.Message.{endedBy, acceptedOf, acceptReading, rejectOf, rejectedOf, rejectReading, typeReading, openedBy, readingOf}
-use Rattle.history.specs.History.{News, messageNews}
+use Rattle.history.specs.Tale.{News}
+use Rattle.history.specs.History.{messageNews}
 use Rattle.history.proofs.Said.{quiet}
 
 -- what a reading is for the network, by what an accept is and what a reject is by its cause

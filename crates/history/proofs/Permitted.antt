@@ -32,7 +32,8 @@ use Rattle.validity.proofs.Good.{Good}
 use Rattle.validity.proofs.Valid.{valid-good}
 use Rattle.history.specs.Run.{answersOf}
 use Rattle.history.specs.Cell.{columnIn, cellIn, entriesIn, cellOf}
-use Rattle.history.specs.History.{Cell, saidOf}
+use Rattle.history.specs.Tale.{Cell}
+use Rattle.history.specs.History.{saidOf}
 use Rattle.history.specs.Permitted.{isIn, firstHeard, isUnmarked}
 use Rattle.history.proofs.Demand3.{demand3-made}
 use Rattle.history.proofs.Listed.{passes, seen}

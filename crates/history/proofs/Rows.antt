@@ -3,9 +3,10 @@ use Prim.Native.Nat.{ℕ}
 use mathlib.Core.Path.{_≡_, refl, sym, _∙_, ap}
 use mathlib.Core.Bool.{Bool, true, false, cond, not, _&&_}
 use mathlib.Core.List.{List}
-use lib.Dec.{eqb}
+use lib.Dec.{leb, eqb}
 use borrow.Author.Tests.{eqb-true}
 use Rattle.record.specs.Tests.{both, flip}
+use Rattle.entries.specs.declared.Entries.{Entries}
 use Rattle.entries.specs.declared.Seat.{Seat}
 use Rattle.entries.specs.declared.Deed.{Deed}
 use Rattle.entries.specs.declared.Deed.the-variants as deed
@@ -14,9 +15,10 @@ use Rattle.turns.specs.declared.Row.the-variants.{CardBelow, CardLimit, CardPro
 use Rattle.turns.specs.Words.{Mark, noMark, forbiddenAndCounted, n1NotAllowedAndCounted, isMark, markIn, holds, isN1Across, acrossOf}
 use Rattle.turns.specs.Rejects.{isCard, isNetworkNo, isAreaNo, isN1No, isCongested, isProtocol, rowOf, rowText, needsEntry, acrossN1}
 use Rattle.effects.specs.Effects.{markDeed, rowDeed}
-use Rattle.history.specs.History.{struck, toLimit, nothing, News, news, causeNews}
+use Rattle.history.specs.Tale.{Limits, struck, toLimit, nothing, News, news, isPut, puts, Tale, told, rejected}
+use Rattle.history.specs.History.{causeNews}
 use Rattle.history.proofs.Said.{banned, barred, quiet}
-use Rattle.history.proofs.Cells.{Seated, Free, Fits, deedNews}
+use Rattle.history.proofs.Deeds.{Seated, Fits, deedNews, deedTale}
 
 -- what a row is for the network
 abbrev pub rowNews : Row → Bool → News
@@ -128,13 +130,28 @@ pub across-deed : (s : Bool) (net : ℕ) (octets : List ℕ) (held : Bool) (n : 
 across-deed true net octets held n = refl
 across-deed false net octets held n = still-quiet (eqb net n && held)
 
--- the entry that a row needs is there or free
-mark-fits : (m : Mark) (s : Seat) (filed : ℕ) (octets : List ℕ) (count : ℕ) (nets : List ℕ) → Seated s count nets → (isMark m ≡ true → Free s count nets) → Fits (markDeed m s) filed octets count nets
+-- the entry that a row needs has a place
+mark-fits : (m : Mark) (s : Seat) (many : ℕ) (octets : List ℕ) (count : ℕ) (t : Entries) → Seated s count t → (isMark m ≡ true → leb 16 (s .at) ≡ false) → Fits (markDeed m s) many octets count t
 unfolding markDeed isMark
-mark-fits noMark s filed octets count nets i f = tt
-mark-fits forbiddenAndCounted s filed octets count nets i f = (i, f refl)
-mark-fits n1NotAllowedAndCounted s filed octets count nets i f = (i, f refl)
+mark-fits noMark s many octets count t i f = tt
+mark-fits forbiddenAndCounted s many octets count t i f = (i, f refl)
+mark-fits n1NotAllowedAndCounted s many octets count t i f = (i, f refl)
 
-pub row-fits : (row : Row) (s : Seat) (filed : ℕ) (octets : List ℕ) (count : ℕ) (nets : List ℕ) → Seated s count nets → (needsEntry row ≡ true → Free s count nets) → Fits (rowDeed row s) filed octets count nets
+pub row-fits : (row : Row) (s : Seat) (many : ℕ) (octets : List ℕ) (count : ℕ) (t : Entries) → Seated s count t → (needsEntry row ≡ true → leb 16 (s .at) ≡ false) → Fits (rowDeed row s) many octets count t
 unfolding rowDeed needsEntry
-row-fits row s filed octets count nets i f = mark-fits (markIn (rowText row)) s filed octets count nets i f
+row-fits row s many octets count t i f = mark-fits (markIn (rowText row)) s many octets count t i f
+
+-- a reject marks exactly if its row has a word for the network
+pub row-tale : (l : Limits) (row : Row) (s : Seat) (octets : List ℕ) (p : Bool) (d : ℕ → News) (k : Tale)
+    → deedTale l (rowDeed row s) octets d k ≡ cond (puts (rowNews row p)) (rejected l (s .net) d k) (told d k)
+unfolding rowDeed markDeed rowText markIn puts isPut
+row-tale l CardBelow s octets p d k = refl
+row-tale l CardLimit s octets p d k = refl
+row-tale l CardProtected s octets p d k = refl
+row-tale l Away s octets p d k = refl
+row-tale l Home s octets p d k = refl
+row-tale l Area s octets p d k = refl
+row-tale l N1 s octets p d k = refl
+row-tale l Congested s octets p d k = refl
+row-tale l Protocol s octets p d k = refl
+row-tale l Other s octets p d k = refl

@@ -7,7 +7,7 @@ use native.Mathlib.Omega.{arith}
 use lib.Dec.{ltb}
 use borrow.Author.Tests.{ltb-true, ltb-false, lt-ltb, le-ltb, ne-eqb}
 use Rattle.entries.specs.Entries.{liftMark}
-use Rattle.history.specs.History.{Cell, Limits, Word, struck, put, toLimit, cleared, tested, nothing, News, news, isCounted, some, many, counterOf, isBegun, stands, markOf, bansIn, barsIn, saidBy}
+use Rattle.history.specs.Tale.{Cell, Limits, Word, struck, put, toLimit, cleared, tested, nothing, News, news, isCounted, any, many, counterOf, isBegun, stands, markOf, bansIn, barsIn, saidBy}
 
 -- the news of each event
 abbrev pub banned : Bool → News
@@ -88,9 +88,9 @@ lift limit (suc n) s = rw (lt-ltb 0 (suc n) (omega arith), ne-eqb (suc n) 0 (λ 
     go false s = refl
 
 counted : (limit : ℕ) (d : Word) (ds : List Word) → counterOf limit (d ∷ ds) ≡ countAfter limit d (counterOf limit ds)
-unfolding counterOf countAfter some many isCounted
+unfolding counterOf countAfter any many isCounted
 counted limit (struck true) ds = refl
-counted limit (struck false) ds = one-more (some (isCounted true) ds) limit (many (isCounted false) ds)
+counted limit (struck false) ds = one-more (any (isCounted true) ds) limit (many (isCounted false) ds)
 counted limit put ds = refl
 counted limit toLimit ds = refl
 counted limit cleared ds = refl
@@ -110,7 +110,7 @@ none : (limit : ℕ) → min 0 limit ≡ 0
 none limit = omega arith
 
 pub said-none : (l : Limits) → saidBy l [] ≡ blank
-unfolding saidBy counterOf some many stands
+unfolding saidBy counterOf any many stands
 said-none l = cc (none (l .ban), none (l .n1))
 
 pub said-step : (l : Limits) (d : News) (ds : List News) → saidBy l (d ∷ ds) ≡ cellAfter l d (saidBy l ds)

@@ -20,7 +20,7 @@ use Rattle.entries.specs.declared.Seen.{Seen}
 use Rattle.entries.specs.declared.Seat.{Seat}
 use Rattle.entries.specs.declared.Deed.{Deed}
 use Rattle.entries.specs.declared.Deed.the-variants as deed
-use Rattle.entries.specs.Entries.{seenIn, seatOf, grown, heldWith}
+use Rattle.entries.specs.Entries.{foundIn, seenIn, seatOf, grown, heldWith}
 use Rattle.messages.specs.declared.Reading.{Reading}
 use Rattle.messages.specs.declared.Reading.the-variants as reading
 use Rattle.messages.specs.Message.{readingOf}
@@ -41,7 +41,7 @@ use Rattle.validity.proofs.Refusal.{effectIn}
 use Rattle.validity.proofs.Own.{seatIn}
 use Rattle.validity.proofs.Taken.{start-passed, message-passed, timer-passed, key-passed, update-passed, import-passed}
 use Rattle.history.specs.Cell.{entriesIn}
-use Rattle.history.proofs.Cells.{countBy}
+use Rattle.history.proofs.Deeds.{countBy}
 use Rattle.history.proofs.Next.{other-of}
 
 flag-small : (w : ℕ) → isFlag w ≡ true → w < 2
@@ -179,8 +179,8 @@ module _ (r : Record) where
 
   -- what is seen of the pending network is its seat on the message's access
   pub seen-seat : (octets : List ℕ) (b protected : ℕ) (draws : Draws) → b < 2 → (p : ℕ)
-      → seatOf (seenAt r (Message b protected draws) octets) (accessOf h b .net) p ≡ seatIn (accessOf h b .entries) (accessOf h b .net) p (entriesIn r b .nets)
-  unfolding askOf seenOf seenBy sightOf seenIn accessOf entriesIn
+      → seatOf (seenAt r (Message b protected draws) octets) (accessOf h b .net) p ≡ seatIn (accessOf h b .entries) (accessOf h b .net) p (entriesIn r b)
+  unfolding askOf seenOf seenBy sightOf seenIn foundIn accessOf entriesIn
   seen-seat octets zero protected draws hb p = refl
   seen-seat octets (suc zero) protected draws hb p = refl
   seen-seat octets (suc (suc b)) protected draws hb p = absurd (omega arith)

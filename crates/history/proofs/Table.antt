@@ -16,7 +16,7 @@ use Rattle.rules.specs.Plan.{accessIn}
 use Rattle.validity.specs.Answered.{answeredBy}
 use Rattle.validity.proofs.Refusal.{effectIn}
 use Rattle.history.specs.Cell.{entriesIn}
-use Rattle.history.proofs.Cells.{countBy}
+use Rattle.history.proofs.Deeds.{countBy}
 use Rattle.history.proofs.Next.{other-of, next, deedIn, taken-entries, taken-count}
 use Rattle.history.proofs.Stays.{filedIn, small, event-counts}
 

@@ -2,7 +2,7 @@
 -- file exactly if its own entry is marked, since it has no other; the file reads back as the networks written; and an import puts exactly those on the list. Assumes nothing.
 use Prim.Native.Nat.{ℕ, zero, suc, _+_, _*_, _%_, _≤_, _<_}
 use mathlib.Core.Path.{_≡_, refl, sym, _∙_, ap}
-use mathlib.Core.Bool.{Bool, true, false, cond, false≢true, _&&_, _||_}
+use mathlib.Core.Bool.{Bool, true, false, cond, false≢true, _||_}
 use mathlib.Core.List.{List, [], _∷_, _++_}
 use mathlib.Core.Logic.{_≢_}
 use native.Mathlib.Omega.{arith}
@@ -10,12 +10,12 @@ use lib.Dec.{leb, ltb, eqb}
 use lib.ListN.{length, getD}
 use borrow.Author.Tests.{leb-true, le-leb, ltb-true, ltb-false, lt-ltb, le-ltb, eqb-true, eqb-false, ne-eqb}
 use Rattle.laws.specs.Upto.{seekTo, every}
-use Rattle.laws.proofs.Seek.{seek-le, seek-found, seek-before, seek-is}
+use Rattle.laws.proofs.Seek.{seek-found, seek-before, seek-is}
 use Rattle.networks.specs.Networks.{networksIn}
 use Rattle.entries.specs.Places.{sameNet, entriesHeld, placeIn, hasEntry, peekAt}
-use Rattle.entries.specs.Entries.{newIn, heldWith}
+use Rattle.entries.specs.Entries.{isAmong, newIn, heldWith}
 use Rattle.entries.proofs.Joining.{held-fits}
-use Rattle.record.specs.Tests.{both, isFlag}
+use Rattle.record.specs.Tests.{isFlag}
 use Rattle.record.specs.Network.{isNetwork}
 use Rattle.record.specs.Answers.{isTaken}
 use Rattle.record.specs.Sides.{accessOf}
@@ -46,22 +46,21 @@ use Rattle.validity.proofs.Refusal.{answer-told, step-taken}
 use Rattle.validity.proofs.Sizes.{advance-sized}
 use Rattle.validity.proofs.Valid.{valid-good}
 use Rattle.history.specs.Cell.{cellIn, entriesIn, cellOf}
-use Rattle.history.specs.History.{Cell, Limits, eventNews, isCardChange, markOf}
+use Rattle.history.specs.Tale.{Cell, Limits, markOf}
 use Rattle.history.proofs.Said.{markAfter, cellAfter, imported, quiet}
-use Rattle.history.proofs.Files.{isAmong, named-is}
 use Rattle.history.proofs.Next.{limitsOf}
-use Rattle.history.proofs.News.{event-cell}
+use Rattle.history.proofs.News.{import-cell}
 
 among-more : (n : ℕ) (xs : List ℕ) (y : ℕ) → isAmong n (xs ++ (y ∷ [])) ≡ (isAmong n xs || eqb y n)
 unfolding isAmong
 among-more n [] y = either-last (eqb y n)
   where
-    either-last : (b : Bool) → (b || false) ≡ b
+    either-last : (b : Bool) → cond b true false ≡ b
     either-last true = refl
     either-last false = refl
-among-more n (x ∷ xs) y = ap (λ (s : Bool). eqb x n || s) (among-more n xs y) ∙ assoc (eqb x n) (isAmong n xs) (eqb y n)
+among-more n (x ∷ xs) y = ap (λ (s : Bool). cond (eqb x n) true s) (among-more n xs y) ∙ assoc (eqb x n) (isAmong n xs) (eqb y n)
   where
-    assoc : (a b c : Bool) → (a || (b || c)) ≡ ((a || b) || c)
+    assoc : (a b c : Bool) → cond a true (b || c) ≡ (cond a true b || c)
     assoc true b c = refl
     assoc false b c = refl
 
@@ -281,11 +280,11 @@ module _ (r : Record) (file : List ℕ) (t : isTaken (writeAnswer r (length file
     put-or-not l false c e = e
 
     pub same-marks : (net : ℕ) → cellOf (stepOf g Import written .next) 0 net .forbidden ≡ cellOf r 0 net .forbidden
-    unfolding isCardChange eventNews isTaken
+    unfolding isTaken
     same-marks net =
         rw (step-advances g Import written v)
-        (ap (λ (c : Cell). c .forbidden) (event-cell g v (z .e0) (z .e1) Import written (ap isTaken taken) refl 0 net (omega arith))
-        ∙ rw (← named-is net written, read-back) (put-or-not (limitsOf g) (isAmong net ms) (cellOf g 0 net) (unmarked net)) ∙ sym (was net))
+        (ap (λ (c : Cell). c .forbidden) (import-cell g v (z .e0) written (ap isTaken taken) net)
+        ∙ rw read-back (put-or-not (limitsOf g) (isAmong net ms) (cellOf g 0 net) (unmarked net)) ∙ sym (was net))
 
   -- "reading what was written into a record just given that card gives the same forbidden marks"
   module _ (q : Record) (z : Sized q) (home : ℕ) (suci : List ℕ) (o : Octets suci) (k : isTaken (stepOf q (Card home) suci .reply .answer) ≡ true) where

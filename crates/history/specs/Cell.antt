@@ -1,13 +1,15 @@
--- What a record holds of one network on one access, and whether it has an entry there. Assumes nothing.
-use Prim.Native.Nat.{ℕ}
+-- What a record holds of one network on one access, whether it has an entry there, and whose entries those are. Assumes nothing.
+use Prim.Native.Nat.{ℕ, _<_}
+use mathlib.Core.Path.{_≡_}
 use mathlib.Core.Bool.{Bool, cond}
 use mathlib.Core.List.{List}
 use lib.Dec.{eqb}
+use lib.ListN.{length, getD}
 use Rattle.entries.specs.declared.Entries.{Entries}
 use Rattle.entries.specs.Places.{entriesHeld, placeIn, hasEntry, peekAt}
 use Rattle.record.specs.declared.Record.{Record}
 use Rattle.record.specs.Sides.{accessOf}
-use Rattle.history.specs.History.{Cell}
+use Rattle.history.specs.Tale.{Cell}
 
 -- a column at the network's place; 0 where it has no entry
 abbrev pub columnIn : ℕ → List ℕ → List ℕ → ℕ → ℕ
@@ -31,3 +33,8 @@ cellOf r w n = cellIn (accessOf (r .hot) w .entries) (entriesIn r w) n
 
 unfoldable pub heldIn : Record → ℕ → ℕ → Bool
 heldIn r w n = hasEntry (accessOf (r .hot) w .entries) n (entriesIn r w .nets)
+
+-- so many entries are those of the networks of a list, in its order
+pub record Lined (count : ℕ) (nets held : List ℕ) : Type 0 where
+  pub many : length held ≡ count
+  pub same : (i : ℕ) → i < count → getD nets i 0 ≡ getD held i 0

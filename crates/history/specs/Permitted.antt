@@ -8,7 +8,7 @@ use Rattle.laws.specs.Upto.{seekTo}
 use Rattle.entries.specs.Places.{sameNet}
 use Rattle.record.specs.Tests.{both}
 use Rattle.cells.specs.Cells.{among}
-use Rattle.history.specs.History.{Cell}
+use Rattle.history.specs.Tale.{Cell}
 
 abbrev pub isIn : ℕ → List ℕ → Bool
 isIn x xs = among xs x (length xs)

@@ -1,4 +1,5 @@
 -- Laws of the definitions over arrays of numbers, and of contracts.
+pub mod Arrays
 pub mod Lists
 pub mod One
 pub mod Seek

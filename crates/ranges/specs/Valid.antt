@@ -118,6 +118,13 @@ onceOf r =
     (both (distinctTo itself (r .hot .a1 .entries) (r .e1 .nets))
     (both (distinctTo halved (r .hot .dev .roaming) (r .roaming)) (distinctTo halved (r .hot .dev .regional) (r .regional))))
 
+-- the order of an access's entries by their last marking (document 02, R-9): each rank below their number, and none twice
+abbrev pub isBelow : ℕ → ℕ → Bool
+isBelow n k = ltb k n
+
+unfoldable pub orderOf : Access → Entries → Bool
+orderOf a t = both (allTo (isBelow (a .entries)) (a .entries) (t .ranks)) (distinctTo itself (a .entries) (t .ranks))
+
 unfoldable pub validOf : Record → Bool
 validOf r =
     both (rangesOf r)
@@ -125,4 +132,5 @@ validOf r =
     (both (cardOf (r .hot))
     (both (suciOf (r .hot .dev) (r .suci))
     (both (codesOf r)
-    (both (both (clockOf (r .hot .a0)) (clockOf (r .hot .a1))) (onceOf r))))))
+    (both (both (clockOf (r .hot .a0)) (clockOf (r .hot .a1)))
+    (both (onceOf r) (both (orderOf (r .hot .a0) (r .e0)) (orderOf (r .hot .a1) (r .e1)))))))))

@@ -5,7 +5,7 @@ ghost use Prim.Native.Nat.{_≤_};
 ghost use Rattle.laws.specs.Upto.{allTo, distinctTo, seekTo, sameBy};
 ghost use Rattle.record.specs.Tests.{upTo, isShort};
 ghost use Rattle.record.specs.Network.{isNetwork};
-ghost use Rattle.ranges.specs.Valid.{isItem, itself, halved};
+ghost use Rattle.ranges.specs.Valid.{isItem, isBelow, itself, halved};
 
 pub(crate) fn limited(xs: &[u8; 16], count: u8, limit: u8) -> bool
     requires { ⌜ count ≤ 16 ⌝ }
@@ -120,6 +120,51 @@ pub(crate) fn listed_once(xs: &[u64; 40], count: u8) -> bool
     while i < n {
         let item = xs[i];
         if place_of(xs, i, item) != i {
+            return false;
+        }
+        i += 1;
+    }
+    true
+}
+
+pub(crate) fn below(xs: &[u8; 16], count: u8) -> bool
+    requires { ⌜ count ≤ 16 ⌝ }
+    ensures { λ r. ⌜ r ≡ allTo (isBelow count) count (now (xs .entry)) ⌝ }
+{
+    let n = count as usize;
+    let mut i = 0;
+    while i < n {
+        if count <= xs[i] {
+            return false;
+        }
+        i += 1;
+    }
+    true
+}
+
+fn ranked(xs: &[u8; 16], n: usize, rank: u8) -> usize
+    requires { ⌜ n ≤ 16 ⌝ }
+    ensures { λ r. ⌜ r ≡ seekTo (sameBy itself rank) n (now (xs .entry)) ⌝ }
+{
+    let mut i = 0;
+    while i < n {
+        if xs[i] == rank {
+            return i;
+        }
+        i += 1;
+    }
+    i
+}
+
+pub(crate) fn apart(xs: &[u8; 16], count: u8) -> bool
+    requires { ⌜ count ≤ 16 ⌝ }
+    ensures { λ r. ⌜ r ≡ distinctTo itself count (now (xs .entry)) ⌝ }
+{
+    let n = count as usize;
+    let mut i = 0;
+    while i < n {
+        let rank = xs[i];
+        if ranked(xs, i, rank) != i {
             return false;
         }
         i += 1;

@@ -1,4 +1,6 @@
 // What makes a record valid: one that is not is answer 1.
+use columns::apart;
+use columns::below;
 use columns::items;
 use columns::limited;
 use columns::listed_once;
@@ -19,7 +21,7 @@ ghost use mathlib.Core.Path.{_≡_};
 ghost use mathlib.Core.Bool.{true};
 ghost use Prim.Native.Nat.{_≤_};
 ghost use Rattle.record.specs.Tests.{both};
-ghost use Rattle.ranges.specs.Valid.{deviceRanges, periodicRanges, deviceNumbers, modeRanges, pendingRanges, identityRanges, heldRanges, accessRanges, rangesOf, countersOf, cardOf, suciOf, codesOf, clockOf, onceOf, validOf};
+ghost use Rattle.ranges.specs.Valid.{deviceRanges, periodicRanges, deviceNumbers, modeRanges, pendingRanges, identityRanges, heldRanges, accessRanges, rangesOf, countersOf, cardOf, suciOf, codesOf, clockOf, onceOf, orderOf, validOf};
 
 mod columns;
 
@@ -198,7 +200,25 @@ fn singles(r: Record) -> bool
     all(x, y, z, w)
 }
 
-// The rules over the numbers, around those over the columns in their places: whether the networks are codes, and each is there once.
+fn ordered(a: Access, t: Entries) -> bool
+    requires { ⌜ a .entries ≤ 16 ⌝ }
+    ensures { λ r. ⌜ r ≡ orderOf a t ⌝ }
+{
+    let n = a.entries;
+    and(below(&t.ranks, n), apart(&t.ranks, n))
+}
+
+fn orders(r: Record) -> bool
+    requires { ⌜ rangesOf r ≡ true ⌝ }
+    ensures { λ o. ⌜ o ≡ both (orderOf (r .hot .a0) (r .e0)) (orderOf (r .hot .a1) (r .e1)) ⌝ }
+{
+    let h = r.hot;
+    let x = ordered(h.a0, r.e0);
+    let y = ordered(h.a1, r.e1);
+    and(x, y)
+}
+
+// The rules over the numbers, around those over the columns in their places: whether the networks are codes, and each is there once, in an order.
 fn settled(h: Hot, suci: &[u8; 64], codes: bool, singles: bool) -> bool
     ensures { λ r. ⌜ r ≡ both (cardOf h) (both (suciOf (h .dev) (now (suci .entry))) (both codes (both (both (clockOf (h .a0)) (clockOf (h .a1))) singles))) ⌝ }
 {
@@ -212,7 +232,7 @@ fn kept(r: Record) -> bool
     ensures { λ o. ⌜ o ≡ validOf r ⌝ }
 {
     let x = codes(r);
-    let y = singles(r);
+    let y = and(singles(r), orders(r));
     and(counted(r), settled(r.hot, &r.suci, x, y))
 }
 

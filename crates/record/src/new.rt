@@ -76,6 +76,7 @@ fn blank() -> Entries
         n1s: [0; 16],
         forbidden: [0; 16],
         barred: [0; 16],
+        ranks: [0; 16],
     }
 }
 

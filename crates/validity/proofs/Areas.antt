@@ -18,7 +18,7 @@ use Rattle.record.specs.Tests.{upTo, isShort}
 use Rattle.ranges.specs.Valid.{isItem, halved}
 use Rattle.validity.proofs.Bools.{most-is}
 use Rattle.laws.proofs.Seek.{seek-found, seek-before}
-use Rattle.validity.proofs.Arrays.{set-reads}
+use Rattle.laws.proofs.Arrays.{set-reads}
 use Rattle.validity.proofs.Good.{Listing}
 use Rattle.validity.proofs.Filter.{kept-le, kept-all, kept-once}
 

@@ -3,7 +3,7 @@ use Prim.Native.Nat.{ℕ}
 use mathlib.Core.Path.{_≡_, refl}
 use mathlib.Core.Bool.{true}
 use mathlib.Core.List.{List}
-use Rattle.entries.specs.Entries.{entriesAfter}
+use Rattle.entries.specs.Entries.{none, marksAfter, ranksAfter, isImport, withFile, entriesAfter}
 use Rattle.areas.specs.Areas.{listAfter, countAfter}
 use Rattle.record.specs.declared.Record.{Record}
 use Rattle.record.specs.Answers.{isTaken}
@@ -22,5 +22,5 @@ use Rattle.validity.proofs.Refusal.{taken-plan}
 
 pub card-is-new : (r : Record) (home : ℕ) (suci : List ℕ) → isTaken (answeredBy r (Card home) suci) ≡ true
     → advanceOf r (Card home) suci .next ≡ cardRecord r home suci
-unfolding cardRecord emptyRecord newDevice newAccess carded ticked joinedOf together carriedOut doneOf withCounts takenPlan hotAfter hotOf effectOf cardEffect renewed clocked flagAfter accessIn tableAfter deedOf deedOn entriesAfter listAfter countAfter keptAfter gutiAfter equivalentsAfter suciAfter
+unfolding cardRecord emptyRecord newDevice newAccess carded ticked joinedOf together carriedOut doneOf withCounts takenPlan hotAfter hotOf effectOf cardEffect renewed clocked flagAfter accessIn tableAfter deedOf deedOn none entriesAfter withFile isImport ranksAfter marksAfter listAfter countAfter keptAfter gutiAfter equivalentsAfter suciAfter
 card-is-new r home suci taken = rw (taken-plan r (Card home) suci taken) refl

@@ -8,7 +8,7 @@ use lib.Dec.{eqb}
 use lib.ListN.{length, getD}
 use borrow.Author.Tests.{le-leb}
 use Rattle.laws.specs.Upto.{upto, copied}
-use Rattle.entries.specs.Entries.{swept, powered, none, entriesAfter}
+use Rattle.entries.specs.Entries.{swept, powered, none, marksAfter, ranksAfter, isImport, withFile, entriesAfter}
 use Rattle.areas.specs.declared.Task.the-variants as task
 use Rattle.record.specs.declared.Record.{Record}
 use Rattle.record.specs.Tests.{within, isShort}
@@ -47,7 +47,7 @@ none-short xs k h = absurd (omega arith)
 module _ (r : Record) (g : Good r) (z : Sized r) (octets : List ℕ) where
   -- T3247 out: marks clear by their counters, and areas marked unprotected leave their lists
   pub t3247-good : Good (carry r octets (takenPlan (r .hot) 0 (t3247Effect (r .hot) 0)) .next)
-  unfolding takenPlan t3247Effect accessOf otherOf hotAfter hotOf ticked tableAfter entriesAfter deedOf deedOn equivalentsAfter suciAfter suciOf
+  unfolding takenPlan t3247Effect accessOf otherOf hotAfter hotOf ticked tableAfter swept entriesAfter withFile isImport ranksAfter marksAfter deedOf deedOn equivalentsAfter suciAfter suciOf
   t3247-good =
       let a = half-turned (r .hot .dev) (r .hot .a0 .equivalents) (r .hot .a0 .entries) (after (turns.still (r .hot .a0))) (r .equivalents0)
       (swept (r .hot .a0 .entries) (r .hot .dev .banlimit) (r .hot .dev .n1limit) (r .e0))
@@ -66,7 +66,7 @@ module _ (r : Record) (g : Good r) (z : Sized r) (octets : List ℕ) where
 
   -- power cycle: forbidden marks clear by the same test, N1 marks and areas clear
   pub power-good : Good (carry r octets (takenPlan (r .hot) 0 (powerEffect (r .hot))) .next)
-  unfolding takenPlan powerEffect hotAfter hotOf ticked tableAfter entriesAfter deedOf deedOn equivalentsAfter suciAfter suciOf
+  unfolding takenPlan powerEffect hotAfter hotOf ticked tableAfter powered entriesAfter withFile isImport ranksAfter marksAfter deedOf deedOn equivalentsAfter suciAfter suciOf
   power-good =
       let a = half-turned (r .hot .dev) (r .hot .a0 .equivalents) (r .hot .a0 .entries) (after (turns.cycled (r .hot .dev .card) (r .hot .a0))) (r .equivalents0)
       (powered (r .hot .a0 .entries) (r .hot .dev .banlimit) (r .e0))
@@ -86,7 +86,7 @@ module _ (r : Record) (g : Good r) (z : Sized r) (octets : List ℕ) where
   -- card change: a new record's, with this card
   pub card-good : (home : ℕ) → isNetwork home ≡ true → within 9 64 (length octets) ≡ true → eqb (getD octets 0 0) 1 ≡ true
       → Good (carry r octets (takenPlan (r .hot) 0 (cardEffect (r .hot) home (length octets))) .next)
-  unfolding takenPlan cardEffect carded hotAfter hotOf ticked flagAfter tableAfter entriesAfter deedOf deedOn equivalentsAfter suciAfter suciOf
+  unfolding takenPlan cardEffect carded hotAfter hotOf ticked flagAfter tableAfter none entriesAfter withFile isImport ranksAfter marksAfter deedOf deedOn equivalentsAfter suciAfter suciOf
   card-good home p q o =
       let a = renewed-turned (r .hot .dev .cardlimit) in
       let b : 0 < length octets = let l = least 9 64 (length octets) q in omega arith in

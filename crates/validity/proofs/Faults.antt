@@ -88,7 +88,7 @@ module _ (s : List ℕ) where
   read-tells h w protected (reading.Accept a) n x = checked (flip (eqb protected 0)) Unprotected _ refl (quiet Taken refl)
   read-tells h w protected (reading.Reject g) n x =
       checked (flip (isIgnored protected (g .cause) (otherOf h w))) Ignored _ refl
-      (checked (flip (isFull (rowNow h w protected g) n (accessOf h w))) Full _ refl (quiet Taken refl))
+      (checked (flip (isFull (rowNow h w protected g) n)) Full _ refl (quiet Taken refl))
 
   answer-tells : (h : Hot) (e : Event) (n : Seen) (listed : Bool) → Tells (answerOf h e n listed s)
   unfolding answerOf cardAnswer startAnswer updateAnswer messageAnswer timerAnswer keyAnswer importAnswer faultIn

@@ -5,6 +5,7 @@ use mathlib.Core.Bool.{true}
 use mathlib.Core.List.{List}
 use lib.Dec.{eqb}
 use Rattle.entries.specs.declared.Entries.{Entries}
+use Rattle.entries.proofs.Ranks.{Order}
 use Rattle.record.specs.declared.Device.{Device}
 use Rattle.record.specs.declared.Access.{Access}
 use Rattle.record.specs.declared.Record.{Record}
@@ -75,6 +76,7 @@ pub record Held (banlimit n1limit n : ℕ) (t : Entries) : Type 0 where
   pub forbidden : All isFlag n (t .forbidden)
   pub barred : All isFlag n (t .barred)
   pub once : Once itself n (t .nets)
+  pub order : Order n (t .ranks)
 
 -- an area list of n
 pub record Listing (n : ℕ) (xs : List ℕ) : Type 0 where

@@ -10,6 +10,7 @@ use lib.Seq.{getD-drop}
 use borrow.Author.Tests.{le-leb, lt-ltb}
 use Rattle.laws.specs.Bounds.{atMost}
 use Rattle.laws.specs.Upto.{first, copied}
+use Rattle.laws.proofs.Arrays.{upto-reads}
 use Rattle.octets.specs.declared.Fault.{Fault}
 use Rattle.octets.specs.declared.Fault.the-variants.{Cut, First, Second, Kind}
 use Rattle.octets.specs.declared.Part.{Part}
@@ -25,7 +26,7 @@ use Rattle.networks.specs.Networks.{networkOf}
 use Rattle.events.specs.Parts.{networksOf}
 use Rattle.validity.specs.Run.{Octets}
 use Rattle.validity.proofs.Bools.{most-is, most-fits}
-use Rattle.validity.proofs.Arrays.{All, upto-reads}
+use Rattle.validity.proofs.Arrays.{All}
 
 -- a reading whose numbers fit an access
 abbrev pub Mild : Reading → Type 0

@@ -14,8 +14,8 @@ use Rattle.entries.specs.declared.Seen.{Seen}
 use Rattle.entries.specs.declared.Seat.{Seat}
 use Rattle.entries.specs.declared.Deed.{Deed}
 use Rattle.entries.specs.declared.Deed.the-variants as deed
-use Rattle.entries.specs.Places.{placeIn, hasEntry}
-use Rattle.entries.specs.Entries.{seenIn, seatOf, unforbidden, entriesAfter, grown}
+use Rattle.entries.specs.Places.{hasEntry}
+use Rattle.entries.specs.Entries.{foundIn, placeFor, seenIn, seatOf, unforbidden, n1ToLimit, grown, marksAfter, ranksAfter, isImport, withFile, entriesAfter}
 use Rattle.areas.specs.declared.Task.{Task}
 use Rattle.areas.specs.declared.Task.the-variants as task
 use Rattle.messages.specs.declared.Accept.{Accept}
@@ -45,7 +45,7 @@ use Rattle.validity.proofs.Good.{Fit, Timely, Carded, Held, Good}
 use Rattle.validity.proofs.Setters.{network-short}
 use Rattle.validity.proofs.Areas.{Short}
 use Rattle.validity.proofs.Turns.{after, Turned, still-turned, accepted-turned, row-turned, other-turned}
-use Rattle.validity.proofs.Entries.{sought, banned-held, barred-held, accepted-held, limit-held}
+use Rattle.validity.proofs.Entries.{sought-for, banned-held, barred-held, accepted-held, limit-held}
 use Rattle.validity.proofs.Messages.{copied-short}
 use Rattle.validity.proofs.Refusal.{carry, table-idle}
 use Rattle.validity.proofs.Next.{half-turned, own-first, own-second}
@@ -83,7 +83,7 @@ module _ (r : Record) (g : Good r) where
     pub bare-good : (w : ℕ) → isFlag w ≡ true → (time due : ℕ) → upTo 35712000 time ≡ true → isFlag due ≡ true → (t : Turn) (p : Order) (restart : Bool)
         → Turned (r .hot .dev .card) (r .hot .dev .cardlimit) (accessOf (r .hot) w .equivalents) (accessOf (r .hot) w .entries) (after t)
         → Good (carry r octets (takenPlan (r .hot) w (bare w time due t p restart)) .next)
-    unfolding accessOf otherOf takenPlan entriesAfter deedOf deedOn equivalentsAfter
+    unfolding accessOf otherOf takenPlan entriesAfter withFile isImport ranksAfter marksAfter deedOf deedOn equivalentsAfter
     bare-good zero h time due l f t p restart u =
         own-first r g z octets time due l f t (still (r .hot .a1)) Leave p deed.Nothing deed.Nothing task.Nothing task.Nothing keep.Nothing restart tt tt tt
         (rw (table-idle (takenPlan (r .hot) 0 (bare 0 time due t p restart)) octets 0 (r .hot .a0 .entries) (r .hot) (r .e0) refl)
@@ -123,7 +123,7 @@ module _ (r : Record) (g : Good r) where
     -- an accept: its equivalents are the message's, and its mark clears
     pub accept-good : (w : ℕ) → isFlag w ≡ true → (a : Accept) (s : Seen) → upTo 15 (a .count) ≡ true → upTo 11160 (a .t3502length) ≡ true → upTo 35712000 (a .t3512length) ≡ true → Octets octets → eqb (r .hot .dev .card) 1 ≡ true
         → Good (carry r octets (takenPlan (r .hot) w (acceptEffect (r .hot) w a s)) .next)
-    unfolding accessOf otherOf takenPlan acceptEffect acceptDevice acceptT3512 scheduled tableAfter entriesAfter deedOf deedOn equivalentsAfter
+    unfolding accessOf otherOf takenPlan acceptEffect acceptDevice acceptT3512 scheduled tableAfter unforbidden entriesAfter withFile isImport ranksAfter marksAfter deedOf deedOn equivalentsAfter
     accept-good zero h a s p q l o c =
         own-first r g z octets (t3512Time a (r .hot .dev)) 0 (time-fits a l) refl (accepted (a .given) (a .count) (lengthOf a) (r .hot .a0)) (still (r .hot .a1)) Leave (cond (eqb (t3512Time a (r .hot .dev)) 0) Leave (Run (t3512Time a (r .hot .dev)))) (deed.Accept (seatOf s (r .hot .a0 .net) 1)) deed.Nothing task.Nothing task.Nothing (keep.Gift a) false tt tt tt
         (half-turned (r .hot .dev) (a .count) (r .hot .a0 .entries) (after (accepted (a .given) (a .count) (lengthOf a) (r .hot .a0)))
@@ -143,22 +143,22 @@ module _ (r : Record) (g : Good r) where
     accept-good (suc (suc w)) h a s p q l o c = absurd (no-third w h)
 
 -- the seat of a network in these entries
-abbrev pub seatIn : ℕ → ℕ → ℕ → List ℕ → Seat
-seatIn n net protected nets = record { at = placeIn n net nets; found = hasEntry n net nets; net = net; protected = protected }
+abbrev pub seatIn : ℕ → ℕ → ℕ → Entries → Seat
+seatIn n net protected t = record { at = placeFor n net (t .nets) (t .forbidden) (t .barred) (t .ranks); found = hasEntry n net (t .nets); net = net; protected = protected }
 
 -- the entries by the row's mark: a ban, a bar, or nothing
 row-held : (octets : List ℕ) (banlimit n1limit n : ℕ) (t : Entries) → Columns t → Held banlimit n1limit n t → upTo 16 n ≡ true → (m : Mark) (net protected : ℕ)
-    → (isMark m ≡ true → hasEntry n net (t .nets) ≡ false → leb 16 n ≡ false) → isNetwork net ≡ true
-    → Held banlimit n1limit (cond (isMark m) (grown (hasEntry n net (t .nets)) n) n) (entriesAfter (markDeed m (seatIn n net protected (t .nets))) octets n banlimit n1limit t)
-unfolding entriesAfter markDeed isMark
+    → (isMark m ≡ true → leb 16 (placeFor n net (t .nets) (t .forbidden) (t .barred) (t .ranks)) ≡ false) → isNetwork net ≡ true
+    → Held banlimit n1limit (cond (isMark m) (grown (hasEntry n net (t .nets)) n) n) (entriesAfter (markDeed m (seatIn n net protected t)) octets n banlimit n1limit t)
+unfolding entriesAfter withFile isImport ranksAfter marksAfter markDeed isMark
 row-held octets banlimit n1limit n t w g e noMark net protected f i = g
-row-held octets banlimit n1limit n t w g e forbiddenAndCounted net protected f i = banned-held banlimit n1limit n t w g (seatIn n net protected (t .nets)) (sought n net (t .nets) e (f refl)) i
-row-held octets banlimit n1limit n t w g e n1NotAllowedAndCounted net protected f i = barred-held banlimit n1limit n t w g (seatIn n net protected (t .nets)) (sought n net (t .nets) e (f refl)) i
+row-held octets banlimit n1limit n t w g e forbiddenAndCounted net protected f i = banned-held banlimit n1limit n t w g (seatIn n net protected t) (sought-for n net (t .nets) e (t .forbidden) (t .barred) (t .ranks) (f refl)) i e
+row-held octets banlimit n1limit n t w g e n1NotAllowedAndCounted net protected f i = barred-held banlimit n1limit n t w g (seatIn n net protected t) (sought-for n net (t .nets) e (t .forbidden) (t .barred) (t .ranks) (f refl)) i e
 
 -- the other access's entries: the network's N1 counter at its limit, or nothing
 across-held : (octets : List ℕ) (banlimit n1limit n : ℕ) (t : Entries) → Columns t → Held banlimit n1limit n t → (b : Bool) (net : ℕ)
     → Held banlimit n1limit n (entriesAfter (cond {A = Deed} b (deed.ToLimit net) deed.Nothing) octets n banlimit n1limit t)
-unfolding entriesAfter
+unfolding n1ToLimit entriesAfter withFile isImport ranksAfter marksAfter
 across-held octets banlimit n1limit n t w g true net = limit-held banlimit n1limit n t w g net
 across-held octets banlimit n1limit n t w g false net = g
 
@@ -183,9 +183,9 @@ module _ (r : Record) (g : Good r) (z : Sized r) (octets : List ℕ) (protected 
   put-short true a f = (network-short (a .net) (f .pending .0), f .pending .1)
   put-short false a f = tt
 
-  -- a reject, by its row, where an entry that it needs is there or free
-  pub reject-good : (w : ℕ) → isFlag w ≡ true → (needsEntry row ≡ true → pendingSeen r octets w .found ≡ false → leb 16 (accessOf (r .hot) w .entries) ≡ false) → Good (carry r octets (rejectPlan w) .next)
-  unfolding accessOf otherOf takenPlan rejectEffect scheduled rowWork rowDeed needsEntry tableAfter deedOf deedOn seenOf seenBy sightOf seenIn equivalentsAfter
+  -- a reject, by its row, where an entry that it needs has a place
+  pub reject-good : (w : ℕ) → isFlag w ≡ true → (needsEntry row ≡ true → leb 16 (pendingSeen r octets w .at) ≡ false) → Good (carry r octets (rejectPlan w) .next)
+  unfolding accessOf otherOf takenPlan rejectEffect scheduled rowWork rowDeed needsEntry tableAfter deedOf deedOn seenOf seenBy sightOf seenIn foundIn equivalentsAfter
   reject-good zero h f =
       own-first r g z octets (r .hot .dev .t3512length) (r .hot .dev .due) (g .fair .t3512length) (g .fair .due) (rowTurn row 0 (r .hot .dev .cardlimit) (k .cause) (pendingSeen r octets 0 .found) time (r .hot .a0)) (otherTurn row (r .hot .dev .cardlimit) (r .hot .a1))
       (rejectT3247 (r .hot .dev .t3247) protected (k .cause) (draws .t3247)) Leave (rowDeed row (seatOf (pendingSeen r octets 0) (r .hot .a0 .net) protected)) (across-if 0 (r .hot .a0)) (task-if (toRoaming 0 (k .cause) row) (r .hot .a0)) (task-if (toRegional 0 (k .cause) row) (r .hot .a0)) keep.Nothing false tt

@@ -3,7 +3,7 @@ use Prim.Native.Nat.{ℕ}
 use mathlib.Core.Path.{_≡_, refl}
 use mathlib.Core.Bool.{true}
 use mathlib.Core.List.{List}
-use Rattle.entries.specs.Entries.{powered, entriesAfter}
+use Rattle.entries.specs.Entries.{powered, marksAfter, ranksAfter, isImport, withFile, entriesAfter}
 use Rattle.areas.specs.Areas.{listAfter, countAfter}
 use Rattle.record.specs.declared.Record.{Record}
 use Rattle.record.specs.Answers.{isTaken}
@@ -27,7 +27,7 @@ power-taken r octets = refl
 
 -- "All else stays."
 pub power-is : (r : Record) (octets : List ℕ) → advanceOf r Power octets .next ≡ powerRecord r
-unfolding powerRecord powered inState withAttempts ticked joinedOf together carriedOut doneOf withCounts takenPlan hotAfter hotOf effectOf powerEffect cycled clocked flagAfter accessIn tableAfter deedOf deedOn entriesAfter listAfter countAfter keptAfter gutiAfter equivalentsAfter suciAfter
+unfolding powerRecord powered inState withAttempts ticked joinedOf together carriedOut doneOf withCounts takenPlan hotAfter hotOf effectOf powerEffect cycled clocked flagAfter accessIn tableAfter deedOf deedOn entriesAfter withFile isImport ranksAfter marksAfter listAfter countAfter keptAfter gutiAfter equivalentsAfter suciAfter
 power-is r octets = rw (taken-plan r Power octets (power-taken r octets)) refl
 
 -- the same of a step, which tests the record first

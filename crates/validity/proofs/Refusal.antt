@@ -7,7 +7,7 @@ use lib.Dec.{eqb}
 use Rattle.entries.specs.declared.Entries.{Entries}
 use Rattle.entries.specs.declared.Deed.{Deed}
 use Rattle.entries.specs.declared.Deed.the-variants as deed
-use Rattle.entries.specs.Entries.{entriesAfter}
+use Rattle.entries.specs.Entries.{marksAfter, ranksAfter, isImport, withFile, entriesAfter}
 use Rattle.areas.specs.Areas.{listAfter, countAfter}
 use Rattle.record.specs.declared.Hot.{Hot}
 use Rattle.record.specs.declared.Record.{Record}
@@ -39,7 +39,7 @@ taken-plan r e octets q = rw q
 
 -- no deed leaves the entries as they are
 pub table-idle : (p : Plan) (octets : List ℕ) (me count : ℕ) (h : Hot) (t : Entries) → deedOf p me ≡ deed.Nothing → tableAfter p octets me count h t ≡ t
-unfolding tableAfter entriesAfter
+unfolding tableAfter entriesAfter withFile isImport ranksAfter marksAfter
 table-idle p octets me count h t e = rw e
 
 idle-deed : (w me : ℕ) → cond {A = Deed} (eqb w me) deed.Nothing deed.Nothing ≡ deed.Nothing

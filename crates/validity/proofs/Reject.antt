@@ -7,7 +7,7 @@ use Rattle.entries.specs.declared.Entries.{Entries}
 use Rattle.entries.specs.declared.Seat.{Seat}
 use Rattle.entries.specs.declared.Deed.{Deed}
 use Rattle.entries.specs.declared.Deed.the-variants as deed
-use Rattle.entries.specs.Entries.{seenIn, n1ToLimit, entriesAfter}
+use Rattle.entries.specs.Entries.{foundIn, seenIn, banned, barredBy, n1ToLimit, marksAfter, ranksAfter, isImport, withFile, entriesAfter}
 use Rattle.areas.specs.Areas.{areaOf, placed, placedCount, listAfter, countAfter}
 use Rattle.messages.specs.declared.Reject.{Reject}
 use Rattle.messages.specs.declared.Reading.the-variants as reading
@@ -50,14 +50,14 @@ count-put false net code protected n xs = refl
 -- the entries of the other access
 entry-across : (octets : List ℕ) (b : Bool) (net count banlimit n1limit : ℕ) (t : Entries)
     → entriesAfter (cond {A = Deed} b (deed.ToLimit net) deed.Nothing) octets count banlimit n1limit t ≡ cond b (n1ToLimit net count n1limit t) t
-unfolding entriesAfter
+unfolding n1ToLimit entriesAfter withFile isImport ranksAfter marksAfter
 entry-across octets true net count banlimit n1limit t = refl
 entry-across octets false net count banlimit n1limit t = refl
 
 -- the entries of the receiving access
 entry-marked : (octets : List ℕ) (m : Mark) (k : Seat) (count banlimit n1limit : ℕ) (t : Entries)
-    → entriesAfter (markDeed m k) octets count banlimit n1limit t ≡ markedIn m k banlimit n1limit t
-unfolding entriesAfter markDeed markedIn
+    → entriesAfter (markDeed m k) octets count banlimit n1limit t ≡ markedIn m k count banlimit n1limit t
+unfolding banned barredBy entriesAfter withFile isImport ranksAfter marksAfter markDeed markedIn
 entry-marked octets noMark k count banlimit n1limit t = refl
 entry-marked octets forbiddenAndCounted k count banlimit n1limit t = refl
 entry-marked octets n1NotAllowedAndCounted k count banlimit n1limit t = refl
@@ -68,7 +68,7 @@ module _ (r : Record) (protected : ℕ) (draws : Draws) (g : Reject) (octets : L
 
   -- over access 0, and over access 1
   carried : (w : ℕ) → isFlag w ≡ true → carry r octets (rejectPlan w) .next ≡ rejectRecord r w protected draws g
-  unfolding joinedOf together carriedOut doneOf withCounts takenPlan hotAfter hotOf ticked flagAfter rejectEffect rowTurn otherTurn rowWork rowDeed toRoaming toRegional acrossN1 accessOf otherOf seenOf seenBy sightOf seenIn keptAfter gutiAfter equivalentsAfter suciAfter rejectRecord recordAfter tableAfter deedOf deedOn
+  unfolding joinedOf together carriedOut doneOf withCounts takenPlan hotAfter hotOf ticked flagAfter rejectEffect rowTurn otherTurn rowWork rowDeed toRoaming toRegional acrossN1 accessOf otherOf seenOf seenBy sightOf seenIn foundIn keptAfter gutiAfter equivalentsAfter suciAfter rejectRecord recordAfter tableAfter deedOf deedOn
   carried zero h = rw (
     entry-marked octets (markIn (rowText (rowNow (r .hot) 0 protected g))) (seat protected (r .hot .a0) (r .e0)) (r .hot .a0 .entries) (r .hot .dev .banlimit) (r .hot .dev .n1limit) (r .e0),
     entry-across octets (acrossN1 0 protected (g .cause) (rowNow (r .hot) 0 protected g)) (r .hot .a0 .net) (r .hot .a1 .entries) (r .hot .dev .banlimit) (r .hot .dev .n1limit) (r .e1),

@@ -8,12 +8,15 @@ use lib.Dec.{ltb, eqb}
 use lib.ListN.{length, getD, set, drop, length-set, length-replicate, length-append, length-drop}
 use Rattle.laws.specs.Bounds.{atMost}
 use Rattle.laws.specs.Upto.{first, copied}
+use Rattle.laws.proofs.Arrays.{upto-length}
 use Rattle.entries.specs.declared.Entries.{Entries}
 use Rattle.entries.specs.declared.Seat.{Seat}
 use Rattle.entries.specs.declared.Deed.{Deed}
 use Rattle.entries.specs.declared.Deed.the-variants as deed
 use Rattle.entries.specs.Places.{entriesHeld, placeIn, hasEntry, putAt}
-use Rattle.entries.specs.Entries.{liftMark, bumped, clearUnless, raised, banned, barredBy, unforbidden, n1ToLimit, swept, powered, grown, imported, importedAll, none, entriesAfter}
+use Rattle.entries.specs.Order.{lastTo}
+use Rattle.entries.specs.Entries.{liftMark, bumped, clearUnless, raised, withRanks, banned, barredBy, unforbidden, n1ToLimit, swept, powered, grown, imported, importedAll, isAmong, fileTaken, none, marksAfter, ranksAfter, isImport, withFile, entriesAfter}
+use Rattle.entries.proofs.Ranks.{put-length, last-length, lastTo-length}
 use Rattle.networks.specs.Networks.{networksIn}
 use Rattle.areas.specs.declared.Task.{Task}
 use Rattle.areas.specs.declared.Task.the-variants as task
@@ -33,7 +36,6 @@ use Rattle.events.specs.declared.Outcome.{Outcome}
 use Rattle.events.specs.Parts.{tableAfter, doneOf, carriedOut, plannedOf, partsAfter, networksOf, gutiAfter, equivalentsAfter, suciAfter, keptAfter}
 use Rattle.events.specs.Step.{together, joinedOf, advanceOf, stepOf}
 use Rattle.validity.specs.Sized.{Columns, Sized}
-use Rattle.validity.proofs.Arrays.{upto-length}
 use Rattle.validity.proofs.Filter.{kept-inside}
 
 -- either way the same length
@@ -45,17 +47,13 @@ copied-length : (n : ℕ) (xs ys : List ℕ) → length (copied n xs ys) ≡ len
 unfolding copied
 copied-length n xs ys = upto-length first n xs ys
 
-put-length : (xs : List ℕ) (at v n : ℕ) → length xs ≡ n → length (putAt xs at v) ≡ n
-unfolding putAt
-put-length xs at v n e = cond-length (ltb at 16) (set xs at v) xs n (length-set xs at v ∙ e) e
-
 clear-length : (found : Bool) (xs : List ℕ) (at n : ℕ) → length xs ≡ n → length (clearUnless found xs at) ≡ n
 unfolding clearUnless
-clear-length found xs at n e = cond-length found xs (putAt xs at 0) n e (put-length xs at 0 n e)
+clear-length found xs at n e = cond-length found xs (putAt xs at 0) n e (put-length xs at 0 ∙ e)
 
 raised-length : (xs : List ℕ) (at : ℕ) (found : Bool) (limit protected n : ℕ) → length xs ≡ n → length (raised xs at found limit protected) ≡ n
 unfolding raised
-raised-length xs at found limit protected n e = put-length xs at (bumped limit protected (cond found (getD xs at 0) 0)) n e
+raised-length xs at found limit protected n e = put-length xs at (bumped limit protected (cond found (getD xs at 0) 0)) ∙ e
 
 none-columns : Columns none
 unfolding none
@@ -65,27 +63,30 @@ none-columns = record {
   n1s = length-replicate {A = ℕ} 16 0;
   forbidden = length-replicate {A = ℕ} 16 0;
   barred = length-replicate {A = ℕ} 16 0;
+  ranks = length-replicate {A = ℕ} 16 0;
 }
 
 module _ (t : Entries) (w : Columns t) where
   banned-columns : (k : Seat) (limit : ℕ) → Columns (banned k limit t)
   unfolding banned
   banned-columns k limit = record {
-    nets = put-length (t .nets) (k .at) (k .net) 16 (w .nets);
+    nets = put-length (t .nets) (k .at) (k .net) ∙ w .nets;
     bans = raised-length (t .bans) (k .at) (k .found) limit (k .protected) 16 (w .bans);
     n1s = clear-length (k .found) (t .n1s) (k .at) 16 (w .n1s);
-    forbidden = put-length (t .forbidden) (k .at) 1 16 (w .forbidden);
+    forbidden = put-length (t .forbidden) (k .at) 1 ∙ w .forbidden;
     barred = clear-length (k .found) (t .barred) (k .at) 16 (w .barred);
+    ranks = w .ranks;
   }
 
   barred-columns : (k : Seat) (limit : ℕ) → Columns (barredBy k limit t)
   unfolding barredBy
   barred-columns k limit = record {
-    nets = put-length (t .nets) (k .at) (k .net) 16 (w .nets);
+    nets = put-length (t .nets) (k .at) (k .net) ∙ w .nets;
     bans = clear-length (k .found) (t .bans) (k .at) 16 (w .bans);
     n1s = raised-length (t .n1s) (k .at) (k .found) limit (k .protected) 16 (w .n1s);
     forbidden = clear-length (k .found) (t .forbidden) (k .at) 16 (w .forbidden);
-    barred = put-length (t .barred) (k .at) 1 16 (w .barred);
+    barred = put-length (t .barred) (k .at) 1 ∙ w .barred;
+    ranks = w .ranks;
   }
 
   accepted-columns : (k : Seat) → Columns (unforbidden k t)
@@ -94,8 +95,9 @@ module _ (t : Entries) (w : Columns t) where
     nets = w .nets;
     bans = w .bans;
     n1s = w .n1s;
-    forbidden = cond-length (k .found) (putAt (t .forbidden) (k .at) 0) (t .forbidden) 16 (put-length (t .forbidden) (k .at) 0 16 (w .forbidden)) (w .forbidden);
+    forbidden = cond-length (k .found) (putAt (t .forbidden) (k .at) 0) (t .forbidden) 16 (put-length (t .forbidden) (k .at) 0 ∙ w .forbidden) (w .forbidden);
     barred = w .barred;
+    ranks = w .ranks;
   }
 
   limit-columns : (net count limit : ℕ) → Columns (n1ToLimit net count limit t)
@@ -103,19 +105,23 @@ module _ (t : Entries) (w : Columns t) where
   limit-columns net count limit = record {
     nets = w .nets;
     bans = w .bans;
-    n1s = cond-length (hasEntry count net (t .nets)) (putAt (t .n1s) (placeIn count net (t .nets)) limit) (t .n1s) 16 (put-length (t .n1s) (placeIn count net (t .nets)) limit 16 (w .n1s)) (w .n1s);
+    n1s = cond-length (hasEntry count net (t .nets)) (putAt (t .n1s) (placeIn count net (t .nets)) limit) (t .n1s) 16 (put-length (t .n1s) (placeIn count net (t .nets)) limit ∙ w .n1s) (w .n1s);
     forbidden = w .forbidden;
     barred = w .barred;
+    ranks = w .ranks;
   }
 
   pub imported-columns : (net count : ℕ) → Columns (imported net count t)
   unfolding imported
   imported-columns net count = record {
-    nets = put-length (t .nets) (placeIn count net (t .nets)) net 16 (w .nets);
+    nets = put-length (t .nets) (placeIn count net (t .nets)) net ∙ w .nets;
     bans = clear-length (hasEntry count net (t .nets)) (t .bans) (placeIn count net (t .nets)) 16 (w .bans);
     n1s = clear-length (hasEntry count net (t .nets)) (t .n1s) (placeIn count net (t .nets)) 16 (w .n1s);
-    forbidden = put-length (t .forbidden) (placeIn count net (t .nets)) 1 16 (w .forbidden);
+    forbidden = put-length (t .forbidden) (placeIn count net (t .nets)) 1 ∙ w .forbidden;
     barred = clear-length (hasEntry count net (t .nets)) (t .barred) (placeIn count net (t .nets)) 16 (w .barred);
+    ranks =
+        cond-length (hasEntry count net (t .nets)) (t .ranks) (putAt (t .ranks) (placeIn count net (t .nets)) (entriesHeld count)) 16 (w .ranks)
+        (put-length (t .ranks) (placeIn count net (t .nets)) (entriesHeld count) ∙ w .ranks);
   }
 
   swept-columns : (count banlimit n1limit : ℕ) → Columns (swept count banlimit n1limit t)
@@ -126,6 +132,7 @@ module _ (t : Entries) (w : Columns t) where
     n1s = w .n1s;
     forbidden = upto-length (liftMark banlimit) (entriesHeld count) (t .bans) (t .forbidden) ∙ w .forbidden;
     barred = upto-length (liftMark n1limit) (entriesHeld count) (t .n1s) (t .barred) ∙ w .barred;
+    ranks = w .ranks;
   }
 
   cycled-columns : (count banlimit : ℕ) → Columns (powered count banlimit t)
@@ -136,25 +143,55 @@ module _ (t : Entries) (w : Columns t) where
     n1s = w .n1s;
     forbidden = upto-length (liftMark banlimit) (entriesHeld count) (t .bans) (t .forbidden) ∙ w .forbidden;
     barred = length-replicate {A = ℕ} 16 0;
+    ranks = w .ranks;
   }
 
+with-columns : (ranks : List ℕ) (t : Entries) → length ranks ≡ 16 → Columns t → Columns (withRanks ranks t)
+with-columns ranks t e w = record { nets = w .nets; bans = w .bans; n1s = w .n1s; forbidden = w .forbidden; barred = w .barred; ranks = e }
+
 -- networks one after the other
-all-columns : (xs : List ℕ) (count : ℕ) (t : Entries) → Columns t → Columns (importedAll xs count t)
+all-columns : (named : ℕ → Bool) (xs : List ℕ) (count : ℕ) (t : Entries) → Columns t → Columns (importedAll named xs count t)
 unfolding importedAll
-all-columns [] count t w = w
-all-columns (net ∷ rest) count t w = all-columns rest (grown (hasEntry count net (t .nets)) count) (imported net count t) (imported-columns t w net count)
+all-columns named [] count t w = with-columns (lastTo named (entriesHeld count) (entriesHeld count) (t .nets) (t .ranks)) t (lastTo-length named (entriesHeld count) (entriesHeld count) (t .nets) (t .ranks) ∙ w .ranks) w
+all-columns named (net ∷ rest) count t w = all-columns named rest (grown (hasEntry count net (t .nets)) count) (imported net count t) (imported-columns t w net count)
+
+marks-columns : (k : Deed) (count banlimit n1limit : ℕ) (t : Entries) → Columns t → Columns (marksAfter k count banlimit n1limit t)
+unfolding marksAfter
+marks-columns deed.Nothing count banlimit n1limit t w = w
+marks-columns (deed.Ban s) count banlimit n1limit t w = banned-columns t w s banlimit
+marks-columns (deed.Bar s) count banlimit n1limit t w = barred-columns t w s n1limit
+marks-columns (deed.Accept s) count banlimit n1limit t w = accepted-columns t w s
+marks-columns (deed.ToLimit net) count banlimit n1limit t w = limit-columns t w net count n1limit
+marks-columns deed.Import count banlimit n1limit t w = w
+marks-columns deed.Sweep count banlimit n1limit t w = swept-columns t w count banlimit n1limit
+marks-columns deed.Power count banlimit n1limit t w = cycled-columns t w count banlimit
+marks-columns deed.Fresh count banlimit n1limit t w = with-columns (t .ranks) none (w .ranks) none-columns
+
+ranks-length : (k : Deed) (count : ℕ) (ranks : List ℕ) → length ranks ≡ 16 → length (ranksAfter k count ranks) ≡ 16
+unfolding ranksAfter
+ranks-length deed.Nothing count ranks e = e
+ranks-length (deed.Ban s) count ranks e = last-length (s .at) (entriesHeld count) ranks ∙ e
+ranks-length (deed.Bar s) count ranks e = last-length (s .at) (entriesHeld count) ranks ∙ e
+ranks-length (deed.Accept s) count ranks e = e
+ranks-length (deed.ToLimit net) count ranks e = e
+ranks-length deed.Import count ranks e = e
+ranks-length deed.Sweep count ranks e = e
+ranks-length deed.Power count ranks e = e
+ranks-length deed.Fresh count ranks e = length-replicate {A = ℕ} 16 0
 
 entries-columns : (k : Deed) (octets : List ℕ) (count banlimit n1limit : ℕ) (t : Entries) → Columns t → Columns (entriesAfter k octets count banlimit n1limit t)
-unfolding entriesAfter
-entries-columns deed.Nothing octets count banlimit n1limit t w = w
-entries-columns (deed.Ban s) octets count banlimit n1limit t w = banned-columns t w s banlimit
-entries-columns (deed.Bar s) octets count banlimit n1limit t w = barred-columns t w s n1limit
-entries-columns (deed.Accept s) octets count banlimit n1limit t w = accepted-columns t w s
-entries-columns (deed.ToLimit net) octets count banlimit n1limit t w = limit-columns t w net count n1limit
-entries-columns deed.Import octets count banlimit n1limit t w = all-columns (networksIn octets) count t w
-entries-columns deed.Sweep octets count banlimit n1limit t w = swept-columns t w count banlimit n1limit
-entries-columns deed.Power octets count banlimit n1limit t w = cycled-columns t w count banlimit
-entries-columns deed.Fresh octets count banlimit n1limit t w = none-columns
+unfolding entriesAfter withFile
+entries-columns k octets count banlimit n1limit t w = go (isImport k)
+  where
+    done : Entries
+    done = withRanks (ranksAfter k count (t .ranks)) (marksAfter k count banlimit n1limit t)
+
+    c : Columns done
+    c = with-columns (ranksAfter k count (t .ranks)) (marksAfter k count banlimit n1limit t) (ranks-length k count (t .ranks) (w .ranks)) (marks-columns k count banlimit n1limit t w)
+
+    go : (b : Bool) → Columns (cond b (fileTaken octets count done) done)
+    go true = all-columns (λ n. isAmong n (networksIn octets)) (networksIn octets) count done c
+    go false = c
 
 -- those that stay, and as many behind them as before
 swept-length : (count : ℕ) (xs : List ℕ) → length (sweptList count xs) ≡ length xs

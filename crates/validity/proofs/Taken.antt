@@ -1,7 +1,7 @@
 -- What a taken event has passed: the checks before the last answer, one by one. Assumes nothing.
 use Prim.Native.Nat.{ℕ}
-use mathlib.Core.Path.{_≡_, refl, sym}
-use mathlib.Core.Bool.{Bool, true, false, true≢false, false≢true}
+use mathlib.Core.Path.{_≡_, refl}
+use mathlib.Core.Bool.{Bool, true, false, false≢true}
 use mathlib.Core.List.{List}
 use lib.Dec.{leb, eqb}
 use lib.ListN.{length, getD}
@@ -101,20 +101,17 @@ message-passed h w protected draws m s q = (
     second : Answer
     second = check (eqb (accessOf h w .state) 4) answer.State (readAnswer h w protected m s)
 
-full-not : (a found full : Bool) → flip (both a (both (flip found) full)) ≡ true → a ≡ true → found ≡ false → full ≡ false
-full-not true false false e p q = refl
-full-not true false true e p q = sym e
-full-not true true full e p q = absurd (true≢false q)
-full-not false found full e p q = absurd (false≢true p)
+full-not : (a full : Bool) → flip (both a full) ≡ true → a ≡ true → full ≡ false
+full-not true full e p = flip-true full e
+full-not false full e p = absurd (false≢true p)
 
--- an entry that the row needs has room
-pub reject-passed : (h : Hot) (w protected : ℕ) (g : Reject) (s : Seen) → isTaken (rejectAnswer h w protected g s) ≡ true → needsEntry (rowNow h w protected g) ≡ true
-    → s .found ≡ false → leb 16 (accessOf h w .entries) ≡ false
+-- an entry that the row needs has a place
+pub reject-passed : (h : Hot) (w protected : ℕ) (g : Reject) (s : Seen) → isTaken (rejectAnswer h w protected g s) ≡ true → needsEntry (rowNow h w protected g) ≡ true → leb 16 (s .at) ≡ false
 unfolding rejectAnswer isFull isTaken
 reject-passed h w protected g s q =
-    full-not (needsEntry (rowNow h w protected g)) (s .found) (leb 16 (accessOf h w .entries))
-    (check-passed (flip (isFull (rowNow h w protected g) s (accessOf h w))) answer.Full answer.Taken refl
-    (check-rest (flip (isIgnored protected (g .cause) (otherOf h w))) answer.Ignored (check (flip (isFull (rowNow h w protected g) s (accessOf h w))) answer.Full answer.Taken) refl q))
+    full-not (needsEntry (rowNow h w protected g)) (leb 16 (s .at))
+    (check-passed (flip (isFull (rowNow h w protected g) s)) answer.Full answer.Taken refl
+    (check-rest (flip (isIgnored protected (g .cause) (otherOf h w))) answer.Ignored (check (flip (isFull (rowNow h w protected g) s)) answer.Full answer.Taken) refl q))
 
 pub timer-passed : (h : Hot) (number w : ℕ) → isTaken (timerAnswer h number w) ≡ true
     → (isFlag w ≡ true) × (either (flip (isDeviceTimer number)) (eqb w 0) ≡ true) × (eqb (runs h number w) 0 ≡ false)

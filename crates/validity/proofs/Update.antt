@@ -4,7 +4,7 @@ use mathlib.Core.Path.{_≡_, refl}
 use mathlib.Core.Bool.{Bool, true, false}
 use mathlib.Core.List.{List}
 use lib.Dec.{eqb}
-use Rattle.entries.specs.Entries.{entriesAfter}
+use Rattle.entries.specs.Entries.{marksAfter, ranksAfter, isImport, withFile, entriesAfter}
 use Rattle.areas.specs.Areas.{listAfter, countAfter}
 use Rattle.record.specs.declared.Record.{Record}
 use Rattle.record.specs.Answers.{isTaken}
@@ -23,7 +23,7 @@ use Rattle.validity.proofs.Refusal.{taken-plan, step-taken}
 
 update-is : (r : Record) (w regtype net code uplink sessions : ℕ) (octets : List ℕ) → isTaken (answeredBy r (Update w regtype net code uplink sessions) octets) ≡ true
     → advanceOf r (Update w regtype net code uplink sessions) octets .next ≡ updateRecord r w regtype net code uplink sessions
-unfolding updateRecord inState pending ticked joinedOf together carriedOut doneOf withCounts takenPlan hotAfter hotOf effectOf updateEffect updated accessOf otherOf clocked flagAfter accessIn tableAfter deedOf deedOn entriesAfter listAfter countAfter keptAfter gutiAfter equivalentsAfter suciAfter
+unfolding updateRecord inState pending ticked joinedOf together carriedOut doneOf withCounts takenPlan hotAfter hotOf effectOf updateEffect updated accessOf otherOf clocked flagAfter accessIn tableAfter deedOf deedOn entriesAfter withFile isImport ranksAfter marksAfter listAfter countAfter keptAfter gutiAfter equivalentsAfter suciAfter
 update-is r w regtype net code uplink sessions octets t = go (eqb w 0) refl (eqb w 1) refl
   where
     go : (b : Bool) → eqb w 0 ≡ b → (c : Bool) → eqb w 1 ≡ c → advanceOf r (Update w regtype net code uplink sessions) octets .next ≡ updateRecord r w regtype net code uplink sessions
@@ -39,7 +39,7 @@ step-update r w regtype net code uplink sessions octets t =
     rw (v .0) (update-is r w regtype net code uplink sessions octets (v .1))
 
 t3512-is : (r : Record) (octets : List ℕ) → isTaken (answeredBy r (Timer 5 0) octets) ≡ true → advanceOf r (Timer 5 0) octets .next ≡ t3512Record r
-unfolding t3512Record ticked scheduled joinedOf together carriedOut doneOf withCounts takenPlan hotAfter hotOf effectOf timerEffect isDeviceTimer deviceEffect t3512Effect accessOf otherOf clocked flagAfter accessIn tableAfter deedOf deedOn entriesAfter listAfter countAfter keptAfter gutiAfter equivalentsAfter suciAfter
+unfolding t3512Record ticked scheduled joinedOf together carriedOut doneOf withCounts takenPlan hotAfter hotOf effectOf timerEffect isDeviceTimer deviceEffect t3512Effect accessOf otherOf clocked flagAfter accessIn tableAfter deedOf deedOn entriesAfter withFile isImport ranksAfter marksAfter listAfter countAfter keptAfter gutiAfter equivalentsAfter suciAfter
 t3512-is r octets t = rw (taken-plan r (Timer 5 0) octets t) refl
 
 pub step-t3512 : (r : Record) (octets : List ℕ) → isTaken (stepOf r (Timer 5 0) octets .reply .answer) ≡ true → stepOf r (Timer 5 0) octets .next ≡ t3512Record r

@@ -4,14 +4,17 @@ use mathlib.Core.Path.{_≡_, refl}
 use mathlib.Core.Bool.{Bool, true, false}
 use mathlib.Core.List.{List, [], _∷_}
 use lib.Dec.{eqb}
+use lib.ListN.{getD}
+use borrow.Author.Tests.{ltb-true, lt-ltb}
 use Rattle.laws.specs.Upto.{allTo, distinctTo}
 use Rattle.entries.specs.declared.Entries.{Entries}
+use Rattle.entries.proofs.Ranks.{Order}
 use Rattle.record.specs.declared.Device.{Device}
 use Rattle.record.specs.declared.Access.{Access}
 use Rattle.record.specs.declared.Record.{Record}
 use Rattle.record.specs.Tests.{both, either, within, upTo, isFlag, isShort, isClear0}
 use Rattle.record.specs.Network.{isNetwork}
-use Rattle.ranges.specs.Valid.{deviceRanges, periodicRanges, deviceNumbers, modeRanges, pendingRanges, identityRanges, heldRanges, accessRanges, isItem, rangesOf, countersOf, cardOf, suciOf, codesOf, clockOf, itself, halved, onceOf, validOf}
+use Rattle.ranges.specs.Valid.{deviceRanges, periodicRanges, deviceNumbers, modeRanges, pendingRanges, identityRanges, heldRanges, accessRanges, isItem, rangesOf, countersOf, cardOf, suciOf, codesOf, clockOf, isBelow, itself, halved, onceOf, orderOf, validOf}
 use Rattle.record.proofs.Bounds.{one, rest}
 use Rattle.validity.proofs.Bools.{both-true}
 use Rattle.validity.proofs.Arrays.{all-of, of-all, once-of, of-once}
@@ -80,12 +83,26 @@ heldTests a t = allTo isFlag (a .entries) (t .forbidden) ∷ allTo isFlag (a .en
 abbrev counterTests : Device → Access → Entries → List Bool
 counterTests d a t = allTo (upTo (d .banlimit)) (a .entries) (t .bans) ∷ allTo (upTo (d .n1limit)) (a .entries) (t .n1s) ∷ []
 
+-- the order's test
+order-good : (a : Access) (t : Entries) → orderOf a t ≡ true → Order (a .entries) (t .ranks)
+unfolding orderOf
+order-good a t e = record {
+  low = λ i h. ltb-true (getD (t .ranks) i 0) (a .entries) (all-of (isBelow (a .entries)) (a .entries) (t .ranks) (one (allTo (isBelow (a .entries)) (a .entries) (t .ranks)) (distinctTo itself (a .entries) (t .ranks)) e) i h);
+  apart = once-of itself (a .entries) (t .ranks) (rest (allTo (isBelow (a .entries)) (a .entries) (t .ranks)) (distinctTo itself (a .entries) (t .ranks)) e);
+}
+
+good-order : (a : Access) (t : Entries) → Order (a .entries) (t .ranks) → orderOf a t ≡ true
+unfolding orderOf
+good-order a t o =
+    both-true (allTo (isBelow (a .entries)) (a .entries) (t .ranks)) (distinctTo itself (a .entries) (t .ranks))
+    (of-all (isBelow (a .entries)) (a .entries) (t .ranks) (λ i h. lt-ltb (getD (t .ranks) i 0) (a .entries) (o .low i h))) (of-once itself (a .entries) (t .ranks) (o .apart))
+
 -- an access's tests that stand together in the list, and those that the list has elsewhere
 access-good : (d : Device) (a : Access) (equivalents : List ℕ) (t : Entries)
     → accessRanges a equivalents t ≡ true → countersOf d a t ≡ true → Carded (d .card) a → isNetwork (a .net) ≡ true → allTo isNetwork (a .entries) (t .nets) ≡ true
-    → clockOf a ≡ true → distinctTo itself (a .entries) (t .nets) ≡ true → Half d a equivalents t
+    → clockOf a ≡ true → distinctTo itself (a .entries) (t .nets) ≡ true → orderOf a t ≡ true → Half d a equivalents t
 unfolding accessRanges modeRanges pendingRanges identityRanges heldRanges countersOf clockOf
-access-good d a equivalents t ranges counters carded net nets clock once =
+access-good d a equivalents t ranges counters carded net nets clock once order =
     let four = holds (modeRanges a) (pendingRanges a ∷ identityRanges a ∷ heldRanges a equivalents t ∷ []) ranges in
     let m = holds (upTo 6 (a .state)) (modeTests a) (four .0) in
     let p = holds (within 1 3 (a .regtype)) (pendingTests a) (four .1 .0) in
@@ -113,6 +130,7 @@ access-good d a equivalents t ranges counters carded net nets clock once =
         forbidden = all-of isFlag (a .entries) (t .forbidden) (h .1 .0);
         barred = all-of isFlag (a .entries) (t .barred) (h .1 .1);
         once = once-of itself (a .entries) (t .nets) once;
+        order = order-good a t order;
       };
     }
 
@@ -153,6 +171,8 @@ module _ (r : Record) where
       ∷ codesOf r
       ∷ both (clockOf (r .hot .a0)) (clockOf (r .hot .a1))
       ∷ onceOf r
+      ∷ orderOf (r .hot .a0) (r .e0)
+      ∷ orderOf (r .hot .a1) (r .e1)
       ∷ []
 
   abbrev rangeTests : List Bool
@@ -186,7 +206,7 @@ module _ (r : Record) where
       let d = device-holds (r .hot .dev) (one (deviceRanges (r .hot .dev)) (periodicRanges (r .hot .dev)) (g .0)) in
       let p = holds (isFlag (r .hot .dev .t3512)) (periodicTests (r .hot .dev)) (rest (deviceRanges (r .hot .dev)) (periodicRanges (r .hot .dev)) (g .0)) in
       let c = holds (isNetwork (r .hot .dev .home)) codeTests (v .1 .1 .1 .1 .0) in
-      let o = holds (distinctTo itself (r .hot .a0 .entries) (r .e0 .nets)) onceTests (v .1 .1 .1 .1 .1 .1) in
+      let o = holds (distinctTo itself (r .hot .a0 .entries) (r .e0 .nets)) onceTests (v .1 .1 .1 .1 .1 .1 .0) in
       let n = holds (countersOf (r .hot .dev) (r .hot .a0) (r .e0)) (countersOf (r .hot .dev) (r .hot .a1) (r .e1) ∷ []) (v .1 .0) in
       let k = holds (clockOf (r .hot .a0)) (clockOf (r .hot .a1) ∷ []) (v .1 .1 .1 .1 .1 .0) in
       let s = card-each (eqb (r .hot .dev .card) 1) (eqb (r .hot .a0 .state) 0) (eqb (r .hot .a1 .state) 0) (v .1 .1 .0) in
@@ -205,8 +225,8 @@ module _ (r : Record) where
           due = p .1 .1;
           home = c .0;
         };
-        half0 = access-good (r .hot .dev) (r .hot .a0) (r .equivalents0) (r .e0) (g .1 .0) (n .0) (s .0) (c .1 .0) (c .1 .1 .1 .0) (k .0) (o .0);
-        half1 = access-good (r .hot .dev) (r .hot .a1) (r .equivalents1) (r .e1) (g .1 .1 .0) (n .1) (s .1) (c .1 .1 .0) (c .1 .1 .1 .1) (k .1) (o .1 .0);
+        half0 = access-good (r .hot .dev) (r .hot .a0) (r .equivalents0) (r .e0) (g .1 .0) (n .0) (s .0) (c .1 .0) (c .1 .1 .1 .0) (k .0) (o .0) (v .1 .1 .1 .1 .1 .1 .1 .0);
+        half1 = access-good (r .hot .dev) (r .hot .a1) (r .equivalents1) (r .e1) (g .1 .1 .0) (n .1) (s .1) (c .1 .1 .0) (c .1 .1 .1 .1) (k .1) (o .1 .0) (v .1 .1 .1 .1 .1 .1 .1 .1);
         roaming = listing (r .hot .dev .roaming) (r .roaming) (d .1 .1 .1 .1 .1 .1 .1 .1 .0) (g .1 .1 .1 .0) (o .1 .1 .0);
         regional = listing (r .hot .dev .regional) (r .regional) (d .1 .1 .1 .1 .1 .1 .1 .1 .1) (g .1 .1 .1 .1) (o .1 .1 .1);
         suci = v .1 .1 .1 .0;
@@ -268,7 +288,10 @@ module _ (r : Record) where
               g .suci,
               (
                 good-codes g,
-                (both-true (clockOf (r .hot .a0)) (clockOf (r .hot .a1)) (g .half0 .timely) (g .half1 .timely), good-once g),
+                (
+                  both-true (clockOf (r .hot .a0)) (clockOf (r .hot .a1)) (g .half0 .timely) (g .half1 .timely),
+                  (good-once g, (good-order (r .hot .a0) (r .e0) (g .half0 .held .order), good-order (r .hot .a1) (r .e1) (g .half1 .held .order))),
+                ),
               ),
             ),
           ),

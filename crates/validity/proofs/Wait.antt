@@ -8,7 +8,7 @@ use lib.Dec.{ltb, eqb}
 use lib.ListN.{length}
 use Rattle.laws.specs.Bounds.{oneMore}
 use Rattle.entries.specs.declared.Seen.{Seen}
-use Rattle.entries.specs.Entries.{entriesAfter}
+use Rattle.entries.specs.Entries.{marksAfter, ranksAfter, isImport, withFile, entriesAfter}
 use Rattle.areas.specs.Areas.{listAfter, countAfter}
 use Rattle.messages.specs.declared.Reading.{Reading}
 use Rattle.messages.specs.declared.Reading.the-variants as reading
@@ -52,7 +52,7 @@ use Rattle.validity.proofs.Runs.{ran}
 
 t3346-is : (r : Record) (w : ℕ) (octets : List ℕ) → isTaken (answeredBy r (Timer 6 w) octets) ≡ true
     → (advanceOf r (Timer 6 w) octets .next ≡ t3346Record r w) × (advanceOf r (Timer 6 w) octets .reply .restart ≡ On w)
-unfolding t3346Record ticked joinedOf together carriedOut doneOf withCounts takenPlan takenReply hotAfter hotOf effectOf timerEffect isDeviceTimer clockEffect clockTurn t3346Out accessOf otherOf clocked flagAfter accessIn tableAfter deedOf deedOn entriesAfter listAfter countAfter keptAfter gutiAfter equivalentsAfter suciAfter
+unfolding t3346Record ticked joinedOf together carriedOut doneOf withCounts takenPlan takenReply hotAfter hotOf effectOf timerEffect isDeviceTimer clockEffect clockTurn t3346Out accessOf otherOf clocked flagAfter accessIn tableAfter deedOf deedOn entriesAfter withFile isImport ranksAfter marksAfter listAfter countAfter keptAfter gutiAfter equivalentsAfter suciAfter
 t3346-is r w octets t = go (eqb w 0) refl (eqb w 1) refl
   where
     go : (b : Bool) → eqb w 0 ≡ b → (c : Bool) → eqb w 1 ≡ c

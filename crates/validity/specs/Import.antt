@@ -1,10 +1,10 @@
--- The record after an import, in document 02's words (R-8), and what is told of it. Assumes nothing.
+-- The record after an import, in document 02's words (R-8, R-9), and what is told of it. Assumes nothing.
 use Prim.Native.Nat.{ℕ, _+_}
 use mathlib.Core.List.{List}
 use lib.ListN.{length}
 use Rattle.networks.specs.Networks.{networksIn}
 use Rattle.entries.specs.Places.{hasEntry}
-use Rattle.entries.specs.Entries.{importedAll, newIn}
+use Rattle.entries.specs.Entries.{fileTaken, newIn}
 use Rattle.record.specs.Setters.{withEntries}
 use Rattle.record.specs.declared.Record.{Record}
 use Rattle.record.specs.declared.Answer.the-variants.{Taken}
@@ -17,11 +17,11 @@ use Rattle.rules.specs.Plan.{allLeft}
 abbrev pub newFrom : Record → List ℕ → List ℕ
 newFrom r file = newIn (λ m. hasEntry (r .hot .a0 .entries) m (r .e0 .nets)) (networksIn file)
 
--- "into access 0": an entry more for each new network, and its networks marked; all else stays
+-- "into access 0": an entry more for each new network, and its networks marked, the last that were (R-9); all else stays
 unfoldable pub importRecord : Record → List ℕ → Record
 importRecord r file = record {
   hot = record { dev = r .hot .dev; a0 = withEntries (r .hot .a0 .entries + length (newFrom r file)) (r .hot .a0); a1 = r .hot .a1 };
-  e0 = importedAll (networksIn file) (r .hot .a0 .entries) (r .e0);
+  e0 = fileTaken file (r .hot .a0 .entries) (r .e0);
   e1 = r .e1;
   roaming = r .roaming;
   regional = r .regional;

@@ -44,6 +44,7 @@ entriesPowered count banlimit t = record {
   n1s = t .n1s;
   forbidden = upto (liftMark banlimit) (entriesHeld count) (t .bans) (t .forbidden);
   barred = zeros 16;
+  ranks = t .ranks;
 }
 
 -- ".. and areas clear"

@@ -4,8 +4,9 @@ use mathlib.Core.Bool.{cond}
 use lib.Dec.{eqb}
 use Rattle.entries.specs.declared.Entries.{Entries}
 use Rattle.entries.specs.declared.Seat.{Seat}
-use Rattle.entries.specs.Places.{placeIn, hasEntry}
-use Rattle.entries.specs.Entries.{banned, barredBy, n1ToLimit}
+use Rattle.entries.specs.Places.{entriesHeld, hasEntry}
+use Rattle.entries.specs.Order.{lastAt}
+use Rattle.entries.specs.Entries.{placeFor, withRanks, banned, barredBy, n1ToLimit}
 use Rattle.areas.specs.Areas.{areaOf, placed, placedCount}
 use Rattle.record.specs.declared.Access.{Access}
 use Rattle.record.specs.declared.Record.{Record}
@@ -19,15 +20,24 @@ use Rattle.turns.specs.Rejects.{rejectT3247, t3346Time, rowText}
 use Rattle.turns.specs.Turns.{turned, otherTurned}
 use Rattle.checks.specs.Answers.{rowNow}
 
--- the pending network's place in its access's entries, found or the first free one
+-- the pending network's place in its access's entries: its own, else the first free one, else that of the entry that gives it up (document 02, R-9)
 abbrev pub seat : ℕ → Access → Entries → Seat
-seat protected a t = record { at = placeIn (a .entries) (a .net) (t .nets); found = hasEntry (a .entries) (a .net) (t .nets); net = a .net; protected = protected }
+seat protected a t = record {
+  at = placeFor (a .entries) (a .net) (t .nets) (t .forbidden) (t .barred) (t .ranks);
+  found = hasEntry (a .entries) (a .net) (t .nets);
+  net = a .net;
+  protected = protected;
+}
+
+-- of so many entries the last that was marked (R-9)
+abbrev pub lastIn : Seat → ℕ → Entries → Entries
+lastIn k count t = withRanks (lastAt (k .at) (entriesHeld count) (t .ranks)) t
 
 -- its mark and counter there
-unfoldable pub markedIn : Mark → Seat → ℕ → ℕ → Entries → Entries
-markedIn noMark k banlimit n1limit t = t
-markedIn forbiddenAndCounted k banlimit n1limit t = banned k banlimit t
-markedIn n1NotAllowedAndCounted k banlimit n1limit t = barredBy k n1limit t
+unfoldable pub markedIn : Mark → Seat → ℕ → ℕ → ℕ → Entries → Entries
+markedIn noMark k count banlimit n1limit t = t
+markedIn forbiddenAndCounted k count banlimit n1limit t = lastIn k count (banned k banlimit t)
+markedIn n1NotAllowedAndCounted k count banlimit n1limit t = lastIn k count (barredBy k n1limit t)
 
 -- an access with its timers run or stopped
 abbrev pub after : Turn → Access
@@ -39,7 +49,7 @@ accessAfter t w me protected cause limit time a e = cond (eqb w me) (after (turn
 
 abbrev rejectEntries : Text → ℕ → ℕ → ℕ → ℕ → ℕ → ℕ → ℕ → Access → Entries → Entries
 rejectEntries t w me protected cause banlimit n1limit net a e =
-    cond (eqb w me) (markedIn (markIn t) (seat protected a e) banlimit n1limit e)
+    cond (eqb w me) (markedIn (markIn t) (seat protected a e) (a .entries) banlimit n1limit e)
     (cond (isN1Across (acrossOf t) w protected cause) (n1ToLimit net (a .entries) n1limit e) e)
 
 unfoldable pub recordAfter : Text → ℕ → ℕ → ℕ → ℕ → ℕ → ℕ → Record → Record

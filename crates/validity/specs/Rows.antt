@@ -1,4 +1,4 @@
--- Document 01's table of rejects, with document 02's R-6 and R-14, a second time, in plain numbers and with no word of the first one: the whole record after each row.
+-- Document 01's table of rejects, with document 02's R-6, R-9 and R-14, a second time, in plain numbers and with no word of the first one: the whole record after each row.
 -- Assumes nothing.
 use Prim.Native.Nat.{ℕ}
 use mathlib.Core.Bool.{Bool, true, false, cond}
@@ -15,7 +15,7 @@ use Rattle.turns.specs.declared.Order.the-variants.{Leave, Stop, Run}
 use Rattle.turns.specs.declared.Orders.{Orders}
 use Rattle.turns.specs.declared.Row.{Row}
 use Rattle.turns.specs.declared.Row.the-variants.{CardBelow, CardLimit, CardProtected, Away, Home, Area, N1, Congested, Protocol, Other}
-use Rattle.validity.specs.Reject.{seat}
+use Rattle.validity.specs.Reject.{seat, lastIn}
 
 -- The figures of a row: of the receiving access the state, update status, attempt counter, GUTI, last area, ngKSI, equivalents, card counter, T3511, T3502 and T3346.
 -- T3510 is stopped, and all else of it stays, but for the entries.
@@ -164,7 +164,9 @@ accessBy l x w me protected limit a e = cond (eqb w me) (withFigures (l a) (cond
 
 abbrev entriesBy : Rest → ℕ → ℕ → ℕ → ℕ → ℕ → ℕ → Access → Entries → Entries
 entriesBy x w me protected banlimit n1limit net a e =
-    cond (eqb w me) (cond (x .bans) (banned (seat protected a e) banlimit e) (cond (x .bars) (barredBy (seat protected a e) n1limit e) e))
+    cond (eqb w me)
+    (cond (x .bans) (lastIn (seat protected a e) (a .entries) (banned (seat protected a e) banlimit e))
+    (cond (x .bars) (lastIn (seat protected a e) (a .entries) (barredBy (seat protected a e) n1limit e)) e))
     (cond (x .acrossN1) (cond (eqb protected 0) e (n1ToLimit net (a .entries) n1limit e)) e)
 
 unfoldable pub figuresRecord : (Access → Figures) → Rest → ℕ → ℕ → ℕ → ℕ → Record → Record

@@ -11,6 +11,7 @@ pub record Columns (t : Entries) : Type 0 where
   pub n1s : length (t .n1s) ≡ 16
   pub forbidden : length (t .forbidden) ≡ 16
   pub barred : length (t .barred) ≡ 16
+  pub ranks : length (t .ranks) ≡ 16
 
 pub record Sized (r : Record) : Type 0 where
   pub e0 : Columns (r .e0)

@@ -77,9 +77,11 @@ enum Phase {
     Both,
     /// The card's file is read between bans and what lifts them, and into tables that are full.
     Imports,
+    /// More networks than an access has entries, with T3247 out and imports between them.
+    Places,
 }
 
-const PHASES: [Phase; 19] = [
+const PHASES: [Phase; 22] = [
     Phase::Mixed,
     Phase::Mixed,
     Phase::Mixed,
@@ -99,6 +101,9 @@ const PHASES: [Phase; 19] = [
     Phase::Busy,
     Phase::Both,
     Phase::Imports,
+    Phase::Places,
+    Phase::Places,
+    Phase::Places,
 ];
 
 /// The cause with which a network may ask for time.
@@ -270,9 +275,24 @@ impl Generator {
         body
     }
 
+    /// A network that has no entry, in most cases, or one that has.
+    fn passed(&mut self, a: usize) -> [u8; 3] {
+        let access = self.record.access[a];
+        let known = if access.entries.full() { 30 } else { 8 };
+        if self.random.odds(known) && !access.entries.is_empty() {
+            return access.entries[self.random.below(access.entries.len())].network;
+        }
+        let first = 8 + self.random.below(40);
+        let mut new = (first..).map(network).filter(|network| access.entry(network).is_none());
+        new.next().unwrap_or(self.record.home)
+    }
+
     /// A network that may be started, in most cases.
     fn choose(&mut self, a: usize) -> [u8; 3] {
         let mut chosen = self.record.home;
+        if self.phase == Phase::Places && self.random.odds(95) {
+            return self.passed(a);
+        }
         let entries = &self.record.access[a].entries;
         if self.phase == Phase::Manual && entries.len() > 2 && self.random.odds(70) {
             return entries[self.random.below(3)].network;
@@ -353,6 +373,7 @@ impl Generator {
         let access = self.access(a);
         let manual = self.flag(match self.phase {
             Phase::Manual | Phase::Imports => 50,
+            Phase::Places => 40,
             _ => 15,
         });
         let mut body = vec![2, 0, access, manual];
@@ -451,6 +472,7 @@ impl Generator {
             Phase::Busy => self.random.pick(&[22, 22, 22, 22, 22, 22, 22, 11, 15, 27, 9, 111]),
             Phase::Both => self.random.pick(&[27, 27, 27, 27, 72, 11]),
             Phase::Imports => self.random.pick(&[11, 11, 11, 73, 27, 22]),
+            Phase::Places => self.random.pick(&[11, 11, 73, 27, 27, 72, 72]),
             _ if self.wild && self.random.odds(10) => self.random.octet(),
             _ => self.random.pick(&CAUSES),
         }
@@ -656,6 +678,7 @@ impl Generator {
             Phase::Mixed => 25,
             Phase::Manual => 40,
             Phase::Imports => 30,
+            Phase::Places => 8,
             Phase::Areas => 1,
             Phase::Moving if self.updating(a) => 55,
             Phase::Lost if self.updating(a) => 8,
@@ -672,6 +695,7 @@ impl Generator {
         match octets[2..] {
             [0x42, ..] => 95,
             _ if self.phase == Phase::Areas => 60,
+            _ if self.phase == Phase::Places => 8,
             [_, CONGESTION] => 50,
             _ => 20,
         }
@@ -776,7 +800,7 @@ impl Generator {
 
     fn turn(&mut self) {
         self.phase = self.random.pick(&PHASES);
-        let most = if self.phase == Phase::Areas { 500 } else { 180 };
+        let most = if matches!(self.phase, Phase::Areas | Phase::Places) { 500 } else { 180 };
         self.left = 20 + self.random.below(most);
     }
 
@@ -792,6 +816,7 @@ impl Generator {
         let lifts = match self.phase {
             Phase::Areas | Phase::Networks => 5,
             Phase::Imports => 150,
+            Phase::Places => 60,
             _ => 40,
         };
         if self.record.t3247 && self.random.below(1000) < lifts {
@@ -799,6 +824,9 @@ impl Generator {
         }
         if self.phase == Phase::Imports && self.random.odds(25) {
             return self.carded();
+        }
+        if self.phase == Phase::Places && self.random.odds(4) {
+            return self.import();
         }
         if self.random.odds(3) {
             return self.stray();
@@ -838,7 +866,7 @@ impl Generator {
             return if self.random.odds(50) { vec![5, 0] } else { self.stray() };
         }
         if stuck(states[a]) {
-            if self.random.odds(6) {
+            if self.random.odds(if self.phase == Phase::Places { 40 } else { 6 }) {
                 return vec![5, 0];
             }
             a = 1 - a;

@@ -7,19 +7,12 @@ use Rattle.checks.proofs.is_full.Tie as tie
 needs-entry-requires : tie.Need-needs-entry-requires
 needs-entry-requires c κs = search needs
 
-not-requires : tie.Need-not-requires
-not-requires c κs = search needs
-
 and-requires : tie.Need-and-requires
 and-requires c κs = search needs
 
-and-requires-2 : tie.Need-and-requires-2
-and-requires-2 c κs = search needs
-
 returns : tie.Need-returns
 unfolding isFull
-returns c = rw (c .and2 .ensures, c .before .and .ensures, c .before .before .before .not .ensures, c .before .before .before .before .needs-entry .ensures)
+returns c = rw (c .and .ensures, c .before .before .needs-entry .ensures)
 
 pub is-full-spec : {M : Type 1} → statement M
-is-full-spec =
-    tie.close (tie.spec needs-entry-requires not-requires and-requires and-requires-2 returns)
+is-full-spec = tie.close (tie.spec needs-entry-requires and-requires returns)

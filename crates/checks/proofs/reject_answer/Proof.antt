@@ -16,9 +16,6 @@ not-requires c κs = search needs
 row-now-requires : tie.Need-row-now-requires
 row-now-requires c κs = search needs
 
-access-of-requires : tie.Need-access-of-requires
-access-of-requires c κs = search needs
-
 is-full-requires : tie.Need-is-full-requires
 is-full-requires c κs = search needs
 
@@ -30,7 +27,7 @@ checks-requires c κs = search needs
 
 returns : tie.Need-returns
 unfolding rejectAnswer
-returns c = rw (c .checks .ensures, c .before .not2 .ensures, c .before .before .is-full .ensures, c .before .before .before .access-of .ensures, c .before .before .before .before .row-now .ensures, c .before .before .before .before .before .not .ensures, c .before .before .before .before .before .before .is-ignored .ensures, c .before .before .before .before .before .before .before .other-of .ensures)
+returns c = rw (c .checks .ensures, c .before .not2 .ensures, c .before .before .is-full .ensures, c .before .before .before .row-now .ensures, c .before .before .before .before .not .ensures, c .before .before .before .before .before .is-ignored .ensures, c .before .before .before .before .before .before .other-of .ensures)
 
 pub reject-answer-spec : {M : Type 1} → statement M
 reject-answer-spec =
@@ -40,7 +37,6 @@ reject-answer-spec =
     is-ignored-requires
     not-requires
     row-now-requires
-    access-of-requires
     is-full-requires
     not-requires-2
     checks-requires

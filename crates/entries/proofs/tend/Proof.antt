@@ -1,6 +1,5 @@
 -- `tend` meets its contract: the deed picks the definition, and the callee's contract is that definition. Assumes nothing.
-use Rattle.entries.specs.Entries.{unforbidden, n1ToLimit, swept, powered, importedAll, entriesAfter}
-use Rattle.networks.specs.Networks.{networksIn}
+use Rattle.entries.specs.Entries.{unforbidden, n1ToLimit, swept, powered, marksAfter}
 use Rattle.entries.proofs.Laws.{turn}
 use borrow.Author.Needs.{needs}
 use Rattle.entries.proofs.tend.Statement.{statement}
@@ -55,39 +54,39 @@ wipe-requires : tie.Need-wipe-requires
 wipe-requires c κs = search needs
 
 returns : tie.Need-returns
-unfolding entriesAfter
+unfolding marksAfter
 returns c = rw (c .enum-told .given .1)
 
 returns-2 : tie.Need-returns-2
-unfolding entriesAfter
+unfolding marksAfter
 returns-2 c = rw (c .before .before .before .before .before .before .before .k .given .1) (c .strike .ensures)
 
 returns-3 : tie.Need-returns-3
-unfolding entriesAfter
+unfolding marksAfter
 returns-3 c = rw (c .before .before .before .before .before .before .before .k2 .given .1) (turn _ _ _ _ (c .strike2 .ensures))
 
 returns-4 : tie.Need-returns-4
-unfolding entriesAfter unforbidden
+unfolding marksAfter unforbidden
 returns-4 c = rw (c .before .before .before .k3 .given .1, c .put-when .ensures)
 
 returns-5 : tie.Need-returns-5
-unfolding entriesAfter n1ToLimit
+unfolding marksAfter n1ToLimit
 returns-5 c = rw (c .before .before .before .before .k4 .given .1, c .to-limit .ensures)
 
 returns-6 : tie.Need-returns-6
-unfolding entriesAfter networksIn importedAll
+unfolding marksAfter
 returns-6 c = rw (c .enum-told2 .given .1)
 
 returns-7 : tie.Need-returns-7
-unfolding entriesAfter swept
+unfolding marksAfter swept
 returns-7 c = rw (c .before .before .before .before .before .enum-told3 .given .1, c .sweep-both .ensures .0, c .sweep-both .ensures .1)
 
 returns-8 : tie.Need-returns-8
-unfolding entriesAfter powered
+unfolding marksAfter powered
 returns-8 c = rw (c .before .before .before .before .enum-told4 .given .1, c .cycle .ensures .0, c .cycle .ensures .1)
 
 returns-9 : tie.Need-returns-9
-unfolding entriesAfter
+unfolding marksAfter
 returns-9 c = rw (c .before .before .before .before .before .before .enum-told5 .given .1) (c .wipe .ensures)
 
 pub tend-spec : {M : Type 1} → statement M

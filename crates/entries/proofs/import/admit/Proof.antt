@@ -2,7 +2,7 @@
 use mathlib.Core.Path.{refl}
 use Rattle.entries.specs.Places.{placeIn, hasEntry}
 use Rattle.entries.specs.Entries.{imported}
-use Rattle.entries.proofs.Laws.{fresh}
+use Rattle.entries.proofs.Laws.{fresh, otherwise}
 use borrow.Author.Needs.{needs}
 use Rattle.entries.proofs.import.admit.Statement.{statement}
 use Rattle.entries.proofs.import.admit.Tie as tie
@@ -28,6 +28,12 @@ put-requires c κs = search needs
 put-when-requires-3 : tie.Need-put-when-requires-3
 put-when-requires-3 c κs = search needs
 
+cast-put-when : tie.Need-cast-put-when
+cast-put-when c = search needs
+
+put-when-requires-4 : tie.Need-put-when-requires-4
+put-when-requires-4 c κs = search needs
+
 grow-requires : tie.Need-grow-requires
 grow-requires c κs = search needs
 
@@ -36,15 +42,16 @@ unfolding hasEntry placeIn imported
 returns c =
     rw (
       c .grow .ensures,
-      c .before .put-when3 .ensures,
-      c .before .before .before .put .ensures,
-      c .before .before .before .before .before .put-when2 .ensures,
-      c .before .before .before .before .before .before .before .put-when .ensures,
-      c .before .before .before .before .before .before .before .before .before .put-net .ensures,
-      c .before .before .before .before .before .before .before .before .before .before .before .find .ensures,
-      c .before .before .before .before .before .before .before .before .before .before .before .before .before .size .ensures .0,
+      c .before .put-when4 .ensures,
+      c .before .before .before .put-when3 .ensures,
+      c .before .before .before .before .before .put .ensures,
+      c .before .before .before .before .before .before .before .put-when2 .ensures,
+      c .before .before .before .before .before .before .before .before .before .put-when .ensures,
+      c .before .before .before .before .before .before .before .before .before .before .before .put-net .ensures,
+      c .before .before .before .before .before .before .before .before .before .before .before .before .before .find .ensures,
+      c .before .before .before .before .before .before .before .before .before .before .before .before .before .before .before .size .ensures .0,
     )
-    (refl, simp fresh)
+    (refl, simp (fresh, otherwise))
 
 pub admit-spec : {M : Type 1} → statement M
 admit-spec =
@@ -57,5 +64,7 @@ admit-spec =
     put-when-requires-2
     put-requires
     put-when-requires-3
+    cast-put-when
+    put-when-requires-4
     grow-requires
     returns)

@@ -1,5 +1,5 @@
 -- Deed by deed, as the definition. Assumes nothing.
-use Rattle.entries.specs.Counting.{isImport}
+use Rattle.entries.specs.Entries.{isImport}
 use borrow.Author.Needs.{needs}
 use Rattle.entries.proofs.import.is_import.Statement.{statement}
 use Rattle.entries.proofs.import.is_import.Tie as tie

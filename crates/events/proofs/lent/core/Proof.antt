@@ -27,6 +27,9 @@ deed-on-requires c κs = search needs
 deed-on-requires-2 : tie.Need-deed-on-requires-2
 deed-on-requires-2 c κs = search needs
 
+order-requires : tie.Need-order-requires
+order-requires c κs = search needs
+
 tend-requires : tie.Need-tend-requires
 tend-requires c κs = search needs
 
@@ -47,17 +50,19 @@ counted-requires c κs = search needs
 
 returns : tie.Need-returns
 returns c =
-    let start = c .before .before .before .before .before .before .before .before .before .before .before .before .before .before .before .before .before .before .before .before .before .before .before .before .before .before .before .before .before .before .before .before .before .before .before .before .before .before .before .before in
-    let asked = c .before .before .before .before .before .before .before .before .before .before .before .before .before .before .before .before .before .before .before .before .before .before .before .before .before .before .before .before .before .before .before .before .before .before .before .before .before .before in
-    let planned = c .before .before .before .before .before .before .before .before .before .before .before .before .before .before .before .before .before .before .before .before .before .before .before .before .before .before in
-    let placed = c .before .before .before .before .before .before .before .before .before .before .before .before .before .before .before .before .before .before .before .before .before .before .before .before .before .before .before .before .before .before in
-    core-law (start .args .h) (start .args .e) (start .args .octets .now) (asked .ask-of .result) (placed .site-of .result) (placed .before .see .result) (planned .before .listing .result) (planned .plan-of .result)
-    (c .before .before .before .before .before .before .before .before .before .before .before .before .before .before .before .before .before .before .before .before .before .before .before .before .deed-on .result) (c .before .before .before .before .before .before .before .before .before .before .before .before .before .before .before .before .before .before .before .before .before .before .before .deed-on2 .result)
-    (entriesOf (start .args .nets0 .now) (start .args .bans0 .now) (start .args .n1s0 .now) (start .args .forbidden0 .now) (start .args .barred0 .now))
-    (entriesOf (start .args .nets1 .now) (start .args .bans1 .now) (start .args .n1s1 .now) (start .args .forbidden1 .now) (start .args .barred1 .now))
+    let start = c .before .before .before .before .before .before .before .before .before .before .before .before .before .before .before .before .before .before .before .before .before .before .before .before .before .before .before .before .before .before .before .before .before .before .before .before .before .before .before .before .before .before .before .before .before .before in
+    let asked = c .before .before .before .before .before .before .before .before .before .before .before .before .before .before .before .before .before .before .before .before .before .before .before .before .before .before .before .before .before .before .before .before .before .before .before .before .before .before .before .before .before .before .before .before in
+    let seen = c .before .before .before .before .before .before .before .before .before .before .before .before .before .before .before .before .before .before .before .before .before .before .before .before .before .before .before .before .before .before .before .before .before .before .before in
+    let placed = c .before .before .before .before .before .before .before .before .before .before .before .before .before .before .before .before .before .before .before .before .before .before .before .before .before .before .before .before .before .before .before .before .before .before in
+    let listed = c .before .before .before .before .before .before .before .before .before .before .before .before .before .before .before .before .before .before .before .before .before .before .before .before .before .before .before .before .before .before .before in
+    let planned = c .before .before .before .before .before .before .before .before .before .before .before .before .before .before .before .before .before .before .before .before .before .before .before .before .before .before .before .before .before .before in
+    core-law (start .args .h) (start .args .e) (start .args .octets .now) (asked .ask-of .result) (placed .site-of .result) (seen .see .result) (listed .listing .result) (planned .plan-of .result)
+    (c .before .before .before .before .before .before .before .before .before .before .before .before .before .before .before .before .before .before .before .before .before .before .before .before .before .before .before .before .deed-on .result) (c .before .before .before .before .before .before .before .before .before .before .before .before .before .before .before .before .before .before .before .before .before .before .before .before .before .before .before .deed-on2 .result)
+    (entriesOf (start .args .nets0 .now) (start .args .bans0 .now) (start .args .n1s0 .now) (start .args .forbidden0 .now) (start .args .barred0 .now) (start .args .ranks0 .now))
+    (entriesOf (start .args .nets1 .now) (start .args .bans1 .now) (start .args .n1s1 .now) (start .args .forbidden1 .now) (start .args .barred1 .now) (start .args .ranks1 .now))
     _ _ _ (start .args .roaming .now) (start .args .regional .now) _ _ (c .before .before .before .tend3 .result) (c .before .tend4 .result) (c .counted .result)
-    (asked .ask-of .ensures) (placed .before .see .ensures) (placed .site-of .ensures) (planned .before .listing .ensures) (planned .plan-of .ensures) (c .before .before .before .before .before .before .before .before .before .before .before .before .before .before .before .before .before .before .before .before .before .before .before .before .deed-on .ensures) (c .before .before .before .before .before .before .before .before .before .before .before .before .before .before .before .before .before .before .before .before .before .before .before .deed-on2 .ensures)
-    (c .before .before .before .before .before .before .before .before .before .before .before .before .before .before .before .before .before .tend .ensures) (c .before .before .before .before .before .before .before .before .before .before .before .tend2 .ensures) (c .before .before .before .before .before .file .ensures)
+    (asked .ask-of .ensures) (seen .see .ensures) (placed .site-of .ensures) (listed .listing .ensures) (planned .plan-of .ensures) (c .before .before .before .before .before .before .before .before .before .before .before .before .before .before .before .before .before .before .before .before .before .before .before .before .before .before .before .before .deed-on .ensures) (c .before .before .before .before .before .before .before .before .before .before .before .before .before .before .before .before .before .before .before .before .before .before .before .before .before .before .before .deed-on2 .ensures)
+    (c .before .before .before .before .before .before .before .before .before .before .before .before .before .before .before .before .before .before .before .before .before .before .before .before .order .ensures .0) (c .before .before .before .before .before .before .before .before .before .before .before .before .before .before .before .before .before .before .before .before .before .before .before .before .order .ensures .1) (c .before .before .before .before .before .before .before .before .before .before .before .before .before .before .before .before .before .before .tend .ensures) (c .before .before .before .before .before .before .before .before .before .before .before .before .tend2 .ensures) (c .before .before .before .before .before .file .ensures)
     (c .before .before .before .tend3 .ensures .0) (c .before .before .before .tend3 .ensures .1) (c .before .tend4 .ensures .0) (c .before .tend4 .ensures .1) (c .counted .ensures)
 
 pub core-spec : {M : Type 1} → statement M
@@ -71,6 +76,7 @@ core-spec =
     plan-of-requires
     deed-on-requires
     deed-on-requires-2
+    order-requires
     tend-requires
     tend-requires-2
     file-requires
