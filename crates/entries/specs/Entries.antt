@@ -151,13 +151,13 @@ unfoldable pub importedAll : (ℕ → Bool) → List ℕ → ℕ → Entries →
 importedAll named [] count t = withRanks (lastTo named (entriesHeld count) (entriesHeld count) (t .nets) (t .ranks)) t
 importedAll named (net ∷ rest) count t = importedAll named rest (grown (hasEntry count net (t .nets)) count) (imported net count t)
 
-unfoldable pub isAmong : ℕ → List ℕ → Bool
-isAmong n [] = false
-isAmong n (x ∷ xs) = cond (eqb x n) true (isAmong n xs)
+unfoldable pub isFiled : ℕ → List ℕ → Bool
+isFiled n [] = false
+isFiled n (x ∷ xs) = cond (eqb x n) true (isFiled n xs)
 
 -- a card's file
 abbrev pub fileTaken : List ℕ → ℕ → Entries → Entries
-fileTaken file count t = importedAll (λ n. isAmong n (networksIn file)) (networksIn file) count t
+fileTaken file count t = importedAll (λ n. isFiled n (networksIn file)) (networksIn file) count t
 
 -- "the distinct new networks": those that are not known, each once and in their order
 unfoldable pub newIn : (ℕ → Bool) → List ℕ → List ℕ

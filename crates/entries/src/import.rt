@@ -14,7 +14,7 @@ ghost use mathlib.Core.Bool.{cond};
 ghost use Prim.Native.Nat.{_+_, _≤_};
 ghost use Rattle.networks.specs.Networks.{networksIn};
 ghost use Rattle.entries.specs.Places.{entriesHeld, hasEntry, putAt};
-ghost use Rattle.entries.specs.Entries.{entriesOf, grown, imported, isAmong, fileTaken, heldWith, isImport};
+ghost use Rattle.entries.specs.Entries.{entriesOf, grown, imported, isFiled, fileTaken, heldWith, isImport};
 ghost use Rattle.entries.specs.Order.{lastTo};
 ghost use Rattle.entries.specs.Counting.{isPassed};
 
@@ -110,7 +110,7 @@ pub fn is_import(k: Deed) -> bool
 }
 
 fn names(file: &[u8], net: u32) -> bool
-    ensures { λ r. ⌜ r ≡ isAmong net (networksIn (now (file .entry))) ⌝ }
+    ensures { λ r. ⌜ r ≡ isFiled net (networksIn (now (file .entry))) ⌝ }
 {
     if is_unused(net) {
         return false;
@@ -127,7 +127,7 @@ fn names(file: &[u8], net: u32) -> bool
 
 // Those that the file names come last in the order, one after the other from the first place on.
 fn settle(file: &[u8], count: u8, nets: &[u32; 16], ranks: &mut [u8; 16])
-    ensures { λ r. ⌜ now (ranks .exit) ≡ lastTo (λ m. isAmong m (networksIn (now (file .entry)))) (entriesHeld count) (entriesHeld count) (now (nets .entry)) (now (ranks .entry)) ⌝ }
+    ensures { λ r. ⌜ now (ranks .exit) ≡ lastTo (λ m. isFiled m (networksIn (now (file .entry)))) (entriesHeld count) (entriesHeld count) (now (nets .entry)) (now (ranks .entry)) ⌝ }
 {
     let n = size(count);
     let mut i: usize = 0;

@@ -1,4 +1,4 @@
-// The order of the entries by their last marking, and who gives up its place to a seventeenth network.
+// The order of the entries by their to_end marking, and who gives up its place to a seventeenth network.
 use crate::put;
 use crate::size;
 ghost use mathlib.Core.Path.{_≡_};
@@ -27,7 +27,7 @@ fn close_up(r: u8, ranks: &mut [u8; 16])
 }
 
 // A place in use is left by its rank and comes last; a free one is one more.
-fn last(at: usize, count: u8, ranks: &mut [u8; 16])
+fn to_end(at: usize, count: u8, ranks: &mut [u8; 16])
     ensures { λ s. ⌜ now (ranks .exit) ≡ lastAt at (entriesHeld count) (now (ranks .entry)) ⌝ }
 {
     let n = size(count);
@@ -44,7 +44,7 @@ pub fn last_when(when: bool, at: usize, count: u8, ranks: &mut [u8; 16])
     ensures { λ s. ⌜ now (ranks .exit) ≡ cond when (lastAt at (entriesHeld count) (now (ranks .entry))) (now (ranks .entry)) ⌝ }
 {
     if when {
-        last(at, count, ranks);
+        to_end(at, count, ranks);
     }
 }
 

@@ -216,7 +216,7 @@ fn file(
     }
 }
 
-fn mark(access: u8, at: usize, h: Hot, ranks0: &mut [u8; 16], ranks1: &mut [u8; 16])
+fn mark_own(access: u8, at: usize, h: Hot, ranks0: &mut [u8; 16], ranks1: &mut [u8; 16])
     ensures { λ r. ⌜ now (ranks0 .exit) ≡ cond (eqb access 0) (lastAt at (entriesHeld (h .a0 .entries)) (now (ranks0 .entry))) (now (ranks0 .entry)) ⌝ }
     ensures { λ r. ⌜ now (ranks1 .exit) ≡ cond (eqb access 1) (lastAt at (entriesHeld (h .a1 .entries)) (now (ranks1 .entry))) (now (ranks1 .entry)) ⌝ }
 {
@@ -225,14 +225,14 @@ fn mark(access: u8, at: usize, h: Hot, ranks0: &mut [u8; 16], ranks1: &mut [u8; 
 }
 
 // The order of both accesses, by the deed on the event's own: no other marks, and a card change is one on both. Before the rest, where it costs least.
-fn order(access: u8, k: Deed, h: Hot, ranks0: &mut [u8; 16], ranks1: &mut [u8; 16])
+fn reorder(access: u8, k: Deed, h: Hot, ranks0: &mut [u8; 16], ranks1: &mut [u8; 16])
     ensures { λ r. ⌜ now (ranks0 .exit) ≡ orderOn access k 0 (h .a0 .entries) (now (ranks0 .entry)) ⌝ }
     ensures { λ r. ⌜ now (ranks1 .exit) ≡ orderOn access k 1 (h .a1 .entries) (now (ranks1 .entry)) ⌝ }
 {
     match k {
         Deed::Nothing => {}
-        Deed::Ban(s) => mark(access, s.at, h, ranks0, ranks1),
-        Deed::Bar(s) => mark(access, s.at, h, ranks0, ranks1),
+        Deed::Ban(s) => mark_own(access, s.at, h, ranks0, ranks1),
+        Deed::Bar(s) => mark_own(access, s.at, h, ranks0, ranks1),
         Deed::Accept(_) => {}
         Deed::ToLimit(_) => {}
         Deed::Import => {}
@@ -287,7 +287,7 @@ pub fn core(
     let theirs = work.theirs;
     let d0 = rules::deed_on(p.access, mine, theirs, 0);
     let d1 = rules::deed_on(p.access, mine, theirs, 1);
-    order(p.access, mine, h, ranks0, ranks1);
+    reorder(p.access, mine, h, ranks0, ranks1);
     entries::tend(
         d0,
         h.a0.entries,

@@ -14,13 +14,13 @@ use Rattle.entries.specs.declared.Deed.the-variants as deed
 use Rattle.laws.proofs.Seek.{seek-le}
 use Rattle.entries.specs.Places.{sameNet, entriesHeld, placeIn, hasEntry, putAt}
 use Rattle.entries.specs.Order.{lastAt, leaverTo}
-use Rattle.entries.specs.Entries.{placeFor, withRanks, unforbidden, n1ToLimit, swept, powered, none, grown, isAmong, heldWith, marksAfter, ranksAfter, isImport, withFile, entriesAfter}
+use Rattle.entries.specs.Entries.{placeFor, withRanks, unforbidden, n1ToLimit, swept, powered, none, grown, isFiled, heldWith, marksAfter, ranksAfter, isImport, withFile, entriesAfter}
 use Rattle.entries.specs.Entries as entries
 use Rattle.entries.proofs.Joining.{held-fits}
 use Rattle.validity.proofs.Own.{seatIn}
 use Rattle.validity.proofs.Imports.{held-is}
 use Rattle.history.specs.Cell.{cellIn}
-use Rattle.history.specs.Tale.{Limits, News, isPut, puts, isOneOf, Tale, begun, told, filed, rejected}
+use Rattle.history.specs.Tale.{Limits, News, isPut, puts, isOneOf, Tale, begun, told, filed, turnedAway}
 use Rattle.history.proofs.Said.{blank, countAfter, markAfter, cellAfter, said-none, banned, barred, accepted, reached, imported, ended, cycled, quiet}
 use Rattle.history.proofs.Cells.{cell-none, cell-limited, cell-swept, cell-cycled, cell-banned, cell-barred, cell-accepted}
 use Rattle.history.proofs.Giving.{Placed, own, given, isLeft}
@@ -64,7 +64,7 @@ deedNews (deed.Ban s) octets held n = cond (eqb (s .net) n) (banned (not (eqb (s
 deedNews (deed.Bar s) octets held n = cond (eqb (s .net) n) (barred (not (eqb (s .protected) 0))) quiet
 deedNews (deed.Accept s) octets held n = cond (eqb (s .net) n) accepted quiet
 deedNews (deed.ToLimit net) octets held n = cond (eqb net n && held) reached quiet
-deedNews deed.Import octets held n = cond (isAmong n (networksIn octets)) imported quiet
+deedNews deed.Import octets held n = cond (isFiled n (networksIn octets)) imported quiet
 deedNews deed.Sweep octets held n = ended
 deedNews deed.Power octets held n = cycled
 deedNews deed.Fresh octets held n = quiet
@@ -72,8 +72,8 @@ deedNews deed.Fresh octets held n = quiet
 -- what it makes of the tale, with its news d
 abbrev pub deedTale : Limits → Deed → List ℕ → (ℕ → News) → Tale → Tale
 deedTale l deed.Nothing octets d k = told d k
-deedTale l (deed.Ban s) octets d k = rejected l (s .net) d k
-deedTale l (deed.Bar s) octets d k = rejected l (s .net) d k
+deedTale l (deed.Ban s) octets d k = turnedAway l (s .net) d k
+deedTale l (deed.Bar s) octets d k = turnedAway l (s .net) d k
 deedTale l (deed.Accept s) octets d k = told d k
 deedTale l (deed.ToLimit net) octets d k = told d k
 deedTale l deed.Import octets d k = filed (networksIn octets) d k
@@ -163,7 +163,7 @@ module _ (l : Limits) (many : ℕ) (octets : List ℕ) (count : ℕ) (t : Entrie
         → t′ .nets ≡ putAt (t .nets) (at (x .net)) (x .net) → t′ .ranks ≡ lastAt (at (x .net)) (entriesHeld count) (t .ranks)
         → ((n : ℕ) → cellIn (grown (hasEntry count (x .net) (t .nets)) count) t′ n
         ≡ cond (isLeft count (x .net) (t .nets) (at (x .net)) n) blank (cellAfter l (cond (eqb (x .net) n) y quiet) (cellIn count t n)))
-        → Fit l (grown (hasEntry count (x .net) (t .nets)) count) t′ (rejected l (x .net) d k)
+        → Fit l (grown (hasEntry count (x .net) (t .nets)) count) t′ (turnedAway l (x .net) d k)
     struck x f y m is t′ en er ec =
         fit-struck l count t k s g (x .net) (at (x .net)) (placed (x .net) (there x f)) d (marks (x .net) y m d is) (quiets (x .net) y m d is) t′ en er
         (λ n. ec n ∙ ap (λ (z : News). cond (isLeft count (x .net) (t .nets) (at (x .net)) n) blank (cellAfter l z (cellIn count t n))) (sym (is n))) (last (x .net))

@@ -13,7 +13,7 @@ use borrow.Author.Tests.{leb-false, ltb-true, ltb-false, lt-ltb, eqb-true}
 use Rattle.laws.proofs.Seek.{seek-le, seek-found}
 use Rattle.entries.specs.declared.Entries.{Entries}
 use Rattle.entries.specs.Places.{sameNet, entriesHeld, placeIn, hasEntry, putAt}
-use Rattle.entries.specs.Entries.{grown, importedAll, newIn, isAmong}
+use Rattle.entries.specs.Entries.{grown, importedAll, newIn, isFiled}
 use Rattle.entries.specs.Entries as entries
 use Rattle.entries.proofs.Joining.{has-joined, new-free, new-room, new-step}
 use Rattle.entries.proofs.Ranks.{Order, Follows, new-order, new-follows, lastTo-follows}
@@ -21,7 +21,7 @@ use Rattle.validity.specs.Sized.{Columns}
 use Rattle.validity.proofs.Sizes.{imported-columns}
 use Rattle.validity.proofs.Imports.{news}
 use Rattle.history.specs.Cell.{cellIn, Lined}
-use Rattle.history.specs.Tale.{Cell, Limits, News, puts, isPut, isOneOf, Tale, joined, filed, age}
+use Rattle.history.specs.Tale.{Cell, Limits, News, puts, isPut, isOneOf, Tale, enrolled, filed, age}
 use Rattle.history.proofs.Said.{cell, countAfter, markAfter, cellAfter, imported, quiet}
 use Rattle.history.proofs.Columns.{put-in, touched, spared, held-after}
 use Rattle.history.proofs.Lined.{held-whole, ltb-suc, lined-has, used-has, lined-more}
@@ -58,14 +58,14 @@ module _ (l : Limits) where
 module _ (named : ℕ → Bool) where
   module _ (l : Limits) where
     pub all-cells : (xs : List ℕ) (n : ℕ) (t : Entries) → Columns t → n + length (news xs n t) ≤ 16 → (m : ℕ)
-        → cellIn (n + length (news xs n t)) (importedAll named xs n t) m ≡ cellAfter l (cond (isAmong m xs) imported quiet) (cellIn n t m)
-    unfolding importedAll newIn isAmong cellIn
+        → cellIn (n + length (news xs n t)) (importedAll named xs n t) m ≡ cellAfter l (cond (isFiled m xs) imported quiet) (cellIn n t m)
+    unfolding importedAll newIn isFiled cellIn
     all-cells [] n t w f m = rw (add-zero n) (put-after l false (cellIn n t m))
     all-cells (net ∷ xs) n t w f m =
         let more = new-step net xs n t (w .nets) f in
         rw more (all-cells xs (grown (hasEntry n net (t .nets)) n) (entries.imported net n t) (imported-columns t w net n) (rw more at f) m)
-        ∙ ap (cellAfter l (cond (isAmong m xs) imported quiet)) (cell-imported l n net t w (new-room net xs n t (w .nets) f) m)
-        ∙ put-twice l (eqb net m) (isAmong m xs) (cellIn n t m)
+        ∙ ap (cellAfter l (cond (isFiled m xs) imported quiet)) (cell-imported l n net t w (new-room net xs n t (w .nets) f) m)
+        ∙ put-twice l (eqb net m) (isFiled m xs) (cellIn n t m)
 
   or-last : (a b c : Bool) → (a || (b || c)) ≡ (cond b true a || c)
   or-last true true c = refl
@@ -74,13 +74,13 @@ module _ (named : ℕ → Bool) where
   or-last false false c = refl
 
   all-entered : (xs : List ℕ) (n : ℕ) (t : Entries) → Columns t → n + length (news xs n t) ≤ 16 → (m : ℕ)
-      → hasEntry (n + length (news xs n t)) m (importedAll named xs n t .nets) ≡ (isAmong m xs || hasEntry n m (t .nets))
-  unfolding importedAll newIn isAmong entries.imported
+      → hasEntry (n + length (news xs n t)) m (importedAll named xs n t .nets) ≡ (isFiled m xs || hasEntry n m (t .nets))
+  unfolding importedAll newIn isFiled entries.imported
   all-entered [] n t w f m = rw (add-zero n)
   all-entered (net ∷ xs) n t w f m =
       let more = new-step net xs n t (w .nets) f in
       rw more (all-entered xs (grown (hasEntry n net (t .nets)) n) (entries.imported net n t) (imported-columns t w net n) (rw more at f) m)
-      ∙ ap (λ (s : Bool). isAmong m xs || s) (held-after n net (t .nets) (w .nets) (new-room net xs n t (w .nets) f) m) ∙ or-last (isAmong m xs) (eqb net m) (hasEntry n m (t .nets))
+      ∙ ap (λ (s : Bool). isFiled m xs || s) (held-after n net (t .nets) (w .nets) (new-room net xs n t (w .nets) f) m) ∙ or-last (isFiled m xs) (eqb net m) (hasEntry n m (t .nets))
 
   -- one network: its entry, or a free one
   module _ (net : ℕ) (xs : List ℕ) (n : ℕ) (t : Entries) (w : Columns t) (fits : n + length (news (net ∷ xs) n t) ≤ 16) (few : n ≤ 16) where
@@ -142,8 +142,8 @@ module _ (named : ℕ → Bool) where
           go false e = e
 
   lined-all : (xs : List ℕ) (n : ℕ) (t : Entries) → Columns t → n + length (news xs n t) ≤ 16 → (held : List ℕ) → Lined n (t .nets) held
-      → Lined (n + length (news xs n t)) (importedAll named xs n t .nets) (joined xs held)
-  unfolding importedAll newIn joined
+      → Lined (n + length (news xs n t)) (importedAll named xs n t .nets) (enrolled xs held)
+  unfolding importedAll newIn enrolled
   lined-all [] n t w f held g = rw (add-zero n) g
   lined-all (net ∷ xs) n t w f held g =
       let more = new-step net xs n t (w .nets) f in
@@ -164,9 +164,9 @@ module _ (named : ℕ → Bool) where
         rw more (ranked-all xs (grown (hasEntry n net (t .nets)) n) (entries.imported net n t) (imported-columns t w net n) (rw more at f) (one-new net xs n t w f (omega arith) key new old o g) (one .0) (one .1))
 
 module _ (l : Limits) (count : ℕ) (t : Entries) (k : Tale) (s : Sound count t) (g : Fit l count t k) (xs : List ℕ) (fits : count + length (news xs count t) ≤ 16)
-    (d : ℕ → News) (is : (m : ℕ) → d m ≡ cond (isAmong m xs) imported quiet) where
+    (d : ℕ → News) (is : (m : ℕ) → d m ≡ cond (isFiled m xs) imported quiet) where
   abbrev named : ℕ → Bool
-  named m = isAmong m xs
+  named m = isFiled m xs
 
   abbrev after : Entries
   after = importedAll named xs count t
@@ -200,7 +200,7 @@ module _ (l : Limits) (count : ℕ) (t : Entries) (k : Tale) (s : Sound count t)
       m : ℕ
       m = getD (after .nets) i 0
 
-      entered : (isAmong m xs || hasEntry count m (t .nets)) ≡ true
+      entered : (isFiled m xs || hasEntry count m (t .nets)) ≡ true
       entered = sym (all-entered named xs count t (s .columns) fits m) ∙ used-has many (after .nets) fits i h
 
       go : (b : Bool) → named m ≡ b → age (d m ∷ k .news m) ≡ cond (named m) 0 (key m)

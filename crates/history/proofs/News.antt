@@ -16,7 +16,7 @@ use Rattle.entries.specs.declared.Entries.{Entries}
 use Rattle.entries.specs.declared.Deed.{Deed}
 use Rattle.entries.specs.declared.Deed.the-variants as deed
 use Rattle.entries.specs.declared.Seen.{Seen}
-use Rattle.entries.specs.Entries.{seatOf, isAmong, marksAfter, ranksAfter, isImport, withFile, entriesAfter}
+use Rattle.entries.specs.Entries.{seatOf, isFiled, marksAfter, ranksAfter, isImport, withFile, entriesAfter}
 use Rattle.messages.specs.declared.Reject.{Reject}
 use Rattle.messages.specs.declared.Reading.{Reading}
 use Rattle.messages.specs.declared.Reading.the-variants as reading
@@ -39,7 +39,7 @@ use Rattle.validity.proofs.Good.{Held, Good}
 use Rattle.validity.proofs.Imports.{held-is}
 use Rattle.validity.proofs.Valid.{valid-good}
 use Rattle.history.specs.Cell.{entriesIn, cellOf}
-use Rattle.history.specs.Tale.{Limits, News, isPut, puts, isOneOf, Tale, begun, told, rejected}
+use Rattle.history.specs.Tale.{Limits, News, isPut, puts, isOneOf, Tale, begun, told, turnedAway}
 use Rattle.history.specs.History.{causeNews, acrossNews, messageNews, eventNews, taleBy}
 use Rattle.history.proofs.Said.{cellAfter, accepted, imported, ended, quiet}
 use Rattle.history.proofs.Octets.{readNews, isRead, octets-news}
@@ -116,11 +116,11 @@ module _ (r : Record) (octets : List ℕ) (b protected : ℕ) (draws : Draws) wh
   -- it marks exactly if its news do
   own-tale : (l : Limits) (m : Reading) (held : Bool) (d : ℕ → News) (k : Tale)
       → deedTale l (messageEffect (r .hot) b protected draws m sight .work .mine) octets d k
-      ≡ cond (puts (deedNews (messageEffect (r .hot) b protected draws m sight .work .mine) octets held net)) (rejected l net d k) (told d k)
+      ≡ cond (puts (deedNews (messageEffect (r .hot) b protected draws m sight .work .mine) octets held net)) (turnedAway l net d k) (told d k)
   unfolding messageEffect acceptEffect rejectEffect rowWork puts isPut
   own-tale l (reading.Accept g) held d k = rw (eq-eqb net net refl)
   own-tale l (reading.Reject x) held d k =
-      row-tale l (here x) (seatOf sight net protected) octets is-protected d k ∙ ap (λ (y : News). cond (puts y) (rejected l net d k) (told d k)) (sym (own-word x held))
+      row-tale l (here x) (seatOf sight net protected) octets is-protected d k ∙ ap (λ (y : News). cond (puts y) (turnedAway l net d k) (told d k)) (sym (own-word x held))
   own-tale l (reading.Bad f at) held d k = refl
 
   -- the other one: no message reaches its entries but a protected 27
@@ -197,7 +197,7 @@ module _ (r : Record) (octets : List ℕ) (b protected : ℕ) (draws : Draws) wh
 
   -- what it makes of the tale
   message-tale : (l : Limits) (w : ℕ) (held : ℕ → Bool) (d : ℕ → News) (k : Tale) → ((n : ℕ) → d n ≡ deedNews (deedIn r (Message b protected draws) octets w) octets (held n) n)
-      → deedTale l (deedIn r (Message b protected draws) octets w) octets d k ≡ cond (eqb b w && puts (d (accessOf (r .hot) w .net))) (rejected l (accessOf (r .hot) w .net) d k) (told d k)
+      → deedTale l (deedIn r (Message b protected draws) octets w) octets d k ≡ cond (eqb b w && puts (d (accessOf (r .hot) w .net))) (turnedAway l (accessOf (r .hot) w .net) d k) (told d k)
   unfolding accessIn effectOf
   message-tale l w held d k is = go (eqb b w) refl
     where
@@ -208,7 +208,7 @@ module _ (r : Record) (octets : List ℕ) (b protected : ℕ) (draws : Draws) wh
       theirs = messageEffect (r .hot) b protected draws (readingOf octets) sight .work .theirs
 
       go : (s : Bool) → eqb b w ≡ s
-          → deedTale l (cond (eqb b w) mine theirs) octets d k ≡ cond (eqb b w && puts (d (accessOf (r .hot) w .net))) (rejected l (accessOf (r .hot) w .net) d k) (told d k)
+          → deedTale l (cond (eqb b w) mine theirs) octets d k ≡ cond (eqb b w && puts (d (accessOf (r .hot) w .net))) (turnedAway l (accessOf (r .hot) w .net) d k) (told d k)
       go true q =
           let e : b ≡ w = eqb-true b w q in
           let x : d net ≡ deedNews mine octets (held net) net = rw q at (is net) in
@@ -327,9 +327,9 @@ module _ (r : Record) where
 
   -- the cells of access 0 after a taken import
   pub import-cell : validOf r ≡ true → Columns (r .e0) → (octets : List ℕ) → isTaken (answeredBy r Import octets) ≡ true → (n : ℕ)
-      → cellOf (next r Import octets) 0 n ≡ cellAfter (limitsOf r) (cond (isAmong n (networksIn octets)) imported quiet) (cellOf r 0 n)
+      → cellOf (next r Import octets) 0 n ≡ cellAfter (limitsOf r) (cond (isFiled n (networksIn octets)) imported quiet) (cellOf r 0 n)
   unfolding cellOf entriesIn accessOf entriesAfter withFile isImport ranksAfter marksAfter accessIn effectOf importEffect
   import-cell v c octets t n =
       let f = import-fits v octets t 0 refl in
       let h = held-is (accessOf (r .hot) 0 .entries) octets (entriesIn r 0) (f .1) (f .2) in
-      rw (event-table r Import octets t 0 (omega arith) .0, event-table r Import octets t 0 (omega arith) .1, h .0) (all-cells (λ m. isAmong m (networksIn octets)) (limitsOf r) (networksIn octets) (accessOf (r .hot) 0 .entries) (entriesIn r 0) c (h .1) n)
+      rw (event-table r Import octets t 0 (omega arith) .0, event-table r Import octets t 0 (omega arith) .1, h .0) (all-cells (λ m. isFiled m (networksIn octets)) (limitsOf r) (networksIn octets) (accessOf (r .hot) 0 .entries) (entriesIn r 0) c (h .1) n)

@@ -17,7 +17,7 @@ use Rattle.entries.specs.Order.{lastAt, leaverTo}
 use Rattle.entries.specs.Entries.{grown}
 use Rattle.entries.proofs.Ranks.{Follows, last-follows, last-new, new-follows}
 use Rattle.history.specs.Cell.{cellIn}
-use Rattle.history.specs.Tale.{Limits, News, saidBy, puts, isOneOf, Tale, joined, filed, age, eldest, leaver, rejectedBy, rejected}
+use Rattle.history.specs.Tale.{Limits, News, saidBy, puts, isOneOf, Tale, enrolled, filed, age, eldest, leaver, inPlaceOf, turnedAway}
 use Rattle.history.proofs.Said.{blank, cellAfter, said-none}
 use Rattle.history.proofs.Columns.{put-in}
 use Rattle.history.proofs.Giving.{Placed, own, given, isLeft}
@@ -81,7 +81,7 @@ module _ (l : Limits) (count : ℕ) (t : Entries) (k : Tale) (s : Sound count t)
 
       -- it has an entry
       fit-found : found ≡ true → Fit l (grown found count) t′ (filed (net ∷ []) d k)
-      unfolding filed joined hasEntry placeIn
+      unfolding filed enrolled hasEntry placeIn
       fit-found q = record {
         cells = own-cells;
         lined = rw (named, q, en, same) (g .lined);
@@ -117,7 +117,7 @@ module _ (l : Limits) (count : ℕ) (t : Entries) (k : Tale) (s : Sound count t)
 
       -- a free one
       fit-free : found ≡ false → Fit l (grown found count) t′ (filed (net ∷ []) d k)
-      unfolding filed joined hasEntry placeIn
+      unfolding filed enrolled hasEntry placeIn
       fit-free q = record {
         cells = own-cells;
         lined = rw (named, q, en, lt-ltb count 16 few, free) (lined-more count nets (k .held) net (s .columns .nets) few (g .lined));
@@ -171,8 +171,8 @@ module _ (l : Limits) (count : ℕ) (t : Entries) (k : Tale) (s : Sound count t)
       news′ : ℕ → List News
       news′ m = cond (eqb v m) [] (d m ∷ k .news m)
 
-      fit-given : Fit l (grown found count) t′ (rejectedBy (some v) net d k)
-      unfolding rejectedBy news′
+      fit-given : Fit l (grown found count) t′ (inPlaceOf (some v) net d k)
+      unfolding inPlaceOf news′
       fit-given = record {
         cells = λ m. ec m ∙ rw (le-leb 16 (placeIn count net nets) f) (said m (eqb v m) refl);
         lined = rw (new, en, le-ltb count 16 (omega (arith, full))) (lined-swap count nets (k .held) net at (s .columns .nets) room inside (apart l count t k s g at inside) (g .lined));
@@ -189,11 +189,11 @@ module _ (l : Limits) (count : ℕ) (t : Entries) (k : Tale) (s : Sound count t)
           said m true q = rw q (sym (said-none l))
           said m false q = rw q (said-more l (d m) (k .news m) (cellIn count t m) (cellAfter l (d m) (cellIn count t m)) (g .cells m) refl)
 
-    pub fit-struck : (16 ≤ placeIn count net nets → at ≡ leaverTo 16 (t .forbidden) (t .barred) (t .ranks)) → Fit l (grown found count) t′ (rejected l net d k)
-    unfolding rejected rejectedBy
+    pub fit-struck : (16 ≤ placeIn count net nets → at ≡ leaverTo 16 (t .forbidden) (t .barred) (t .ranks)) → Fit l (grown found count) t′ (turnedAway l net d k)
+    unfolding turnedAway inPlaceOf
     fit-struck lv = go pl found refl
       where
-        go : Placed count net nets at → (b : Bool) → found ≡ b → Fit l (grown found count) t′ (rejected l net d k)
+        go : Placed count net nets at → (b : Bool) → found ≡ b → Fit l (grown found count) t′ (turnedAway l net d k)
         go (own e h) true q = rw (stays e h) (fit-found e h q)
         go (own e h) false q = rw (stays e h) (fit-free e h q)
         go (given f h once) b q = rw (leaves f h (lv f)) (fit-given f h (lv f))

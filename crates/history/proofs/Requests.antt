@@ -129,5 +129,5 @@ pub rows-sent : (sent [] ≡ 0x7E ∷ 0x00 ∷ 0x41 ∷ 0x71 ∷ 0x00 ∷ 0x09 �
     × (sent moved ≡ 0x7E ∷ 0x00 ∷ 0x41 ∷ 0x32 ∷ 0x00 ∷ 0x0B ∷ 0xF2 ∷ 0x00 ∷ 0xF1 ∷ 0x10 ∷ 0x80 ∷ 0x01 ∷ 0xC5 ∷ 0xD1 ∷ 0xC2 ∷ 0xB3 ∷ 0xA4 ∷ 0x2E ∷ 0x02 ∷ 0xF0 ∷ 0xF0 ∷ 0x71 ∷ 0x00 ∷ 0x27
     ∷ 0x7E ∷ 0x00 ∷ 0x41 ∷ 0x32 ∷ 0x00 ∷ 0x0B ∷ 0xF2 ∷ 0x00 ∷ 0xF1 ∷ 0x10 ∷ 0x80 ∷ 0x01 ∷ 0xC5 ∷ 0xD1 ∷ 0xC2 ∷ 0xB3 ∷ 0xA4
     ∷ 0x10 ∷ 0x01 ∷ 0x00 ∷ 0x2E ∷ 0x02 ∷ 0xF0 ∷ 0xF0 ∷ 0x52 ∷ 0x00 ∷ 0xF2 ∷ 0x20 ∷ 0x00 ∷ 0x00 ∷ 0x2A ∷ 0x40 ∷ 0x02 ∷ 0x02 ∷ 0x04 ∷ 0x50 ∷ 0x02 ∷ 0x20 ∷ 0x80 ∷ [])
-unfolding upto.upto upto.copied upto.seekTo upto.allTo upto.distinctTo octets.formatOf octets.leadBy octets.contentsBy octets.readAs octets.leadOf octets.contentsOf octets.sizeOf octets.elementOf octets.joined octets.elementsOf octets.elementsFrom octets.firstOf octets.endOf messages.gutiOf messages.countOf messages.tripletsOf messages.timer2In messages.t3512Of messages.acceptOf messages.endedBy messages.acceptedOf messages.acceptReading messages.rejectOf messages.rejectedOf messages.rejectReading messages.typeReading messages.openedBy messages.readingOf places.entriesHeld places.placeIn places.hasEntry places.peekAt entries.foundIn entries.placeFor entries.seenIn entries.liftMark entries.bumped places.putAt entries.clearUnless entries.raised entries.banned entries.barredBy entries.unforbidden entries.swept entries.powered entries.none entries.marksAfter entries.ranksAfter entries.isImport entries.withFile entries.entriesAfter order.fallen order.lastAt order.rankAt order.leaverTo areas.areasHeld areas.areaPlace areas.listedIn areas.placed areas.placedCount areas.kept areas.stayed areas.sweptList areas.listAfter areas.countAfter network.isNetwork new.newDevice new.newAccess new.emptyRecord new.newRecord valid.deviceRanges valid.periodicRanges valid.deviceNumbers valid.modeRanges valid.pendingRanges valid.identityRanges valid.heldRanges valid.accessRanges valid.rangesOf valid.countersOf valid.cardOf valid.suciOf valid.codesOf valid.clockOf valid.onceOf valid.orderOf valid.validOf answers.numberOf answers.isTaken clocks.flagAfter clocks.isDeviceTimer clocks.runsIn clocks.runsOn clocks.toldOf clocks.clocksOf setters.forgotten setters.inState setters.withStatus setters.withAttempts setters.emptied setters.counted setters.pending setters.keyed setters.taught setters.entered clocks.clocked rows.isCard rows.isNetworkNo rows.isAreaNo rows.isN1No rows.isCongested rows.isProtocol words.isUpdating words.isMark words.listOf words.markIn words.acrossOf words.applied turns.started turns.updated turns.keySet turns.accepted turns.startFailed turns.updateFailed turns.failed turns.t3510Out turns.t3511Out turns.t3502Out turns.t3346Out turns.clockTurn turns.cycled turns.renewed turns.turned turns.rowTurn turns.otherTurned turns.otherTurn hot.accessOf hot.otherOf hot.hotOf checks.mayStart checks.isSame checks.isFree checks.placeAnswer checks.startRange checks.startAnswer checks.updateRange checks.mayUpdate checks.updateAnswer checks.rowNow checks.isFull checks.rejectAnswer checks.readAnswer checks.messageRange checks.messageAnswer checks.timerRange checks.runs checks.timerAnswer checks.keyAnswer checks.cardAnswer effects.ticked effects.scheduled effects.carded effects.cardEffect effects.startEffect effects.updateEffect effects.keyEffect effects.t3512Time effects.acceptT3512 effects.acceptDevice effects.acceptEffect effects.clockEffect effects.t3247Effect effects.t3512Effect effects.deviceEffect effects.timerEffect effects.powerEffect effects.markDeed effects.rowDeed effects.rowWork effects.rejectEffect plan.askOf plan.siteAt plan.siteOf plan.accessIn plan.answerOf plan.messageEffect plan.effectOf plan.hotAfter plan.takenReply plan.isIgnoring plan.refusedReply plan.takenPlan plan.refusedPlan plan.decidedBy plan.planOf parts.seenBy parts.sightOf parts.seenOf parts.listedOf parts.plannedOf plan.deedOn plan.deedOf parts.tableAfter parts.withCounts parts.doneOf parts.carriedOut parts.partsAfter parts.networksOf parts.gutiAfter parts.equivalentsAfter parts.suciAfter parts.keptAfter step.together step.joinedOf step.advanceOf step.stepOf runOf layout.layout layout.levelsOf layout.shown layout.nested layout.clear layout.octetsOf layout.opening layout.openingHead layout.itemsOf layout.laid layout.itemOctets layout.withLead layout.lengthIn writing.gutisOf writing.lastOf writing.uplinkOf writing.sessionsOf writing.sayingOf writing.saysOf writing.fieldsOf writing.requestOf identity.isPending identity.equivalentsHeld identity.isAmong identity.isEquivalent identity.ownFirst identity.orderOf identity.slotOf identity.partOf identity.identityOf timers.timer2Rows timers.timer3Rows timers.span2Of timers.span3Of
+unfolding upto.upto upto.copied upto.seekTo upto.allTo upto.distinctTo octets.formatOf octets.leadBy octets.contentsBy octets.readAs octets.leadOf octets.contentsOf octets.sizeOf octets.elementOf octets.joined octets.elementsOf octets.elementsFrom octets.firstOf octets.endOf messages.gutiOf messages.countOf messages.tripletsOf messages.timer2In messages.t3512Of messages.acceptOf messages.endedBy messages.acceptedOf messages.acceptReading messages.rejectOf messages.rejectedOf messages.rejectReading messages.typeReading messages.openedBy messages.readingOf places.entriesHeld places.placeIn places.hasEntry places.peekAt entries.foundIn entries.placeFor entries.seenIn entries.liftMark entries.bumped places.putAt entries.clearUnless entries.raised entries.banned entries.barredBy entries.unforbidden entries.swept entries.powered entries.none entries.marksAfter entries.ranksAfter entries.isImport entries.withFile entries.entriesAfter order.fallen order.lastAt order.rankAt order.leaverTo areas.areasHeld areas.areaPlace areas.listedIn areas.placed areas.placedCount areas.kept areas.stayed areas.sweptList areas.listAfter areas.countAfter network.isNetwork new.newDevice new.newAccess new.emptyRecord new.newRecord valid.deviceRanges valid.periodicRanges valid.deviceNumbers valid.modeRanges valid.pendingRanges valid.identityRanges valid.heldRanges valid.accessRanges valid.rangesOf valid.countersOf valid.cardOf valid.suciOf valid.codesOf valid.clockOf valid.onceOf valid.ranksOf valid.validOf answers.numberOf answers.isTaken clocks.flagAfter clocks.isDeviceTimer clocks.runsIn clocks.runsOn clocks.toldOf clocks.clocksOf setters.forgotten setters.inState setters.withStatus setters.withAttempts setters.emptied setters.counted setters.pending setters.keyed setters.taught setters.entered clocks.clocked rows.isCard rows.isNetworkNo rows.isAreaNo rows.isN1No rows.isCongested rows.isProtocol words.isUpdating words.isMark words.listOf words.markIn words.acrossOf words.applied turns.started turns.updated turns.keySet turns.accepted turns.startFailed turns.updateFailed turns.failed turns.t3510Out turns.t3511Out turns.t3502Out turns.t3346Out turns.clockTurn turns.cycled turns.renewed turns.turned turns.rowTurn turns.otherTurned turns.otherTurn hot.accessOf hot.otherOf hot.hotOf checks.mayStart checks.isSame checks.isFree checks.placeAnswer checks.startRange checks.startAnswer checks.updateRange checks.mayUpdate checks.updateAnswer checks.rowNow checks.isFull checks.rejectAnswer checks.readAnswer checks.messageRange checks.messageAnswer checks.timerRange checks.runs checks.timerAnswer checks.keyAnswer checks.cardAnswer effects.ticked effects.scheduled effects.carded effects.cardEffect effects.startEffect effects.updateEffect effects.keyEffect effects.t3512Time effects.acceptT3512 effects.acceptDevice effects.acceptEffect effects.clockEffect effects.t3247Effect effects.t3512Effect effects.deviceEffect effects.timerEffect effects.powerEffect effects.markDeed effects.rowDeed effects.rowWork effects.rejectEffect plan.askOf plan.siteAt plan.siteOf plan.accessIn plan.answerOf plan.messageEffect plan.effectOf plan.hotAfter plan.takenReply plan.isIgnoring plan.refusedReply plan.takenPlan plan.refusedPlan plan.decidedBy plan.planOf parts.seenBy parts.sightOf parts.seenOf parts.listedOf parts.plannedOf plan.deedOn plan.deedOf parts.tableAfter parts.withCounts parts.doneOf parts.carriedOut parts.partsAfter parts.networksOf parts.gutiAfter parts.equivalentsAfter parts.suciAfter parts.keptAfter step.together step.joinedOf step.advanceOf step.stepOf runOf layout.layout layout.levelsOf layout.shown layout.nested layout.clear layout.octetsOf layout.opening layout.openingHead layout.itemsOf layout.laid layout.itemOctets layout.withLead layout.lengthIn writing.gutisOf writing.lastOf writing.uplinkOf writing.sessionsOf writing.sayingOf writing.saysOf writing.fieldsOf writing.requestOf identity.isPending identity.equivalentsHeld identity.isAmong identity.isEquivalent identity.ownFirst identity.orderOf identity.slotOf identity.partOf identity.identityOf timers.timer2Rows timers.timer3Rows timers.span2Of timers.span3Of
 rows-sent = (refl, refl, refl)

@@ -15,7 +15,7 @@ use Rattle.turns.specs.declared.Row.the-variants.{CardBelow, CardLimit, CardPro
 use Rattle.turns.specs.Words.{Mark, noMark, forbiddenAndCounted, n1NotAllowedAndCounted, isMark, markIn, holds, isN1Across, acrossOf}
 use Rattle.turns.specs.Rejects.{isCard, isNetworkNo, isAreaNo, isN1No, isCongested, isProtocol, rowOf, rowText, needsEntry, acrossN1}
 use Rattle.effects.specs.Effects.{markDeed, rowDeed}
-use Rattle.history.specs.Tale.{Limits, struck, toLimit, nothing, News, news, isPut, puts, Tale, told, rejected}
+use Rattle.history.specs.Tale.{Limits, struck, toLimit, nothing, News, news, isPut, puts, Tale, told, turnedAway}
 use Rattle.history.specs.History.{causeNews}
 use Rattle.history.proofs.Said.{banned, barred, quiet}
 use Rattle.history.proofs.Deeds.{Seated, Fits, deedNews, deedTale}
@@ -143,7 +143,7 @@ row-fits row s many octets count t i f = mark-fits (markIn (rowText row)) s many
 
 -- a reject marks exactly if its row has a word for the network
 pub row-tale : (l : Limits) (row : Row) (s : Seat) (octets : List ℕ) (p : Bool) (d : ℕ → News) (k : Tale)
-    → deedTale l (rowDeed row s) octets d k ≡ cond (puts (rowNews row p)) (rejected l (s .net) d k) (told d k)
+    → deedTale l (rowDeed row s) octets d k ≡ cond (puts (rowNews row p)) (turnedAway l (s .net) d k) (told d k)
 unfolding rowDeed markDeed rowText markIn puts isPut
 row-tale l CardBelow s octets p d k = refl
 row-tale l CardLimit s octets p d k = refl

@@ -13,7 +13,7 @@ use Rattle.laws.specs.Upto.{seekTo, every}
 use Rattle.laws.proofs.Seek.{seek-found, seek-before, seek-is}
 use Rattle.networks.specs.Networks.{networksIn}
 use Rattle.entries.specs.Places.{sameNet, entriesHeld, placeIn, hasEntry, peekAt}
-use Rattle.entries.specs.Entries.{isAmong, newIn, heldWith}
+use Rattle.entries.specs.Entries.{isFiled, newIn, heldWith}
 use Rattle.entries.proofs.Joining.{held-fits}
 use Rattle.record.specs.Tests.{isFlag}
 use Rattle.record.specs.Network.{isNetwork}
@@ -51,14 +51,14 @@ use Rattle.history.proofs.Said.{markAfter, cellAfter, imported, quiet}
 use Rattle.history.proofs.Next.{limitsOf}
 use Rattle.history.proofs.News.{import-cell}
 
-among-more : (n : ℕ) (xs : List ℕ) (y : ℕ) → isAmong n (xs ++ (y ∷ [])) ≡ (isAmong n xs || eqb y n)
-unfolding isAmong
+among-more : (n : ℕ) (xs : List ℕ) (y : ℕ) → isFiled n (xs ++ (y ∷ [])) ≡ (isFiled n xs || eqb y n)
+unfolding isFiled
 among-more n [] y = either-last (eqb y n)
   where
     either-last : (b : Bool) → cond b true false ≡ b
     either-last true = refl
     either-last false = refl
-among-more n (x ∷ xs) y = ap (λ (s : Bool). cond (eqb x n) true s) (among-more n xs y) ∙ assoc (eqb x n) (isAmong n xs) (eqb y n)
+among-more n (x ∷ xs) y = ap (λ (s : Bool). cond (eqb x n) true s) (among-more n xs y) ∙ assoc (eqb x n) (isFiled n xs) (eqb y n)
   where
     assoc : (a b c : Bool) → cond a true (b || c) ≡ (cond a true b || c)
     assoc true b c = refl
@@ -111,16 +111,16 @@ module _ (nets forbidden : List ℕ) (net : ℕ) where
   is-flag m f e = let d : m ≢ 0 = eqb-false m 0 e in let l : m ≤ 1 = leb-true m 1 f in omega arith
 
   -- the entry at n, marked or not
-  marks-more : (n : ℕ) → Once itself (suc n) nets → All isFlag (suc n) forbidden → markOf (isAmong net (markedTo n nets forbidden)) ≡ peekAt forbidden (place n) n
-      → markOf (isAmong net (markedTo (suc n) nets forbidden)) ≡ peekAt forbidden (place (suc n)) (suc n)
+  marks-more : (n : ℕ) → Once itself (suc n) nets → All isFlag (suc n) forbidden → markOf (isFiled net (markedTo n nets forbidden)) ≡ peekAt forbidden (place n) n
+      → markOf (isFiled net (markedTo (suc n) nets forbidden)) ≡ peekAt forbidden (place (suc n)) (suc n)
   unfolding markedTo
   marks-more n o f before = go (eqb (getD forbidden n 0) 0) refl (ltb (place n) n) refl (eqb (getD nets n 0) net) refl
     where
       Goal : Type 0
-      Goal = markOf (isAmong net (cond (eqb (getD forbidden n 0) 0) (markedTo n nets forbidden) (markedTo n nets forbidden ++ (getD nets n 0 ∷ [])))) ≡ peekAt forbidden (place (suc n)) (suc n)
+      Goal = markOf (isFiled net (cond (eqb (getD forbidden n 0) 0) (markedTo n nets forbidden) (markedTo n nets forbidden ++ (getD nets n 0 ∷ [])))) ≡ peekAt forbidden (place (suc n)) (suc n)
 
       -- what is read after it: where it was, at the new entry, nowhere
-      was : place n < n → peekAt forbidden (place (suc n)) (suc n) ≡ markOf (isAmong net (markedTo n nets forbidden))
+      was : place n < n → peekAt forbidden (place (suc n)) (suc n) ≡ markOf (isFiled net (markedTo n nets forbidden))
       was h = rw (place-kept n h) (at-later n (place n) (omega arith) ∙ sym (at-place n h) ∙ sym before)
 
       new : n ≤ place n → eqb (getD nets n 0) net ≡ true → peekAt forbidden (place (suc n)) (suc n) ≡ getD forbidden n 0
@@ -133,17 +133,17 @@ module _ (nets forbidden : List ℕ) (net : ℕ) where
       other : place n < n → eqb (getD nets n 0) net ≡ false
       other h = ne-eqb (getD nets n 0) net (λ e. o (place n) n h (omega arith) (eqb-true (getD nets (place n) 0) net (seek-found (sameNet net) n nets h) ∙ sym e))
 
-      none : n ≤ place n → markOf (isAmong net (markedTo n nets forbidden)) ≡ 0
+      none : n ≤ place n → markOf (isFiled net (markedTo n nets forbidden)) ≡ 0
       none h = before ∙ no-place n h
 
-      with-last : markOf (isAmong net (markedTo n nets forbidden ++ (getD nets n 0 ∷ []))) ≡ markOf (isAmong net (markedTo n nets forbidden) || eqb (getD nets n 0) net)
+      with-last : markOf (isFiled net (markedTo n nets forbidden ++ (getD nets n 0 ∷ []))) ≡ markOf (isFiled net (markedTo n nets forbidden) || eqb (getD nets n 0) net)
       with-last = ap markOf (among-more net (markedTo n nets forbidden) (getD nets n 0))
 
-      last-not : eqb (getD nets n 0) net ≡ false → markOf (isAmong net (markedTo n nets forbidden ++ (getD nets n 0 ∷ []))) ≡ markOf (isAmong net (markedTo n nets forbidden))
-      last-not e = with-last ∙ rw e (either-not (isAmong net (markedTo n nets forbidden)))
+      last-not : eqb (getD nets n 0) net ≡ false → markOf (isFiled net (markedTo n nets forbidden ++ (getD nets n 0 ∷ []))) ≡ markOf (isFiled net (markedTo n nets forbidden))
+      last-not e = with-last ∙ rw e (either-not (isFiled net (markedTo n nets forbidden)))
 
-      last-is : eqb (getD nets n 0) net ≡ true → markOf (isAmong net (markedTo n nets forbidden ++ (getD nets n 0 ∷ []))) ≡ 1
-      last-is e = with-last ∙ rw e (either-so (isAmong net (markedTo n nets forbidden)))
+      last-is : eqb (getD nets n 0) net ≡ true → markOf (isFiled net (markedTo n nets forbidden ++ (getD nets n 0 ∷ []))) ≡ 1
+      last-is e = with-last ∙ rw e (either-so (isFiled net (markedTo n nets forbidden)))
 
       go : (b : Bool) → eqb (getD forbidden n 0) 0 ≡ b → (b′ : Bool) → ltb (place n) n ≡ b′ → (b″ : Bool) → eqb (getD nets n 0) net ≡ b″ → Goal
       go true q true q′ b″ q″ = rw q (sym (was (ltb-true (place n) n q′)))
@@ -158,8 +158,8 @@ module _ (nets forbidden : List ℕ) (net : ℕ) where
       go false q false q′ false q″ = let h : n ≤ place n = ltb-false (place n) n q′ in rw q (last-not q″ ∙ none h ∙ sym (nowhere h q″))
 
   -- it is among those marked exactly if its entry is
-  marks-are : (n : ℕ) → Once itself n nets → All isFlag n forbidden → markOf (isAmong net (markedTo n nets forbidden)) ≡ peekAt forbidden (place n) n
-  unfolding markedTo isAmong
+  marks-are : (n : ℕ) → Once itself n nets → All isFlag n forbidden → markOf (isFiled net (markedTo n nets forbidden)) ≡ peekAt forbidden (place n) n
+  unfolding markedTo isFiled
   marks-are zero o f = sym (no-place 0 (omega arith))
   marks-are (suc n) o f = marks-more n o f (marks-are n (λ i j g h. o i j g (omega arith)) (λ k h. f k (omega arith)))
 
@@ -242,7 +242,7 @@ module _ (r : Record) (file : List ℕ) (t : isTaken (writeAnswer r (length file
   same-length = ap length is-file ∙ file-length ms (length file) threes (leb-true (length ms * 3) (length file) (checks .1))
 
   -- the mark that the record has for a network
-  was : (net : ℕ) → cellOf r 0 net .forbidden ≡ markOf (isAmong net ms)
+  was : (net : ℕ) → cellOf r 0 net .forbidden ≡ markOf (isFiled net ms)
   unfolding cellOf cellIn entriesIn accessOf markedOf placeIn
   was net = rw size (sym (marks-are (r .e0 .nets) (r .e0 .forbidden) net (r .hot .a0 .entries) (good .half0 .held .once) (good .half0 .held .forbidden)))
 
@@ -284,7 +284,7 @@ module _ (r : Record) (file : List ℕ) (t : isTaken (writeAnswer r (length file
     same-marks net =
         rw (step-advances g Import written v)
         (ap (λ (c : Cell). c .forbidden) (import-cell g v (z .e0) written (ap isTaken taken) net)
-        ∙ rw read-back (put-or-not (limitsOf g) (isAmong net ms) (cellOf g 0 net) (unmarked net)) ∙ sym (was net))
+        ∙ rw read-back (put-or-not (limitsOf g) (isFiled net ms) (cellOf g 0 net) (unmarked net)) ∙ sym (was net))
 
   -- "reading what was written into a record just given that card gives the same forbidden marks"
   module _ (q : Record) (z : Sized q) (home : ℕ) (suci : List ℕ) (o : Octets suci) (k : isTaken (stepOf q (Card home) suci .reply .answer) ≡ true) where

@@ -11,7 +11,7 @@ use Rattle.entries.specs.declared.Entries.{Entries}
 use Rattle.record.specs.Tests.{within}
 use Rattle.record.specs.Network.{isNetwork}
 use Rattle.record.specs.New.{newDevice, newAccess, emptyRecord, newRecord, mayMake, madeOf}
-use Rattle.ranges.specs.Valid.{deviceRanges, periodicRanges, deviceNumbers, modeRanges, pendingRanges, identityRanges, heldRanges, accessRanges, rangesOf, countersOf, cardOf, suciOf, codesOf, clockOf, onceOf, orderOf, validOf}
+use Rattle.ranges.specs.Valid.{deviceRanges, periodicRanges, deviceNumbers, modeRanges, pendingRanges, identityRanges, heldRanges, accessRanges, rangesOf, countersOf, cardOf, suciOf, codesOf, clockOf, onceOf, ranksOf, validOf}
 use Rattle.record.proofs.Bounds.{one, rest}
 
 device : (x y z c s : ℕ) → mayMake x y z c s ≡ true → deviceNumbers (newDevice x y z c s) ≡ true
@@ -31,7 +31,7 @@ unfolding countersOf newDevice newAccess allTo
 counters x y z c s t = rw (le-leb 0 x (omega arith))
 
 good : (x y z : ℕ) (c s : List ℕ) → mayMake x y z (length c) (length s) ≡ true → validOf (newRecord x y z c s) ≡ true
-unfolding validOf rangesOf cardOf suciOf codesOf clockOf onceOf orderOf newRecord emptyRecord newDevice newAccess isNetwork allTo distinctTo
+unfolding validOf rangesOf cardOf suciOf codesOf clockOf onceOf ranksOf newRecord emptyRecord newDevice newAccess isNetwork allTo distinctTo
 good x y z c s e = rw (device x y z (length c) (length s) e, access, counters)
 
 smallest : mayMake 1 1 1 1 2 ≡ true

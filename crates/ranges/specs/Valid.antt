@@ -122,8 +122,8 @@ onceOf r =
 abbrev pub isBelow : ℕ → ℕ → Bool
 isBelow n k = ltb k n
 
-unfoldable pub orderOf : Access → Entries → Bool
-orderOf a t = both (allTo (isBelow (a .entries)) (a .entries) (t .ranks)) (distinctTo itself (a .entries) (t .ranks))
+unfoldable pub ranksOf : Access → Entries → Bool
+ranksOf a t = both (allTo (isBelow (a .entries)) (a .entries) (t .ranks)) (distinctTo itself (a .entries) (t .ranks))
 
 unfoldable pub validOf : Record → Bool
 validOf r =
@@ -133,4 +133,4 @@ validOf r =
     (both (suciOf (r .hot .dev) (r .suci))
     (both (codesOf r)
     (both (both (clockOf (r .hot .a0)) (clockOf (r .hot .a1)))
-    (both (onceOf r) (both (orderOf (r .hot .a0) (r .e0)) (orderOf (r .hot .a1) (r .e1)))))))))
+    (both (onceOf r) (both (ranksOf (r .hot .a0) (r .e0)) (ranksOf (r .hot .a1) (r .e1)))))))))

@@ -21,7 +21,7 @@ ghost use mathlib.Core.Path.{_≡_};
 ghost use mathlib.Core.Bool.{true};
 ghost use Prim.Native.Nat.{_≤_};
 ghost use Rattle.record.specs.Tests.{both};
-ghost use Rattle.ranges.specs.Valid.{deviceRanges, periodicRanges, deviceNumbers, modeRanges, pendingRanges, identityRanges, heldRanges, accessRanges, rangesOf, countersOf, cardOf, suciOf, codesOf, clockOf, onceOf, orderOf, validOf};
+ghost use Rattle.ranges.specs.Valid.{deviceRanges, periodicRanges, deviceNumbers, modeRanges, pendingRanges, identityRanges, heldRanges, accessRanges, rangesOf, countersOf, cardOf, suciOf, codesOf, clockOf, onceOf, ranksOf, validOf};
 
 mod columns;
 
@@ -202,7 +202,7 @@ fn singles(r: Record) -> bool
 
 fn ordered(a: Access, t: Entries) -> bool
     requires { ⌜ a .entries ≤ 16 ⌝ }
-    ensures { λ r. ⌜ r ≡ orderOf a t ⌝ }
+    ensures { λ r. ⌜ r ≡ ranksOf a t ⌝ }
 {
     let n = a.entries;
     and(below(&t.ranks, n), apart(&t.ranks, n))
@@ -210,7 +210,7 @@ fn ordered(a: Access, t: Entries) -> bool
 
 fn orders(r: Record) -> bool
     requires { ⌜ rangesOf r ≡ true ⌝ }
-    ensures { λ o. ⌜ o ≡ both (orderOf (r .hot .a0) (r .e0)) (orderOf (r .hot .a1) (r .e1)) ⌝ }
+    ensures { λ o. ⌜ o ≡ both (ranksOf (r .hot .a0) (r .e0)) (ranksOf (r .hot .a1) (r .e1)) ⌝ }
 {
     let h = r.hot;
     let x = ordered(h.a0, r.e0);

@@ -14,7 +14,7 @@ use Rattle.networks.specs.Networks.{networksIn}
 use Rattle.entries.specs.declared.Entries.{Entries}
 use Rattle.entries.specs.declared.Deed.the-variants as deed
 use Rattle.entries.specs.Places.{entriesHeld, hasEntry}
-use Rattle.entries.specs.Entries.{grown, imported, importedAll, isAmong, fileTaken, newIn, heldWith, marksAfter, ranksAfter, isImport, withFile, entriesAfter}
+use Rattle.entries.specs.Entries.{grown, imported, importedAll, isFiled, fileTaken, newIn, heldWith, marksAfter, ranksAfter, isImport, withFile, entriesAfter}
 use Rattle.entries.proofs.Joining.{new-free, new-step}
 use Rattle.areas.specs.declared.Task.the-variants as task
 use Rattle.record.specs.declared.Record.{Record}
@@ -88,6 +88,6 @@ module _ (r : Record) (g : Good r) (z : Sized r) (octets : List ℕ) where
       (half-turned (r .hot .dev) (r .hot .a0 .equivalents) after-many (after (still (withEntries after-many (r .hot .a0)))) (r .equivalents0) (fileTaken octets (r .hot .a0 .entries) (r .e0))
       (imported-turned (r .hot .dev .card) (r .hot .dev .cardlimit) (r .hot .a0) (g .half0 .fit) (g .half0 .timely) (g .half0 .carded) after-many h)
       (g .half0 .equals)
-      (rw (held .0) (all-held (r .hot .dev .banlimit) (r .hot .dev .n1limit) (λ n. isAmong n (networksIn octets)) (networksIn octets) (r .hot .a0 .entries) (r .e0) (z .e0) (g .half0 .held) (g .half0 .fit .entries)
+      (rw (held .0) (all-held (r .hot .dev .banlimit) (r .hot .dev .n1limit) (λ n. isFiled n (networksIn octets)) (networksIn octets) (r .hot .a0 .entries) (r .e0) (z .e0) (g .half0 .held) (g .half0 .fit .entries)
       (rest (eqb (length octets % 3) 0) (every isNetwork (networksIn octets)) c) (held .1))))
       (still-turned (r .hot .dev .card) (r .hot .dev .cardlimit) (r .hot .a1) (g .half1 .fit) (g .half1 .timely) (g .half1 .carded)) (g .half1 .held)

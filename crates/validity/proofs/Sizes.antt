@@ -15,7 +15,7 @@ use Rattle.entries.specs.declared.Deed.{Deed}
 use Rattle.entries.specs.declared.Deed.the-variants as deed
 use Rattle.entries.specs.Places.{entriesHeld, placeIn, hasEntry, putAt}
 use Rattle.entries.specs.Order.{lastTo}
-use Rattle.entries.specs.Entries.{liftMark, bumped, clearUnless, raised, withRanks, banned, barredBy, unforbidden, n1ToLimit, swept, powered, grown, imported, importedAll, isAmong, fileTaken, none, marksAfter, ranksAfter, isImport, withFile, entriesAfter}
+use Rattle.entries.specs.Entries.{liftMark, bumped, clearUnless, raised, withRanks, banned, barredBy, unforbidden, n1ToLimit, swept, powered, grown, imported, importedAll, isFiled, fileTaken, none, marksAfter, ranksAfter, isImport, withFile, entriesAfter}
 use Rattle.entries.proofs.Ranks.{put-length, last-length, lastTo-length}
 use Rattle.networks.specs.Networks.{networksIn}
 use Rattle.areas.specs.declared.Task.{Task}
@@ -190,7 +190,7 @@ entries-columns k octets count banlimit n1limit t w = go (isImport k)
     c = with-columns (ranksAfter k count (t .ranks)) (marksAfter k count banlimit n1limit t) (ranks-length k count (t .ranks) (w .ranks)) (marks-columns k count banlimit n1limit t w)
 
     go : (b : Bool) → Columns (cond b (fileTaken octets count done) done)
-    go true = all-columns (λ n. isAmong n (networksIn octets)) (networksIn octets) count done c
+    go true = all-columns (λ n. isFiled n (networksIn octets)) (networksIn octets) count done c
     go false = c
 
 -- those that stay, and as many behind them as before

@@ -14,7 +14,7 @@ use Rattle.record.specs.declared.Access.{Access}
 use Rattle.record.specs.declared.Record.{Record}
 use Rattle.record.specs.Tests.{both, either, within, upTo, isFlag, isShort, isClear0}
 use Rattle.record.specs.Network.{isNetwork}
-use Rattle.ranges.specs.Valid.{deviceRanges, periodicRanges, deviceNumbers, modeRanges, pendingRanges, identityRanges, heldRanges, accessRanges, isItem, rangesOf, countersOf, cardOf, suciOf, codesOf, clockOf, isBelow, itself, halved, onceOf, orderOf, validOf}
+use Rattle.ranges.specs.Valid.{deviceRanges, periodicRanges, deviceNumbers, modeRanges, pendingRanges, identityRanges, heldRanges, accessRanges, isItem, rangesOf, countersOf, cardOf, suciOf, codesOf, clockOf, isBelow, itself, halved, onceOf, ranksOf, validOf}
 use Rattle.record.proofs.Bounds.{one, rest}
 use Rattle.validity.proofs.Bools.{both-true}
 use Rattle.validity.proofs.Arrays.{all-of, of-all, once-of, of-once}
@@ -84,15 +84,15 @@ abbrev counterTests : Device → Access → Entries → List Bool
 counterTests d a t = allTo (upTo (d .banlimit)) (a .entries) (t .bans) ∷ allTo (upTo (d .n1limit)) (a .entries) (t .n1s) ∷ []
 
 -- the order's test
-order-good : (a : Access) (t : Entries) → orderOf a t ≡ true → Order (a .entries) (t .ranks)
-unfolding orderOf
+order-good : (a : Access) (t : Entries) → ranksOf a t ≡ true → Order (a .entries) (t .ranks)
+unfolding ranksOf
 order-good a t e = record {
   low = λ i h. ltb-true (getD (t .ranks) i 0) (a .entries) (all-of (isBelow (a .entries)) (a .entries) (t .ranks) (one (allTo (isBelow (a .entries)) (a .entries) (t .ranks)) (distinctTo itself (a .entries) (t .ranks)) e) i h);
   apart = once-of itself (a .entries) (t .ranks) (rest (allTo (isBelow (a .entries)) (a .entries) (t .ranks)) (distinctTo itself (a .entries) (t .ranks)) e);
 }
 
-good-order : (a : Access) (t : Entries) → Order (a .entries) (t .ranks) → orderOf a t ≡ true
-unfolding orderOf
+good-order : (a : Access) (t : Entries) → Order (a .entries) (t .ranks) → ranksOf a t ≡ true
+unfolding ranksOf
 good-order a t o =
     both-true (allTo (isBelow (a .entries)) (a .entries) (t .ranks)) (distinctTo itself (a .entries) (t .ranks))
     (of-all (isBelow (a .entries)) (a .entries) (t .ranks) (λ i h. lt-ltb (getD (t .ranks) i 0) (a .entries) (o .low i h))) (of-once itself (a .entries) (t .ranks) (o .apart))
@@ -100,7 +100,7 @@ good-order a t o =
 -- an access's tests that stand together in the list, and those that the list has elsewhere
 access-good : (d : Device) (a : Access) (equivalents : List ℕ) (t : Entries)
     → accessRanges a equivalents t ≡ true → countersOf d a t ≡ true → Carded (d .card) a → isNetwork (a .net) ≡ true → allTo isNetwork (a .entries) (t .nets) ≡ true
-    → clockOf a ≡ true → distinctTo itself (a .entries) (t .nets) ≡ true → orderOf a t ≡ true → Half d a equivalents t
+    → clockOf a ≡ true → distinctTo itself (a .entries) (t .nets) ≡ true → ranksOf a t ≡ true → Half d a equivalents t
 unfolding accessRanges modeRanges pendingRanges identityRanges heldRanges countersOf clockOf
 access-good d a equivalents t ranges counters carded net nets clock once order =
     let four = holds (modeRanges a) (pendingRanges a ∷ identityRanges a ∷ heldRanges a equivalents t ∷ []) ranges in
@@ -171,8 +171,8 @@ module _ (r : Record) where
       ∷ codesOf r
       ∷ both (clockOf (r .hot .a0)) (clockOf (r .hot .a1))
       ∷ onceOf r
-      ∷ orderOf (r .hot .a0) (r .e0)
-      ∷ orderOf (r .hot .a1) (r .e1)
+      ∷ ranksOf (r .hot .a0) (r .e0)
+      ∷ ranksOf (r .hot .a1) (r .e1)
       ∷ []
 
   abbrev rangeTests : List Bool

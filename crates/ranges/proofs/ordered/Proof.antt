@@ -1,5 +1,5 @@
 -- The count is a bound, so the column is read to it. Assumes nothing.
-use Rattle.ranges.specs.Valid.{orderOf}
+use Rattle.ranges.specs.Valid.{ranksOf}
 use borrow.Author.Needs.{needs}
 use Rattle.ranges.proofs.ordered.Statement.{statement}
 use Rattle.ranges.proofs.ordered.Tie as tie
@@ -14,7 +14,7 @@ and-requires : tie.Need-and-requires
 and-requires c κs = search needs
 
 returns : tie.Need-returns
-unfolding orderOf
+unfolding ranksOf
 returns c = cc
 
 pub ordered-spec : {M : Type 1} → statement M

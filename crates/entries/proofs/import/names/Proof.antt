@@ -6,13 +6,13 @@ use borrow.Author.Needs.{needs}
 use borrow.Author.Tests.{eq-eqb, ne-eqb}
 use native.Mathlib.Omega.{arith}
 use Rattle.networks.specs.Networks.{networksIn}
-use Rattle.entries.specs.Entries.{isAmong}
+use Rattle.entries.specs.Entries.{isFiled}
 use Rattle.entries.proofs.Naming.{among-none, name-hit, name-miss, name-over}
 use Rattle.entries.proofs.import.names.Statement.{statement}
 use Rattle.entries.proofs.import.names.Tie as tie
 
 abbrev Inv-loop : tie.InvT-loop
-Inv-loop file net i₀ i = (i ≤ length file) × (isAmong net (networksIn file) ≡ isAmong net (networksIn (drop i file)))
+Inv-loop file net i₀ i = (i ≤ length file) × (isFiled net (networksIn file) ≡ isFiled net (networksIn (drop i file)))
 
 abbrev μ-loop : tie.MeasureT-loop
 μ-loop file net i₀ i = length file - i

@@ -7,12 +7,12 @@ use native.Mathlib.Omega.{arith}
 use Rattle.networks.specs.Networks.{networksIn}
 use Rattle.entries.specs.Places.{entriesHeld}
 use Rattle.entries.specs.Order.{lastTo}
-use Rattle.entries.specs.Entries.{isAmong}
+use Rattle.entries.specs.Entries.{isFiled}
 use Rattle.entries.proofs.import.settle.Statement.{statement}
 use Rattle.entries.proofs.import.settle.Tie as tie
 
 abbrev Inv-loop : tie.InvT-loop
-Inv-loop file count nets ranks₀ n i₀ ranks i = (i ≤ n) × (ranks ≡ lastTo (λ m. isAmong m (networksIn file)) (entriesHeld count) i nets ranks₀)
+Inv-loop file count nets ranks₀ n i₀ ranks i = (i ≤ n) × (ranks ≡ lastTo (λ m. isFiled m (networksIn file)) (entriesHeld count) i nets ranks₀)
 
 abbrev μ-loop : tie.MeasureT-loop
 μ-loop file count nets ranks₀ n i₀ ranks i = n - i

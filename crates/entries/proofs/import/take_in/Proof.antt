@@ -5,7 +5,7 @@ use lib.ListN.{length, drop}
 use borrow.Author.Needs.{needs}
 use native.Mathlib.Omega.{arith}
 use Rattle.networks.specs.Networks.{networksIn}
-use Rattle.entries.specs.Entries.{entriesOf, importedAll, isAmong, fileTaken}
+use Rattle.entries.specs.Entries.{entriesOf, importedAll, isFiled, fileTaken}
 use Rattle.entries.proofs.Taking.{take-none, take-one, take-over}
 use Rattle.entries.proofs.import.take_in.Statement.{statement}
 use Rattle.entries.proofs.import.take_in.Tie as tie
@@ -13,7 +13,7 @@ use Rattle.entries.proofs.import.take_in.Tie as tie
 abbrev Inv-loop : tie.InvT-loop
 Inv-loop file count nets₀ bans₀ n1s₀ forbidden₀ barred₀ ranks₀ n₀ i₀ nets bans n1s forbidden barred ranks n i =
     (i ≤ length file)
-    × (fileTaken file count (entriesOf nets₀ bans₀ n1s₀ forbidden₀ barred₀ ranks₀) ≡ importedAll (λ m. isAmong m (networksIn file)) (networksIn (drop i file)) n (entriesOf nets bans n1s forbidden barred ranks))
+    × (fileTaken file count (entriesOf nets₀ bans₀ n1s₀ forbidden₀ barred₀ ranks₀) ≡ importedAll (λ m. isFiled m (networksIn file)) (networksIn (drop i file)) n (entriesOf nets bans n1s forbidden barred ranks))
 
 abbrev μ-loop : tie.MeasureT-loop
 μ-loop file count nets₀ bans₀ n1s₀ forbidden₀ barred₀ ranks₀ n₀ i₀ nets bans n1s forbidden barred ranks n i = length file - i

@@ -27,8 +27,8 @@ deed-on-requires c κs = search needs
 deed-on-requires-2 : tie.Need-deed-on-requires-2
 deed-on-requires-2 c κs = search needs
 
-order-requires : tie.Need-order-requires
-order-requires c κs = search needs
+reorder-requires : tie.Need-reorder-requires
+reorder-requires c κs = search needs
 
 tend-requires : tie.Need-tend-requires
 tend-requires c κs = search needs
@@ -62,7 +62,7 @@ returns c =
     (entriesOf (start .args .nets1 .now) (start .args .bans1 .now) (start .args .n1s1 .now) (start .args .forbidden1 .now) (start .args .barred1 .now) (start .args .ranks1 .now))
     _ _ _ (start .args .roaming .now) (start .args .regional .now) _ _ (c .before .before .before .tend3 .result) (c .before .tend4 .result) (c .counted .result)
     (asked .ask-of .ensures) (seen .see .ensures) (placed .site-of .ensures) (listed .listing .ensures) (planned .plan-of .ensures) (c .before .before .before .before .before .before .before .before .before .before .before .before .before .before .before .before .before .before .before .before .before .before .before .before .before .before .before .before .deed-on .ensures) (c .before .before .before .before .before .before .before .before .before .before .before .before .before .before .before .before .before .before .before .before .before .before .before .before .before .before .before .deed-on2 .ensures)
-    (c .before .before .before .before .before .before .before .before .before .before .before .before .before .before .before .before .before .before .before .before .before .before .before .before .order .ensures .0) (c .before .before .before .before .before .before .before .before .before .before .before .before .before .before .before .before .before .before .before .before .before .before .before .before .order .ensures .1) (c .before .before .before .before .before .before .before .before .before .before .before .before .before .before .before .before .before .before .tend .ensures) (c .before .before .before .before .before .before .before .before .before .before .before .before .tend2 .ensures) (c .before .before .before .before .before .file .ensures)
+    (c .before .before .before .before .before .before .before .before .before .before .before .before .before .before .before .before .before .before .before .before .before .before .before .before .reorder .ensures .0) (c .before .before .before .before .before .before .before .before .before .before .before .before .before .before .before .before .before .before .before .before .before .before .before .before .reorder .ensures .1) (c .before .before .before .before .before .before .before .before .before .before .before .before .before .before .before .before .before .before .tend .ensures) (c .before .before .before .before .before .before .before .before .before .before .before .before .tend2 .ensures) (c .before .before .before .before .before .file .ensures)
     (c .before .before .before .tend3 .ensures .0) (c .before .before .before .tend3 .ensures .1) (c .before .tend4 .ensures .0) (c .before .tend4 .ensures .1) (c .counted .ensures)
 
 pub core-spec : {M : Type 1} → statement M
@@ -76,7 +76,7 @@ core-spec =
     plan-of-requires
     deed-on-requires
     deed-on-requires-2
-    order-requires
+    reorder-requires
     tend-requires
     tend-requires-2
     file-requires

@@ -2,8 +2,8 @@
 use mathlib.Core.Path.{refl}
 use Rattle.events.specs.Parts.{orderOn}
 use borrow.Author.Needs.{needs}
-use Rattle.events.proofs.lent.order.Statement.{statement}
-use Rattle.events.proofs.lent.order.Tie as tie
+use Rattle.events.proofs.lent.reorder.Statement.{statement}
+use Rattle.events.proofs.lent.reorder.Tie as tie
 
 enum-told : tie.Need-enum-told
 enum-told c = search needs
@@ -11,14 +11,14 @@ enum-told c = search needs
 enum-known-k : tie.Need-enum-known-k
 enum-known-k c = search needs
 
-mark-requires : tie.Need-mark-requires
-mark-requires c κs = search needs
+mark-own-requires : tie.Need-mark-own-requires
+mark-own-requires c κs = search needs
 
 enum-known-k-2 : tie.Need-enum-known-k-2
 enum-known-k-2 c = search needs
 
-mark-requires-2 : tie.Need-mark-requires-2
-mark-requires-2 c κs = search needs
+mark-own-requires-2 : tie.Need-mark-own-requires-2
+mark-own-requires-2 c κs = search needs
 
 enum-told-2 : tie.Need-enum-told-2
 enum-told-2 c = search needs
@@ -44,11 +44,11 @@ returns c = rw (c .enum-told .given .1) (refl, refl)
 
 returns-2 : tie.Need-returns-2
 unfolding orderOn
-returns-2 c = rw (c .before .before .before .before .k .given .1) (c .mark .ensures .0, c .mark .ensures .1)
+returns-2 c = rw (c .before .before .before .before .k .given .1) (c .mark-own .ensures .0, c .mark-own .ensures .1)
 
 returns-3 : tie.Need-returns-3
 unfolding orderOn
-returns-3 c = rw (c .before .before .before .before .k2 .given .1) (c .mark2 .ensures .0, c .mark2 .ensures .1)
+returns-3 c = rw (c .before .before .before .before .k2 .given .1) (c .mark-own2 .ensures .0, c .mark-own2 .ensures .1)
 
 returns-4 : tie.Need-returns-4
 unfolding orderOn
@@ -74,15 +74,15 @@ returns-9 : tie.Need-returns-9
 unfolding orderOn
 returns-9 c = rw (c .before .before .enum-told7 .given .1) (refl, refl)
 
-pub order-spec : {M : Type 1} → statement M
-order-spec =
+pub reorder-spec : {M : Type 1} → statement M
+reorder-spec =
     tie.close
     (tie.spec
     enum-told
     enum-known-k
-    mark-requires
+    mark-own-requires
     enum-known-k-2
-    mark-requires-2
+    mark-own-requires-2
     enum-told-2
     enum-told-3
     enum-told-4

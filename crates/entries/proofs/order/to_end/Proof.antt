@@ -2,8 +2,8 @@
 use borrow.Author.Needs.{needs}
 use borrow.Author.Tests.{lt-ltb, le-ltb}
 use Rattle.entries.specs.Order.{lastAt}
-use Rattle.entries.proofs.order.last.Statement.{statement}
-use Rattle.entries.proofs.order.last.Tie as tie
+use Rattle.entries.proofs.order.to_end.Statement.{statement}
+use Rattle.entries.proofs.order.to_end.Tie as tie
 
 size-requires : tie.Need-size-requires
 size-requires c κs = search needs
@@ -37,8 +37,8 @@ returns-2 : tie.Need-returns-2
 unfolding lastAt
 returns-2 c = rw (c .put2 .ensures, ← (c .before .before .before .size .ensures .0), le-ltb _ _ (c .before .before .if1 .left))
 
-pub last-spec : {M : Type 1} → statement M
-last-spec =
+pub to-end-spec : {M : Type 1} → statement M
+to-end-spec =
     tie.close
     (tie.spec
     size-requires
