@@ -25,7 +25,7 @@ unfolding bumped
 raise-is limit protected n = elim (eqb protected 0) as (λ b. cond b (cond (ltb n limit) (n + 1) n) limit ≡ raise limit (not b) n) [ true ↦ refl | false ↦ refl ]
 
 -- four columns
-cells : {a a′ b b′ f f′ g g′ : ℕ} → a ≡ a′ → b ≡ b′ → f ≡ f′ → g ≡ g′ → cell a b f g ≡ cell a′ b′ f′ g′
+pub cells : {a a′ b b′ f f′ g g′ : ℕ} → a ≡ a′ → b ≡ b′ → f ≡ f′ → g ≡ g′ → cell a b f g ≡ cell a′ b′ f′ g′
 cells p q s t = cc
 
 -- a ban or a bar of this network, or of another

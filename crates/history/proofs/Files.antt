@@ -10,7 +10,7 @@ use lib.Dec.{eqb}
 use lib.ListN.{length, getD, set}
 use lib.Seq.{getD-set-same, getD-set-other, set-getD}
 use borrow.Author.Tests.{leb-false, ltb-true, ltb-false, lt-ltb, eqb-true}
-use Rattle.laws.proofs.Seek.{seek-le, seek-found}
+use Rattle.laws.proofs.Seek.{seek-le, seek-found, ltb-suc}
 use Rattle.entries.specs.declared.Entries.{Entries}
 use Rattle.entries.specs.Places.{sameNet, entriesHeld, placeIn, hasEntry, putAt}
 use Rattle.entries.specs.Entries.{grown, importedAll, newIn, isFiled}
@@ -23,12 +23,10 @@ use Rattle.validity.proofs.Imports.{news}
 use Rattle.history.specs.Cell.{cellIn, Lined}
 use Rattle.history.specs.Tale.{Cell, Limits, News, puts, isPut, isOneOf, Tale, enrolled, filed, age}
 use Rattle.history.proofs.Said.{cell, countAfter, markAfter, cellAfter, imported, quiet}
+use Rattle.history.proofs.Cells.{cells}
 use Rattle.history.proofs.Columns.{put-in, touched, spared, held-after}
-use Rattle.history.proofs.Lined.{held-whole, ltb-suc, lined-has, used-has, lined-more}
+use Rattle.history.proofs.Lined.{held-whole, lined-has, used-has, lined-more}
 use Rattle.history.proofs.Fit.{Fit, Sound, age-quiet, age-mark, said-more}
-
-cells : {a a′ b b′ f f′ g g′ : ℕ} → a ≡ a′ → b ≡ b′ → f ≡ f′ → g ≡ g′ → cell a b f g ≡ cell a′ b′ f′ g′
-cells p q s t = cc
 
 module _ (l : Limits) where
   -- this network, or another

@@ -8,7 +8,7 @@ use native.Mathlib.Omega.{arith}
 use lib.Dec.{ltb, eqb}
 use lib.ListN.{getD}
 use borrow.Author.Tests.{ltb-true, ltb-false, eq-eqb, ne-eqb}
-use Rattle.laws.proofs.Seek.{seek-is}
+use Rattle.laws.proofs.Seek.{seek-is, ltb-suc}
 use Rattle.entries.specs.declared.Entries.{Entries}
 use Rattle.entries.specs.Places.{sameNet, entriesHeld, placeIn}
 use Rattle.entries.specs.Order.{hasNeither}
@@ -18,7 +18,7 @@ use Rattle.history.specs.Cell.{columnIn, cellIn, Lined}
 use Rattle.history.specs.Tale.{Cell, Limits, News, puts, stands, markOf, bansIn, barsIn, saidBy, Tale, told, age, isListed}
 use Rattle.history.proofs.Said.{cellAfter, said-step}
 use Rattle.history.proofs.Columns.{peek-in}
-use Rattle.history.proofs.Lined.{held-whole, ltb-suc}
+use Rattle.history.proofs.Lined.{held-whole}
 
 pub record Fit (l : Limits) (count : ℕ) (t : Entries) (k : Tale) : Type 0 where
   pub cells : (m : ℕ) → cellIn count t m ≡ saidBy l (k .news m)

@@ -8,9 +8,9 @@ use native.Mathlib.Omega.{arith}
 use lib.Dec.{ltb, eqb}
 use lib.ListN.{length, getD, set, length-append, List·getD-append}
 use lib.Seq.{getD-set-same, getD-set-other, getD-append-seam}
-use borrow.Author.Tests.{ltb-true, ltb-false, lt-ltb, le-ltb, eqb-true, eqb-false, eq-eqb, ne-eqb}
+use borrow.Author.Tests.{ltb-false, lt-ltb, eqb-true, eqb-false, eq-eqb, ne-eqb}
 use Rattle.laws.specs.Upto.{seekTo}
-use Rattle.laws.proofs.Seek.{seek-le, seek-found, seek-before, seek-is}
+use Rattle.laws.proofs.Seek.{seek-le, seek-found, seek-before, seek-is, ltb-suc}
 use Rattle.entries.specs.Places.{sameNet, entriesHeld, placeIn, hasEntry, putAt}
 use Rattle.history.specs.Cell.{Lined}
 use Rattle.history.specs.Tale.{isOneOf, swapped}
@@ -27,13 +27,6 @@ held-whole n h = go (ltb n 16) refl
 seek-same : (p : ℕ → Bool) (n : ℕ) (xs ys : List ℕ) → ((i : ℕ) → i < n → getD xs i 0 ≡ getD ys i 0) → seekTo p n xs ≡ seekTo p n ys
 seek-same p n xs ys e =
     seek-is p n xs (seekTo p n ys) (seek-le p n ys) (λ k h. rw (e k (omega (arith, seek-le p n ys))) (seek-before p n ys k h)) (λ h. rw (e (seekTo p n ys) h) (seek-found p n ys h))
-
-pub ltb-suc : (a b : ℕ) → ltb (suc a) (suc b) ≡ ltb a b
-ltb-suc a b = go (ltb a b) refl
-  where
-    go : (s : Bool) → ltb a b ≡ s → ltb (suc a) (suc b) ≡ ltb a b
-    go true q = rw q (lt-ltb (suc a) (suc b) (omega (arith, ltb-true a b q)))
-    go false q = rw q (le-ltb (suc a) (suc b) (omega (arith, ltb-false a b q)))
 
 one-of : (m : ℕ) (ms : List ℕ) → ltb (seekTo (sameNet m) (length ms) ms) (length ms) ≡ isOneOf m ms
 unfolding seekTo isOneOf

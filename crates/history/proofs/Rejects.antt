@@ -10,7 +10,7 @@ use lib.Dec.{ltb, eqb}
 use lib.ListN.{length, getD, set}
 use lib.Seq.{getD-set-same, getD-set-other, set-getD}
 use borrow.Author.Tests.{le-leb, lt-leb, ltb-true, ltb-false, lt-ltb, le-ltb, eqb-true, eqb-false, ne-eqb}
-use Rattle.laws.proofs.Seek.{seek-le, seek-found, seek-before}
+use Rattle.laws.proofs.Seek.{seek-le, seek-found, seek-before, ltb-suc}
 use Rattle.entries.specs.declared.Entries.{Entries}
 use Rattle.entries.specs.Places.{sameNet, entriesHeld, placeIn, hasEntry, putAt}
 use Rattle.entries.specs.Order.{lastAt, leaverTo}
@@ -21,7 +21,7 @@ use Rattle.history.specs.Tale.{Limits, News, saidBy, puts, isOneOf, Tale
 use Rattle.history.proofs.Said.{blank, cellAfter, said-none}
 use Rattle.history.proofs.Columns.{put-in}
 use Rattle.history.proofs.Giving.{Placed, own, given, isLeft}
-use Rattle.history.proofs.Lined.{held-whole, ltb-suc, lined-has, lined-more, lined-swap}
+use Rattle.history.proofs.Lined.{held-whole, lined-has, lined-more, lined-swap}
 use Rattle.history.proofs.Leaving.{Left, all-marked, gives, leaving}
 use Rattle.history.proofs.Fit.{Fit, Sound, age-quiet, age-mark, said-more, apart, neither-is}
 

@@ -61,7 +61,7 @@ module _ (p : ℕ → Bool) where
   seek-is (suc n) [] (suc i) h f t = rw (f 0 (omega arith)) (ap suc (seek-is n [] i (omega arith) (λ k g. f (suc k) (omega arith)) (λ g. t (omega arith))))
   seek-is (suc n) (x ∷ xs) (suc i) h f t = rw (f 0 (omega arith)) (ap suc (seek-is n xs i (omega arith) (λ k g. f (suc k) (omega arith)) (λ g. t (omega arith))))
 
-ltb-suc : (a b : ℕ) → ltb (suc a) (suc b) ≡ ltb a b
+pub ltb-suc : (a b : ℕ) → ltb (suc a) (suc b) ≡ ltb a b
 ltb-suc a b = go (ltb a b) refl
   where
     go : (s : Bool) → ltb a b ≡ s → ltb (suc a) (suc b) ≡ ltb a b
