@@ -1,5 +1,5 @@
-// Scenarios worked out by hand from document 01 and requests and
-// rustc --test docs/src/main.rs
+// Scenarios worked out by hand from document 01 and requests,
+// rustc --test docs/src/main.rs
 
 use crate::card;
 use crate::cells;
@@ -4556,4 +4556,123 @@ fn needed(access: &Access, stamps: &BTreeMap<Network, usize>, network: Network) 
     let clean = access.entries.iter().enumerate().filter(|(_, e)| !e.forbidden && !e.n1_barred);
     let old = clean.min_by_key(|(place, entry)| (stamps[&entry.network], *place));
     own.or(free).or(old.map(|(place, _)| place))
+}
+
+// Request R-12: an access's entries follow from its own events.
+
+type Events = Vec<Vec<u8>>;
+/// One of R-12's events for an access, and the access after it.
+type Own = (Vec<u8>, Access);
+
+impl Draws {
+    /// An event of access `a` or, seldom, of both, as a log has it; most are starts and rejects.
+    fn logged(&mut self, a: u8) -> Vec<u8> {
+        let place = area(nth(self.below(24) as usize));
+        let marks = [11, 73, 27, 72][self.below(4) as usize];
+        let other = [3, 6, 7, 15, 22, 95][self.below(6) as usize];
+        let protected = (self.below(6) == 0) as u8;
+        match self.below(250) {
+            0..=89 => [&[2, 0, a, self.below(2)], &place[..]].concat(),
+            90..=159 => vec![3, 0, a, protected, 8, 7, 0x7E, 0, 0x44, marks],
+            160..=174 => vec![8, 0, a, protected, 8, 7, 132, 3, 0x7E, 0, 0x44, marks],
+            175..=187 => vec![3, 0, a, protected, 8, 7, 0x7E, 0, 0x44, other],
+            188..=199 => vec![3, 0, a, 1, 8, 7, 0x7E, 0, 0x42, 1, 1],
+            200..=211 => [&[7, 0, a, 2], &place[..], &[0; 4]].concat(),
+            212..=217 => vec![6, 0, a, self.below(7)],
+            218..=223 if a == 0 => vec![4, 0, 5, 0],
+            224..=229 if a == 0 => [&[10, 0], &place[..3]].concat(),
+            230..=236 => vec![4, 0, 4, 0],
+            237 | 238 => vec![5, 0],
+            239 if self.below(9) == 0 => [&[1, 0], &HOME[..], &SUCI].concat(),
+            _ => vec![4, 0, [1, 2, 3, 6][self.below(4) as usize], a],
+        }
+    }
+
+    /// Of the other access's events and T3247 some are left out or altered, and some are put in.
+    fn altered(&mut self, octets: &[u8], w: u8) -> Events {
+        let free = whose(octets) != Some(w) && !matches!(octets[0], 1 | 5);
+        match self.below(60) {
+            0 if free => vec![],
+            1 if free => vec![self.logged(1 - w)],
+            2 => vec![octets.to_vec(), self.logged(1 - w)],
+            _ => vec![octets.to_vec()],
+        }
+    }
+}
+
+/// The access that an event is of; None for a card, a power cycle and T3247, which are of both.
+fn whose(octets: &[u8]) -> Option<u8> {
+    match octets {
+        [1 | 5, ..] | [4, _, 4, _] => None,
+        [10, ..] => Some(0),
+        [4, _, _, access] => Some(*access),
+        _ => Some(octets[2]),
+    }
+}
+
+/// The answers to the events of access `w`, and R-12's events for it, read off events and answers:
+/// its taken ones and those of both, and of a taken protected 27 of the other the network alone,
+/// which is that of the other's last taken start or update.
+fn run(events: &Events, w: u8) -> (Vec<u8>, Vec<Own>) {
+    let (mut record, mut answers, mut own, mut sought) = (apart(), vec![], vec![], vec![]);
+    for octets in events {
+        let answer = apply(&mut record, octets).answer;
+        answers.extend((whose(octets) == Some(w)).then_some(answer));
+        let event = match octets[..] {
+            _ if answer != 0 => continue,
+            _ if whose(octets) != Some(1 - w) => octets,
+            [3, _, _, 1, _, _, 0x7E, 0, 0x44, 27, ..] => &sought,
+            [8, _, _, 1, _, _, _, _, 0x7E, 0, 0x44, 27, ..] => &sought,
+            [2 | 7, ..] => {
+                sought = octets[4..7].to_vec();
+                continue;
+            }
+            _ => continue,
+        };
+        own.push((event.clone(), record.access[w as usize]));
+    }
+    (answers, own)
+}
+
+/// The access in both, as long as what is kept of the lists agrees: a beginning is a run as well.
+fn agreed(lists: &[Vec<Own>; 2], kept: fn(&[u8]) -> bool) -> impl Iterator<Item = [&Access; 2]> {
+    let [left, right] = lists.each_ref().map(|list| list.iter().filter(move |own| kept(&own.0)));
+    left.zip(right).take_while(|(one, two)| one.0 == two.0).map(|(one, two)| [&one.1, &two.1])
+}
+
+/// The entries in all columns, and their order.
+fn alike([one, two]: [&Access; 2]) -> bool {
+    let columns = |e: &Entry| (e.network, e.ban, e.n1, e.forbidden, e.n1_barred);
+    let same = one.entries.iter().map(columns).eq(two.entries.iter().map(columns));
+    same && one.order[..] == two.order[..]
+}
+
+/// Where R-12's lists of an access agree its entries do, whatever befalls the other, and also with
+/// another state, card counter or answer. Without T3247 in the lists, or without the 27s, they may
+/// differ.
+#[test]
+fn entries_follow_from_own_events() {
+    let (mut draws, mut pairs, mut seen, mut needed) = (Draws(12), 0, [0; 4], [0; 2]);
+    for w in [0, 1].repeat(2000) {
+        let turns: Vec<u8> = (0..500).map(|_| draws.below(2)).collect();
+        let first: Events = turns.into_iter().map(|a| draws.logged(a)).collect();
+        let second: Events = first.iter().flat_map(|octets| draws.altered(octets, w)).collect();
+        let [(one, left), (two, right)] = [&first, &second].map(|events| run(events, w));
+        let lists = [left, right];
+        let whole = lists.iter().all(|list| list.len() == agreed(&lists, |_| true).count());
+        pairs += (whole && first != second) as usize;
+        seen[0] += (whole && one != two) as usize;
+        for [one, two] in agreed(&lists, |_| true) {
+            assert!(alike([one, two]), "access {w}: {first:02X?}\n{second:02X?}");
+            seen[1] += (one.state != two.state) as usize;
+            seen[2] += (one.cards != two.cards) as usize;
+            seen[3] += one.entries.full() as usize;
+        }
+        let parts = |kept| agreed(&lists, kept).any(|pair| !alike(pair)) as usize;
+        needed[0] += parts(|event| event != [4, 0, 4, 0]);
+        needed[1] += parts(|event| event.len() != 3);
+    }
+    assert!(pairs > 1000, "{pairs}");
+    assert!(seen.iter().all(|&times| times > 5), "{seen:?}");
+    assert!(needed.iter().all(|&times| times > 100), "{needed:?}");
 }

@@ -235,7 +235,7 @@ module _ (r : Record) where
       half-after cardCounterToLimit = refl
       half-after n1CounterToLimit = refl
 
-      taken-half : halfOf (next r e octets) w ≡ halfAfter crossed limit n1limit net (halfOf r w)
+      pub taken-half : halfOf (next r e octets) w ≡ halfAfter crossed limit n1limit net (halfOf r w)
       unfolding halfOf
       taken-half = halves numbers-after entries-after guti-same networks-same ∙ sym (half-after crossed)
 

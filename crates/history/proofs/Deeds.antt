@@ -81,6 +81,18 @@ deedTale l deed.Sweep octets d k = told d k
 deedTale l deed.Power octets d k = told d k
 deedTale l deed.Fresh octets d k = begun
 
+-- an import's many are those with its networks
+pub count-fits : (e : Deed) (many : ℕ) (octets : List ℕ) (count : ℕ) (t : Entries) → Fits e many octets count t → countBy e many count ≡ countBy e (heldWith count octets (t .nets)) count
+count-fits deed.Nothing many octets count t f = refl
+count-fits (deed.Ban s) many octets count t f = refl
+count-fits (deed.Bar s) many octets count t f = refl
+count-fits (deed.Accept s) many octets count t f = refl
+count-fits (deed.ToLimit net) many octets count t f = refl
+count-fits deed.Import many octets count t f = f .0
+count-fits deed.Sweep many octets count t f = refl
+count-fits deed.Power many octets count t f = refl
+count-fits deed.Fresh many octets count t f = refl
+
 -- no more than sixteen
 grown-few : (b : Bool) (n : ℕ) → n ≤ 16 → grown b n ≤ 16
 grown-few true n h = h

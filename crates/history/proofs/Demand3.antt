@@ -9,21 +9,17 @@ use lib.Dec.{eqb}
 use lib.ListN.{length}
 use Rattle.entries.specs.declared.Entries.{Entries}
 use Rattle.entries.specs.Entries.{none}
-use Rattle.record.specs.Answers.{numberOf, isTaken}
+use Rattle.record.specs.Answers.{isTaken}
 use Rattle.record.specs.New.{newDevice, newAccess, emptyRecord, newRecord, mayMake, madeOf}
 use Rattle.ranges.specs.Valid.{validOf}
 use Rattle.record.specs.declared.Record.{Record}
 use Rattle.rules.specs.declared.Event.{Event}
 use Rattle.rules.specs.declared.Event.the-variants.{Card, Start, Message, Timer, Power, Key, Update, Import, Unknown}
 use Rattle.record.specs.Sides.{accessOf}
-use Rattle.rules.specs.Plan.{accessIn, refusedReply}
-use Rattle.events.specs.declared.Outcome.{Outcome}
-use Rattle.events.specs.Step.{advanceOf, stepOf}
+use Rattle.rules.specs.Plan.{accessIn}
 use Rattle.validity.specs.Answered.{answeredBy}
 use Rattle.validity.specs.Run.{Heard, runOf}
 use Rattle.validity.specs.Sized.{Sized}
-use Rattle.record.proofs.Numbers.{taken-zero}
-use Rattle.validity.proofs.Refusal.{refused, answer-told}
 use Rattle.validity.proofs.Sizes.{advance-sized, new-sized}
 use Rattle.history.specs.Run.{answersOf}
 use Rattle.history.specs.Cell.{Lined, entriesIn, cellOf, heldIn}
@@ -36,17 +32,18 @@ use Rattle.history.proofs.Fit.{Fit}
 use Rattle.history.proofs.Next.{next, limitsOf}
 use Rattle.history.proofs.Steps.{home-step, ban-step, n1-step, net-step}
 use Rattle.history.proofs.Stays.{small}
+use Rattle.history.proofs.Runs.{run-keeps}
 use Rattle.history.proofs.News.{newsIn, event-fit, event-few}
 
 -- the record agrees with the taken events, the latest first
-record Agrees (l : Limits) (r : Record) (t : List Heard) : Type 0 where
-  sized : Sized r
-  ban : r .hot .dev .banlimit ≡ l .ban
-  n1 : r .hot .dev .n1limit ≡ l .n1
-  home : r .hot .dev .home ≡ homeOf t
-  pending : (w : ℕ) → w < 2 → accessOf (r .hot) w .net ≡ pendingOf t w
-  few : (w : ℕ) → w < 2 → accessOf (r .hot) w .entries ≤ 16
-  tale : (w : ℕ) → w < 2 → Fit l (accessOf (r .hot) w .entries) (entriesIn r w) (taleOf l t w)
+pub record Agrees (l : Limits) (r : Record) (t : List Heard) : Type 0 where
+  pub sized : Sized r
+  pub ban : r .hot .dev .banlimit ≡ l .ban
+  pub n1 : r .hot .dev .n1limit ≡ l .n1
+  pub home : r .hot .dev .home ≡ homeOf t
+  pub pending : (w : ℕ) → w < 2 → accessOf (r .hot) w .net ≡ pendingOf t w
+  pub few : (w : ℕ) → w < 2 → accessOf (r .hot) w .entries ≤ 16
+  pub tale : (w : ℕ) → w < 2 → Fit l (accessOf (r .hot) w .entries) (entriesIn r w) (taleOf l t w)
 
 -- what an event is called goes by home, and the pending network of its access and of this one
 alike : {home home′ : ℕ} → home ≡ home′ → (held : Bool) (f f′ : ℕ → ℕ) (w n : ℕ) → f w ≡ f′ w → (e : Event) (octets : List ℕ) → f (accessIn e) ≡ f′ (accessIn e)
@@ -105,10 +102,10 @@ module _ (l : Limits) (r : Record) (t : List Heard) (g : Agrees l r t) (x : Hear
         rw (← by-alike l nets (pendingOf t) w (g .pending w hw) said e (x .octets) before)
         (rw limits-are at (event-fit r v (g .sized .e0) (g .sized .e1) e (x .octets) k w hw before (by-limits (sym limits-are) (g .tale w hw)) said said-same))
 
-  agrees-taken : validOf r ≡ true → isTaken (answeredBy r e (x .octets)) ≡ true → Sized (next r e (x .octets)) → Agrees l (next r e (x .octets)) (x ∷ t)
+  pub agrees-taken : validOf r ≡ true → isTaken (answeredBy r e (x .octets)) ≡ true → Agrees l (next r e (x .octets)) (x ∷ t)
   unfolding homeOf pendingOf
-  agrees-taken v k z = record {
-    sized = z;
+  agrees-taken v k = record {
+    sized = advance-sized r e (x .octets) (g .sized);
     ban = ban-step r e (x .octets) k ∙ g .ban;
     n1 = n1-step r e (x .octets) k ∙ g .n1;
     home = home-step r e (x .octets) k ∙ ap (homeAfter e) (g .home);
@@ -117,35 +114,6 @@ module _ (l : Limits) (r : Record) (t : List Heard) (g : Agrees l r t) (x : Hear
     tale = λ w hw. taken-told v k w hw;
   }
 
-  -- a step, by its answer's number
-  agrees-step : Agrees l (stepOf r e (x .octets) .next) (cond (eqb (numberOf (stepOf r e (x .octets) .reply .answer)) 0) (x ∷ t) t)
-  unfolding stepOf numberOf refusedReply
-  agrees-step = go (validOf r) refl (isTaken (answeredBy r e (x .octets))) refl
-    where
-      z : Sized (next r e (x .octets))
-      z = advance-sized r e (x .octets) (g .sized)
-
-      number : eqb (numberOf (advanceOf r e (x .octets) .reply .answer)) 0 ≡ isTaken (answeredBy r e (x .octets))
-      number = taken-zero (advanceOf r e (x .octets) .reply .answer) ∙ ap isTaken (answer-told r e (x .octets))
-
-      go : (b : Bool) → validOf r ≡ b → (b′ : Bool) → isTaken (answeredBy r e (x .octets)) ≡ b′
-          → Agrees l (stepOf r e (x .octets) .next) (cond (eqb (numberOf (stepOf r e (x .octets) .reply .answer)) 0) (x ∷ t) t)
-      go true q true q′ = rw (q, number, q′) (agrees-taken q q′ z)
-      go true q false q′ = rw (q, number, q′) (rw (ap (λ (o : Outcome). o .next) (refused r e (x .octets) q′)) g)
-      go false q b′ q′ = rw q g
-
-agrees-run : (l : Limits) (xs : List Heard) (r : Record) (t : List Heard) → Agrees l r t → Agrees l (runOf r xs) (reverseAux (takenOf xs (answersOf r xs)) t)
-unfolding runOf answersOf takenOf
-agrees-run l [] r t g = g
-agrees-run l (x ∷ xs) r t g = go (eqb (numberOf (stepOf r (x .event) (x .octets) .reply .answer)) 0) refl (agrees-run l xs (stepOf r (x .event) (x .octets) .next)) (agrees-step l r t g x)
-  where
-    go : (b : Bool) → eqb (numberOf (stepOf r (x .event) (x .octets) .reply .answer)) 0 ≡ b
-        → ((t′ : List Heard) → Agrees l (stepOf r (x .event) (x .octets) .next) t′ → Agrees l (runOf (stepOf r (x .event) (x .octets) .next) xs) (reverseAux (takenOf xs (answersOf (stepOf r (x .event) (x .octets) .next) xs)) t′))
-        → Agrees l (stepOf r (x .event) (x .octets) .next) (cond (eqb (numberOf (stepOf r (x .event) (x .octets) .reply .answer)) 0) (x ∷ t) t)
-        → Agrees l (runOf r (x ∷ xs)) (reverseAux (takenOf (x ∷ xs) (answersOf r (x ∷ xs))) t)
-    go true q ih g′ = rw q (ih (x ∷ t) (rw q at g′))
-    go false q ih g′ = rw q (ih t (rw q at g′))
-
 module _ (cardlimit banlimit n1limit : ℕ) (capability security : List ℕ) where
   abbrev made : Record
   made = newRecord cardlimit banlimit n1limit capability security
@@ -153,7 +121,7 @@ module _ (cardlimit banlimit n1limit : ℕ) (capability security : List ℕ) whe
   abbrev limits : Limits
   limits = record { ban = banlimit; n1 = n1limit }
 
-  agrees-new : Agrees limits made []
+  pub agrees-new : Agrees limits made []
   unfolding newRecord emptyRecord newDevice newAccess homeOf pendingOf taleOf begun accessOf entriesIn
   agrees-new = record {
     sized = new-sized cardlimit banlimit n1limit capability security;
@@ -168,20 +136,23 @@ module _ (cardlimit banlimit n1limit : ℕ) (capability security : List ℕ) whe
       nothing-told : Fit limits 0 none begun
       nothing-told = record { cells = λ n. cell-none 0 n ∙ sym (said-none limits); lined = lined-none (none .nets); order = λ i j h p. absurd (omega arith) }
 
+  run : (xs : List Heard) → Agrees limits (runOf made xs) (reverseAux (takenOf xs (answersOf made xs)) [])
+  run xs = run-keeps (Agrees limits) (agrees-taken limits) xs made [] agrees-new
+
   -- From a new record, whatever its limits, after any events: each network's counters and marks on each access are what the history says.
   pub demand3 : (xs : List Heard) (w n : ℕ) → w < 2 → cellOf (runOf made xs) w n ≡ saidOf limits xs (answersOf made xs) w n
   unfolding saidOf cellOf
-  demand3 xs w n hw = agrees-run limits xs made [] agrees-new .tale w hw .cells n
+  demand3 xs w n hw = run xs .tale w hw .cells n
 
   -- And the entries are those of the networks that the history names, in its order: whether a reject over the other access was skipped, and who gave up its
   -- place, is read off the events and answers.
   pub demand3-entries : (xs : List Heard) (w : ℕ) → w < 2 → Lined (accessOf (runOf made xs .hot) w .entries) (entriesIn (runOf made xs) w .nets) (heldOf limits xs (answersOf made xs) w)
   unfolding heldOf
-  demand3-entries xs w hw = agrees-run limits xs made [] agrees-new .tale w hw .lined
+  demand3-entries xs w hw = run xs .tale w hw .lined
 
   pub demand3-held : (xs : List Heard) (w n : ℕ) → w < 2 → heldIn (runOf made xs) w n ≡ isOneOf n (heldOf limits xs (answersOf made xs) w)
   unfolding heldIn
-  demand3-held xs w n hw = lined-has (agrees-run limits xs made [] agrees-new .few w hw) (demand3-entries xs w hw) n
+  demand3-held xs w n hw = lined-has (run xs .few w hw) (demand3-entries xs w hw) n
 
   -- the first of what the public call makes, with limits each 1 to 10
   pub demand3-made : mayMake cardlimit banlimit n1limit (length capability) (length security) ≡ true → (xs : List Heard) (w n : ℕ) → w < 2

@@ -19,11 +19,15 @@ pub mod Table
 pub mod Steps
 pub mod News
 pub mod Full
+pub mod Runs
 pub mod Demand3
 pub mod Listed
 pub mod Permitted
 pub mod Written
 pub mod Apart
+pub mod Sides
+pub mod Concerns
+pub mod Own
 pub mod Facts
 pub mod Refusals
 pub mod Replayed

@@ -40,9 +40,9 @@ use Rattle.validity.proofs.Imports.{held-is}
 use Rattle.validity.proofs.Valid.{valid-good}
 use Rattle.history.specs.Cell.{entriesIn, cellOf}
 use Rattle.history.specs.Tale.{Limits, News, isPut, puts, isOneOf, Tale, begun, told, turnedAway}
-use Rattle.history.specs.History.{causeNews, acrossNews, messageNews, eventNews, taleBy}
+use Rattle.history.specs.History.{causeNews, acrossNews, byType, eventNews, taleBy}
 use Rattle.history.proofs.Said.{cellAfter, accepted, imported, ended, quiet}
-use Rattle.history.proofs.Octets.{readNews, isRead, octets-news}
+use Rattle.history.proofs.Octets.{readBy, isRead, by-octets}
 use Rattle.history.proofs.Fit.{Fit, Sound}
 use Rattle.history.proofs.Deeds.{Fits, deedNews, deedTale, deed-few, deed-fit}
 use Rattle.history.proofs.Next.{next, deedIn, limitsOf}
@@ -95,8 +95,8 @@ module _ (r : Record) (octets : List ℕ) (b protected : ℕ) (draws : Draws) wh
 
   -- the message's own access: by what was read
   own-news : (m : Reading) → isRead m ≡ true → (held : Bool) (n : ℕ)
-      → deedNews (messageEffect (r .hot) b protected draws m sight .work .mine) octets held n ≡ cond (eqb net n) (readNews accepted (causeNews (eqb n (r .hot .dev .home)) b is-protected) m) quiet
-  unfolding messageEffect acceptEffect rejectEffect rowWork readNews isRead
+      → deedNews (messageEffect (r .hot) b protected draws m sight .work .mine) octets held n ≡ cond (eqb net n) (readBy quiet accepted (causeNews (eqb n (r .hot .dev .home)) b is-protected) m) quiet
+  unfolding messageEffect acceptEffect rejectEffect rowWork readBy isRead
   own-news (reading.Accept g) t held n = refl
   own-news (reading.Reject k) t held n = row-deed (here k) (seatOf sight net protected) octets held n ∙ said-same k n
   own-news (reading.Bad f at) t held n = absurd (false≢true t)
@@ -125,8 +125,8 @@ module _ (r : Record) (octets : List ℕ) (b protected : ℕ) (draws : Draws) wh
 
   -- the other one: no message reaches its entries but a protected 27
   others-news : (m : Reading) → isRead m ≡ true → (held : Bool) (n : ℕ)
-      → deedNews (messageEffect (r .hot) b protected draws m sight .work .theirs) octets held n ≡ cond (eqb net n && held) (readNews quiet (acrossNews is-protected) m) quiet
-  unfolding messageEffect acceptEffect rejectEffect rowWork rowNow readNews isRead acrossNews
+      → deedNews (messageEffect (r .hot) b protected draws m sight .work .theirs) octets held n ≡ cond (eqb net n && held) (readBy quiet quiet (acrossNews is-protected) m) quiet
+  unfolding messageEffect acceptEffect rejectEffect rowWork rowNow readBy isRead acrossNews
   others-news (reading.Accept g) t held n = still-quiet (eqb net n && held)
   others-news (reading.Reject k) t held n =
       rw (row-across b protected (eqb protected 0) (eqb net (r .hot .dev .home)) (ltb (accessOf (r .hot) b .cardcounter) (r .hot .dev .cardlimit)) (ltb 0 (k .t3346length)) (k .cause))
@@ -166,7 +166,7 @@ module _ (r : Record) (octets : List ℕ) (b protected : ℕ) (draws : Draws) wh
     unfolding answeredBy answerOf
     read-taken = message-passed (r .hot) b protected draws (readingOf octets) sight t .2
 
-    is-read : isRead (readingOf octets) ≡ true
+    pub is-read : isRead (readingOf octets) ≡ true
     is-read = read-of (readingOf octets) read-taken
 
     message-news : (held : Bool) (w n : ℕ)
@@ -179,14 +179,14 @@ module _ (r : Record) (octets : List ℕ) (b protected : ℕ) (draws : Draws) wh
             ≡ eventNews (r .hot .dev .home) (λ (v : ℕ). accessOf (r .hot) v .net) held w n (Message b protected draws) octets
         own q =
             own-news (readingOf octets) is-read held n
-            ∙ ap (λ (d : News). cond (eqb net n) d quiet) (sym (octets-news accepted (causeNews (eqb n (r .hot .dev .home)) b is-protected) octets is-read))
-            ∙ ap (λ (v : ℕ). cond (eqb (accessOf (r .hot) v .net) n) (messageNews accepted (causeNews (eqb n (r .hot .dev .home)) v is-protected) octets) quiet) (eqb-true b w q) ∙ rw q
+            ∙ ap (λ (d : News). cond (eqb net n) d quiet) (sym (by-octets quiet accepted (causeNews (eqb n (r .hot .dev .home)) b is-protected) octets is-read))
+            ∙ ap (λ (v : ℕ). cond (eqb (accessOf (r .hot) v .net) n) (byType accepted (causeNews (eqb n (r .hot .dev .home)) v is-protected) octets) quiet) (eqb-true b w q) ∙ rw q
 
         other : eqb b w ≡ false → deedNews (messageEffect (r .hot) b protected draws (readingOf octets) sight .work .theirs) octets held n
             ≡ eventNews (r .hot .dev .home) (λ (v : ℕ). accessOf (r .hot) v .net) held w n (Message b protected draws) octets
         other q =
             rw q (others-news (readingOf octets) is-read held n
-            ∙ ap (λ (d : News). cond (eqb net n && held) d quiet) (sym (octets-news quiet (acrossNews is-protected) octets is-read)))
+            ∙ ap (λ (d : News). cond (eqb net n && held) d quiet) (sym (by-octets quiet quiet (acrossNews is-protected) octets is-read)))
 
     message-fits : (filed w : ℕ) → Fits (deedIn r (Message b protected draws) octets w) filed octets (accessOf (r .hot) w .entries) (entriesIn r w)
     unfolding accessIn effectOf
@@ -217,7 +217,7 @@ module _ (r : Record) (octets : List ℕ) (b protected : ℕ) (draws : Draws) wh
 
 module _ (r : Record) where
   -- T3247 sweeps both accesses, T3512 and the timers of an access do nothing
-  timer-deeds : (number b : ℕ) → (timerEffect (r .hot) number b .work .mine ≡ cond (eqb number 4) deed.Sweep deed.Nothing)
+  pub timer-deeds : (number b : ℕ) → (timerEffect (r .hot) number b .work .mine ≡ cond (eqb number 4) deed.Sweep deed.Nothing)
       × (timerEffect (r .hot) number b .work .theirs ≡ cond (eqb number 4) deed.Sweep deed.Nothing)
   unfolding timerEffect isDeviceTimer deviceEffect t3247Effect t3512Effect clockEffect
   timer-deeds number b = go (eqb number 4) refl (eqb number 5) refl
@@ -264,7 +264,7 @@ module _ (r : Record) where
   event-news Import octets t held w n = either-news (eqb 0 w) deed.Import deed.Nothing octets held n _ (λ q. rw (q, named-is n octets)) (λ q. rw q)
   event-news Unknown octets t held w n = either-news (eqb 0 w) deed.Nothing deed.Nothing octets held n quiet (λ q. refl) (λ q. refl)
 
-  event-fits : validOf r ≡ true → (e : Event) (octets : List ℕ) → isTaken (answeredBy r e octets) ≡ true → (w : ℕ)
+  pub event-fits : validOf r ≡ true → (e : Event) (octets : List ℕ) → isTaken (answeredBy r e octets) ≡ true → (w : ℕ)
       → Fits (deedIn r e octets w) (filedIn r octets) octets (accessOf (r .hot) w .entries) (entriesIn r w)
   unfolding accessIn effectOf cardEffect startEffect updateEffect keyEffect powerEffect importEffect
   event-fits v (Card home) octets t w = either-fits (eqb 0 w) deed.Fresh deed.Fresh _ octets _ _ (λ q. tt) (λ q. tt)

@@ -12,59 +12,57 @@ use Rattle.octets.specs.declared.Ending.the-variants.{Broken, Whole}
 use Rattle.messages.specs.declared.Reading.{Reading}
 use Rattle.messages.specs.declared.Reading.the-variants as reading
 use Rattle.messages.specs.Message.{endedBy, acceptedOf, acceptReading, rejectOf, rejectedOf, rejectReading, typeReading, openedBy, readingOf}
-use Rattle.history.specs.Tale.{News}
-use Rattle.history.specs.History.{messageNews}
-use Rattle.history.proofs.Said.{quiet}
+use Rattle.history.specs.History.{byType}
 
--- what a reading is for the network, by what an accept is and what a reject is by its cause
-unfoldable pub readNews : News → (ℕ → News) → Reading → News
-readNews accept reject (reading.Accept g) = accept
-readNews accept reject (reading.Reject k) = reject (k .cause)
-readNews accept reject (reading.Bad f at) = quiet
+-- what a reading says, by what an accept does and what a reject does by its cause
+unfoldable pub readBy : {A : Type 0} → A → A → (ℕ → A) → Reading → A
+readBy none accept reject (reading.Accept g) = accept
+readBy none accept reject (reading.Reject k) = reject (k .cause)
+readBy none accept reject (reading.Bad f at) = none
 
 unfoldable pub isRead : Reading → Bool
 isRead (reading.Accept g) = true
 isRead (reading.Reject k) = true
 isRead (reading.Bad f at) = false
 
-module _ (accept : News) (reject : ℕ → News) where
-  abbrev said : Reading → News
-  said m = readNews accept reject m
+module _ {A : Type 0} (none accept : A) (reject : ℕ → A) where
+  abbrev said : Reading → A
+  said m = readBy none accept reject m
 
   -- a reading that is X if it reads at all
-  abbrev Is : News → Reading → Type 0
+  abbrev Is : A → Reading → Type 0
   Is x m = isRead m ≡ true → x ≡ said m
 
-  bad : (x : News) (f : Fault) (at : ℕ) → Is x (reading.Bad f at)
+  bad : (x : A) (f : Fault) (at : ℕ) → Is x (reading.Bad f at)
   unfolding isRead
   bad x f at t = absurd (false≢true t)
 
-  either-is : (x : News) (b : Bool) (m m′ : Reading) → (b ≡ true → Is x m) → (b ≡ false → Is x m′) → Is x (cond b m m′)
+  either-is : (x : A) (b : Bool) (m m′ : Reading) → (b ≡ true → Is x m) → (b ≡ false → Is x m′) → Is x (cond b m m′)
   either-is x true m m′ h k = h refl
   either-is x false m m′ h k = k refl
 
   module _ (s : List ℕ) where
-    ended-is : (x : News) (e : Ending) (m : Reading) → x ≡ said m → Is x (endedBy reading.Bad e m)
+    ended-is : (x : A) (e : Ending) (m : Reading) → x ≡ said m → Is x (endedBy reading.Bad e m)
     unfolding endedBy
     ended-is x (Broken f at) m i = bad x f at
     ended-is x Whole m i = λ t. i
 
     accept-is : Is accept (acceptReading s)
-    unfolding acceptReading acceptedOf readNews
+    unfolding acceptReading acceptedOf readBy
     accept-is =
         either-is accept (ltb 3 (length s)) _ _
         (λ e. either-is accept (eqb (getD s 3 0) 0) _ _ (λ e′. bad accept Cut 3) (λ e′. either-is accept (ltb (length s) (4 + getD s 3 0)) _ _ (λ e″. bad accept Cut (length s)) (λ e″. ended-is accept _ _ refl)))
         (λ e. bad accept Cut 3)
 
     reject-is : Is (reject (getD s 3 0)) (rejectReading s)
-    unfolding rejectReading rejectedOf rejectOf readNews
+    unfolding rejectReading rejectedOf rejectOf readBy
     reject-is = either-is (reject (getD s 3 0)) (ltb 3 (length s)) _ _ (λ e. ended-is (reject (getD s 3 0)) _ _ refl) (λ e. bad (reject (getD s 3 0)) Cut 3)
 
-    abbrev heard : News
-    heard = messageNews accept reject s
+    abbrev heard : A
+    heard = byType accept reject s
 
     type-is : Is heard (typeReading s)
-    unfolding typeReading messageNews
+    unfolding typeReading byType
     type-is =
         either-is _ (ltb 2 (length s)) _ _
         (λ e. either-is _ (eqb (getD s 2 0) 0x42) _ _ (λ q. rw q accept-is)
@@ -76,6 +74,6 @@ module _ (accept : News) (reject : ℕ → News) where
     opened-is at octet f m h =
         either-is heard (ltb at (length s)) _ _ (λ e. either-is heard (eqb (getD s at 0) octet) m _ (λ e′. h) (λ e′. bad heard f at)) (λ e. bad heard Cut at)
 
-    pub octets-news : Is heard (readingOf s)
+    pub by-octets : Is heard (readingOf s)
     unfolding readingOf
-    octets-news = opened-is 0 0x7E First _ (opened-is 1 0x00 Second _ type-is)
+    by-octets = opened-is 0 0x7E First _ (opened-is 1 0x00 Second _ type-is)

@@ -4,6 +4,7 @@ pub mod Cell
 pub mod Tale
 pub mod History
 pub mod Full
+pub mod Own
 pub mod Apart
 pub mod Across
 pub mod Facts
