@@ -5,12 +5,102 @@
  * What holds for every call: each pointer is valid, aligned for its type, and not null, also where its length is 0: the library takes it so, by its language's rules, and does not test it.
  * The storage behind a pointer that is not const overlaps no other argument. All of it is used during the call only, and nothing is kept.
  * Beyond that no argument is bad: any octets are a record, any number is a kind, any octets are a body, and each has its answer.
+ * Lengths and offsets are 64 bits wide on every processor, as the library has them: uint64_t, not size_t.
+ *
+ * The header is for C11 and for C++11 and later, and needs no other one but stdint.h. The calls are the library's. What stands behind them is inline: numbers in words, the
+ * notice's timers in a row, networks by their digits, and what writes an event's body.
  */
 #ifndef TJERNFAUG_H
 #define TJERNFAUG_H
 
-#include <stddef.h>
 #include <stdint.h>
+
+#ifdef __cplusplus
+extern "C" {
+#endif
+
+/* This header's version: 10000 times the major number, 100 times the minor one, and the patch. */
+#define TJERNFAUG_VERSION 900
+#define TJERNFAUG_VERSION_TEXT "0.9.0"
+
+/* The numbers by name. Structs and calls have plain numbers, so that no compiler's enums change the layout. */
+enum tjernfaug_kind {
+    TJERNFAUG_KIND_CARD = 1,
+    TJERNFAUG_KIND_START = 2,
+    TJERNFAUG_KIND_MESSAGE = 3,
+    TJERNFAUG_KIND_TIMER = 4,
+    TJERNFAUG_KIND_POWER = 5,
+    TJERNFAUG_KIND_KEY = 6,
+    TJERNFAUG_KIND_UPDATE = 7,
+    TJERNFAUG_KIND_MESSAGE_DRAWS = 8,
+    TJERNFAUG_KIND_IMPORT = 10,
+};
+
+/* The answers. A call that gives a number, or else says why not, adds REFUSED to its answer. No call here answers 3 or 19, which are for reading a request. */
+enum tjernfaug_answer {
+    TJERNFAUG_ANSWER_TAKEN = 0,
+    TJERNFAUG_ANSWER_RANGE = 1,
+    TJERNFAUG_ANSWER_IGNORED = 2,
+    TJERNFAUG_ANSWER_LAYOUT = 3,
+    TJERNFAUG_ANSWER_FULL = 4,
+    TJERNFAUG_ANSWER_NO_CARD = 5,
+    TJERNFAUG_ANSWER_STATE = 6,
+    TJERNFAUG_ANSWER_SAME_NETWORK = 7,
+    TJERNFAUG_ANSWER_NETWORK_LISTED = 8,
+    TJERNFAUG_ANSWER_AREA_LISTED = 9,
+    TJERNFAUG_ANSWER_UNPROTECTED = 10,
+    TJERNFAUG_ANSWER_NOT_RUNNING = 11,
+    TJERNFAUG_ANSWER_SHORT = 12,
+    TJERNFAUG_ANSWER_CUT = 13,
+    TJERNFAUG_ANSWER_FIRST_OCTET = 14,
+    TJERNFAUG_ANSWER_SECOND_OCTET = 15,
+    TJERNFAUG_ANSWER_MESSAGE_TYPE = 16,
+    TJERNFAUG_ANSWER_PAST_END = 17,
+    TJERNFAUG_ANSWER_UNKNOWN_ELEMENT = 18,
+    TJERNFAUG_ANSWER_THIRD_LEVEL = 19,
+    TJERNFAUG_ANSWER_WAITING = 20,
+    TJERNFAUG_REFUSED = 256,
+};
+
+enum tjernfaug_state {
+    TJERNFAUG_STATE_NO_SUPI = 0,
+    TJERNFAUG_STATE_NORMAL_SERVICE = 1,
+    TJERNFAUG_STATE_LIMITED_SERVICE = 2,
+    TJERNFAUG_STATE_ATTEMPTING_REGISTRATION = 3,
+    TJERNFAUG_STATE_REGISTERED_INITIATED = 4,
+    TJERNFAUG_STATE_REGISTERED = 5,
+    TJERNFAUG_STATE_PLMN_SEARCH = 6,
+};
+
+enum tjernfaug_status {
+    TJERNFAUG_STATUS_5U1 = 1,
+    TJERNFAUG_STATUS_5U2 = 2,
+    TJERNFAUG_STATUS_5U3 = 3,
+};
+
+/* What a notice tells of a timer. */
+enum tjernfaug_told {
+    TJERNFAUG_TOLD_LEFT = 0,
+    TJERNFAUG_TOLD_STOPPED = 1,
+    TJERNFAUG_TOLD_STARTED = 2,
+};
+
+/* A timer's number in the timer event. */
+enum tjernfaug_number {
+    TJERNFAUG_TIMER_T3510 = 1,
+    TJERNFAUG_TIMER_T3511 = 2,
+    TJERNFAUG_TIMER_T3502 = 3,
+    TJERNFAUG_TIMER_T3247 = 4,
+    TJERNFAUG_TIMER_T3512 = 5,
+    TJERNFAUG_TIMER_T3346 = 6,
+};
+
+/* A registration's type. */
+enum tjernfaug_type {
+    TJERNFAUG_TYPE_INITIAL = 1,
+    TJERNFAUG_TYPE_MOBILITY = 2,
+    TJERNFAUG_TYPE_PERIODIC = 3,
+};
 
 /*
  * The cause of a registration reject, msg[0] to msg[len - 1]: 0 to 255.
@@ -22,7 +112,7 @@
  *   273  an element past the end
  *   274  an unknown element that must be understood (00 to 0F)
  */
-uint32_t reject_cause(const uint8_t *msg, size_t len);
+uint32_t reject_cause(const uint8_t *msg, uint64_t len);
 
 /* The seconds of a timer octet (GPRS timer 2), 0 to 11160; 65535 for top bits 7, deactivated. */
 uint32_t timer_seconds(uint8_t octet);
@@ -139,7 +229,7 @@ struct tjernfaug_timers {
  * The octets behind update have no meaning and may change at any event.
  */
 struct tjernfaug_notice {
-    size_t offset;
+    uint64_t offset;
     struct tjernfaug_timers c0;
     struct tjernfaug_timers c1;
     struct tjernfaug_timer t3247;
@@ -149,18 +239,28 @@ struct tjernfaug_notice {
     uint32_t update;
 };
 
-/* The library's layout on x86-64; tests/c/run holds the library to it. */
-_Static_assert(sizeof(struct tjernfaug_record) == 1256, "the record's size");
-_Static_assert(_Alignof(struct tjernfaug_record) == 8, "the record's alignment");
-_Static_assert(sizeof(struct tjernfaug_notice) == 104, "the notice's size");
-_Static_assert(_Alignof(struct tjernfaug_notice) == 8, "the notice's alignment");
+/* The library's layout: a compiler that has another one stops here. tests/c/run holds the library to it on x86-64. */
+#ifdef __cplusplus
+#define TJERNFAUG_LAYOUT(name, size, align) static_assert(sizeof(struct name) == (size) && alignof(struct name) == (align), "the layout of " #name)
+#else
+#define TJERNFAUG_LAYOUT(name, size, align) _Static_assert(sizeof(struct name) == (size) && _Alignof(struct name) == (align), "the layout of " #name)
+#endif
+TJERNFAUG_LAYOUT(tjernfaug_device, 20, 4);
+TJERNFAUG_LAYOUT(tjernfaug_access, 36, 4);
+TJERNFAUG_LAYOUT(tjernfaug_hot, 92, 4);
+TJERNFAUG_LAYOUT(tjernfaug_entries, 144, 4);
+TJERNFAUG_LAYOUT(tjernfaug_record, 1256, 8);
+TJERNFAUG_LAYOUT(tjernfaug_timer, 8, 4);
+TJERNFAUG_LAYOUT(tjernfaug_timers, 32, 4);
+TJERNFAUG_LAYOUT(tjernfaug_notice, 104, 8);
+#undef TJERNFAUG_LAYOUT
 
 /*
  * A new record with these limits (1 to 10), 5GMM capability (1 to 13 octets) and UE security capability (2 to 8 octets), over any octets that r held.
  * 0, or 1 where one of them is outside its range: r is then as it was.
  */
 uint32_t tjernfaug_new(struct tjernfaug_record *r, uint8_t cardlimit, uint8_t banlimit, uint8_t n1limit,
-                       const uint8_t *capability, size_t capability_len, const uint8_t *security, size_t security_len);
+                       const uint8_t *capability, uint64_t capability_len, const uint8_t *security, uint64_t security_len);
 
 /*
  * An event in the event log's form: a log record is the length of what follows it (two octets, the low one first), the kind (the same) and the body.
@@ -188,7 +288,7 @@ uint32_t tjernfaug_new(struct tjernfaug_record *r, uint8_t cardlimit, uint8_t ba
  *   17  an element past the end: its identifier
  *   18  an unknown element that must be understood (00 to 0F): its identifier
  */
-uint32_t tjernfaug_event(struct tjernfaug_record *r, uint32_t kind, const uint8_t *body, size_t len,
+uint32_t tjernfaug_event(struct tjernfaug_record *r, uint32_t kind, const uint8_t *body, uint64_t len,
                          struct tjernfaug_notice *notice);
 
 /* The longest request, for the size of a buffer: a clear part of 80 octets, with ngKSI 7 the whole of it, then 71 with its length, and 110 in the container. */
@@ -205,7 +305,7 @@ enum { TJERNFAUG_LONGEST_REQUEST = 193 };
  *   262  the access is not in state 4
  *   268  the buffer is shorter than the request
  */
-uint32_t tjernfaug_request(const struct tjernfaug_record *r, uint8_t access, uint8_t *buffer, size_t len);
+uint32_t tjernfaug_request(const struct tjernfaug_record *r, uint8_t access, uint8_t *buffer, uint64_t len);
 
 /* How many networks are heard at most, for the size of both lists. */
 enum { TJERNFAUG_MOST_CELLS = 64 };
@@ -218,8 +318,8 @@ enum { TJERNFAUG_MOST_CELLS = 64 };
  *   257  access is not 0 or 1, more than TJERNFAUG_MOST_CELLS are heard, a number is above FFFFFF hex, or r is invalid
  *   268  permitted_len is below heard_len, even if all that it permits would fit
  */
-uint32_t tjernfaug_cells(const struct tjernfaug_record *r, uint8_t access, const uint32_t *heard, size_t heard_len,
-                         uint32_t *permitted, size_t permitted_len);
+uint32_t tjernfaug_cells(const struct tjernfaug_record *r, uint8_t access, const uint32_t *heard, uint64_t heard_len,
+                         uint32_t *permitted, uint64_t permitted_len);
 
 /* The longest list: sixteen networks of three octets. */
 enum { TJERNFAUG_LONGEST_LIST = 48 };
@@ -231,6 +331,285 @@ enum { TJERNFAUG_LONGEST_LIST = 48 };
  *   257  len is not a multiple of three, or r is invalid
  *   268  the file is shorter than the list: three octets for each marked network
  */
-uint32_t tjernfaug_forbidden(const struct tjernfaug_record *r, uint8_t *file, size_t len);
+uint32_t tjernfaug_forbidden(const struct tjernfaug_record *r, uint8_t *file, uint64_t len);
+
+/* Numbers in plain words, "unknown" for all others. Of a call that adds REFUSED, take it off first. */
+static inline const char *tjernfaug_kind_name(uint32_t kind)
+{
+    static const char *const names[] = {
+        "unknown", "card", "start", "message", "timer", "power", "key", "update", "message with both draws", "unknown", "import",
+    };
+    return kind < sizeof names / sizeof *names ? names[kind] : "unknown";
+}
+
+static inline const char *tjernfaug_answer_name(uint32_t answer)
+{
+    static const char *const names[] = {
+        "taken",
+        "a number out of its range",
+        "ignored by the two-access rule",
+        "no request by the layout",
+        "no entry for the network",
+        "a start without a card, or with a refused one",
+        "wrong state for the event",
+        "the other access is registering with the same network",
+        "network listed",
+        "area listed",
+        "an accept without protection",
+        "timer not running",
+        "buffer too short",
+        "fewer than the fixed octets",
+        "octet 1 not 7E",
+        "octet 2 not 00",
+        "type not one this call reads",
+        "an element past the end",
+        "an unknown element that must be understood",
+        "a request on a third level",
+        "the network has asked for time",
+    };
+    return answer < sizeof names / sizeof *names ? names[answer] : "unknown";
+}
+
+static inline const char *tjernfaug_state_name(uint32_t state)
+{
+    static const char *const names[] = {
+        "no card or card refused", "normal service", "limited service", "attempting registration", "registration initiated", "registered", "network search",
+    };
+    return state < sizeof names / sizeof *names ? names[state] : "unknown";
+}
+
+/* By its number in the timer event. */
+static inline const char *tjernfaug_timer_name(uint32_t number)
+{
+    static const char *const names[] = {"unknown", "T3510", "T3511", "T3502", "T3247", "T3512", "T3346"};
+    return number < sizeof names / sizeof *names ? names[number] : "unknown";
+}
+
+/* The ten timers of a notice in a row, so that firmware can keep an array of its own and loop over both: those of access 0, of access 1, and the device's two. */
+enum tjernfaug_slot {
+    TJERNFAUG_T3510_0,
+    TJERNFAUG_T3511_0,
+    TJERNFAUG_T3502_0,
+    TJERNFAUG_T3346_0,
+    TJERNFAUG_T3510_1,
+    TJERNFAUG_T3511_1,
+    TJERNFAUG_T3502_1,
+    TJERNFAUG_T3346_1,
+    TJERNFAUG_T3247,
+    TJERNFAUG_T3512,
+    TJERNFAUG_SLOTS,
+};
+
+/* What the notice tells of a slot's timer; of a slot that is none, that it is left. */
+static inline struct tjernfaug_timer tjernfaug_timer_of(const struct tjernfaug_notice *notice, uint32_t slot)
+{
+    const struct tjernfaug_timer left = {TJERNFAUG_TOLD_LEFT, 0};
+    switch (slot) {
+    case TJERNFAUG_T3510_0: return notice->c0.t3510;
+    case TJERNFAUG_T3511_0: return notice->c0.t3511;
+    case TJERNFAUG_T3502_0: return notice->c0.t3502;
+    case TJERNFAUG_T3346_0: return notice->c0.t3346;
+    case TJERNFAUG_T3510_1: return notice->c1.t3510;
+    case TJERNFAUG_T3511_1: return notice->c1.t3511;
+    case TJERNFAUG_T3502_1: return notice->c1.t3502;
+    case TJERNFAUG_T3346_1: return notice->c1.t3346;
+    case TJERNFAUG_T3247: return notice->t3247;
+    case TJERNFAUG_T3512: return notice->t3512;
+    default: return left;
+    }
+}
+
+/* A slot's number and access in the timer event; of a slot that is none, number 0, which is answer 1. */
+static inline uint8_t tjernfaug_slot_number(uint32_t slot)
+{
+    static const uint8_t numbers[TJERNFAUG_SLOTS] = {
+        TJERNFAUG_TIMER_T3510, TJERNFAUG_TIMER_T3511, TJERNFAUG_TIMER_T3502, TJERNFAUG_TIMER_T3346,
+        TJERNFAUG_TIMER_T3510, TJERNFAUG_TIMER_T3511, TJERNFAUG_TIMER_T3502, TJERNFAUG_TIMER_T3346,
+        TJERNFAUG_TIMER_T3247, TJERNFAUG_TIMER_T3512,
+    };
+    return slot < TJERNFAUG_SLOTS ? numbers[slot] : 0;
+}
+
+static inline uint8_t tjernfaug_slot_access(uint32_t slot)
+{
+    return slot >= TJERNFAUG_T3510_1 && slot <= TJERNFAUG_T3346_1;
+}
+
+static inline const char *tjernfaug_slot_name(uint32_t slot)
+{
+    static const char *const names[TJERNFAUG_SLOTS] = {
+        "T3510 of access 0", "T3511 of access 0", "T3502 of access 0", "T3346 of access 0",
+        "T3510 of access 1", "T3511 of access 1", "T3502 of access 1", "T3346 of access 1",
+        "T3247", "T3512",
+    };
+    return slot < TJERNFAUG_SLOTS ? names[slot] : "unknown";
+}
+
+/* What is no network. As a body's three octets it is answer 1. */
+#define TJERNFAUG_NO_NETWORK UINT32_C(0xFFFFFFFF)
+
+/*
+ * A network's number from its digits, as the record has it: 002-02 is tjernfaug_network(2, 2, 2), which is 00F220 hex, and 310-260 is tjernfaug_network(310, 260, 3).
+ * mnc_digits says how many digits the MNC has, 2 or 3: 310-26 and 310-026 are two networks. TJERNFAUG_NO_NETWORK where there are no such digits.
+ * Write 2 and not 002: to C a number that begins with 0 is octal.
+ */
+static inline uint32_t tjernfaug_network(uint32_t mcc, uint32_t mnc, uint32_t mnc_digits)
+{
+    const uint32_t three = mnc_digits == 3, pair = three ? mnc / 10 : mnc, third = three ? mnc % 10 : 0xF;
+    if (mcc > 999 || pair > 99 || (mnc_digits != 2 && mnc_digits != 3))
+        return TJERNFAUG_NO_NETWORK;
+    return (mcc / 10 % 10) << 20 | (mcc / 100) << 16 | third << 12 | (mcc % 10) << 8 | (pair % 10) << 4 | pair / 10;
+}
+
+/* The octets of a network's text, its end too. */
+enum { TJERNFAUG_NETWORK_TEXT = 8 };
+
+/* "002-02" or "310-260" from a network's number; of one that is no network its six hex digits, or "none" above FFFFFF hex. The text stands in out, which is given back. */
+static inline const char *tjernfaug_network_text(uint32_t network, char out[TJERNFAUG_NETWORK_TEXT])
+{
+    /* Where the digits stand: those of the MCC and of the MNC in their order, and all six as sent. */
+    static const uint8_t ordered[] = {16, 20, 8, 0, 4, 12}, sent[] = {20, 16, 12, 8, 4, 0};
+    uint32_t count = (network >> 12 & 0xF) == 0xF ? 5 : 6, decimal = 0, at = 0, i;
+    const uint8_t *places = ordered;
+    if (network > 0xFFFFFF) {
+        for (i = 0; i < sizeof "none"; i++)
+            out[i] = "none"[i];
+        return out;
+    }
+    while (decimal < count && (network >> ordered[decimal] & 0xF) < 10)
+        decimal++;
+    if (decimal < count) {
+        count = 6;
+        places = sent;
+    }
+    for (i = 0; i < count; i++) {
+        if (i == 3 && places == ordered)
+            out[at++] = '-';
+        out[at++] = "0123456789ABCDEF"[network >> places[i] & 0xF];
+    }
+    out[at] = 0;
+    return out;
+}
+
+/*
+ * What writes the bodies of events: plain arguments, then the buffer and how many octets it has. A network and an area code are numbers as in the record, of which the low 24 bits
+ * count; uplink and sessions too are as in the record, session i bit i. Nothing is judged here: that is the event's.
+ * How many octets the body has; or 0 where the buffer is shorter, and then it is as it was. As an event's body no octets are answer 1, so that this too is told there.
+ * A power cycle has no body, and an import's is the card's file.
+ */
+enum {
+    TJERNFAUG_BODY_CARD = 3,          /* and the SUCI */
+    TJERNFAUG_BODY_START = 8,
+    TJERNFAUG_BODY_MESSAGE = 4,       /* and the message */
+    TJERNFAUG_BODY_TIMER = 2,
+    TJERNFAUG_BODY_POWER = 0,
+    TJERNFAUG_BODY_KEY = 2,
+    TJERNFAUG_BODY_UPDATE = 12,
+    TJERNFAUG_BODY_MESSAGE_DRAWS = 6, /* and the message */
+    TJERNFAUG_LONGEST_CARD = 67,      /* with a SUCI of 64 octets */
+};
+
+/* For the bodies: three octets, the first one highest; two, the low one first; and octets as they are. */
+static inline void tjernfaug_put_three(uint8_t *to, uint32_t number)
+{
+    to[0] = number >> 16 & 0xFF;
+    to[1] = number >> 8 & 0xFF;
+    to[2] = number & 0xFF;
+}
+
+static inline void tjernfaug_put_two(uint8_t *to, uint32_t number)
+{
+    to[0] = number & 0xFF;
+    to[1] = number >> 8 & 0xFF;
+}
+
+static inline void tjernfaug_put_octets(uint8_t *to, const uint8_t *from, uint64_t len)
+{
+    for (uint64_t i = 0; i < len; i++)
+        to[i] = from[i];
+}
+
+static inline uint64_t tjernfaug_body_card(uint32_t home, const uint8_t *suci, uint64_t suci_len, uint8_t *body, uint64_t len)
+{
+    if (len < TJERNFAUG_BODY_CARD || len - TJERNFAUG_BODY_CARD < suci_len)
+        return 0;
+    tjernfaug_put_three(body, home);
+    tjernfaug_put_octets(body + TJERNFAUG_BODY_CARD, suci, suci_len);
+    return TJERNFAUG_BODY_CARD + suci_len;
+}
+
+static inline uint64_t tjernfaug_body_start(uint8_t access, uint8_t manual, uint32_t network, uint32_t code, uint8_t *body, uint64_t len)
+{
+    if (len < TJERNFAUG_BODY_START)
+        return 0;
+    body[0] = access;
+    body[1] = manual;
+    tjernfaug_put_three(body + 2, network);
+    tjernfaug_put_three(body + 5, code);
+    return TJERNFAUG_BODY_START;
+}
+
+/* Kind 3, with the draw for T3247 alone; the draw for T3346 is then 900. Kind 8, below, has both. */
+static inline uint64_t tjernfaug_body_message(uint8_t access, uint8_t protection, uint16_t t3247, const uint8_t *msg, uint64_t msg_len,
+                                              uint8_t *body, uint64_t len)
+{
+    if (len < TJERNFAUG_BODY_MESSAGE || len - TJERNFAUG_BODY_MESSAGE < msg_len)
+        return 0;
+    body[0] = access;
+    body[1] = protection;
+    tjernfaug_put_two(body + 2, t3247);
+    tjernfaug_put_octets(body + TJERNFAUG_BODY_MESSAGE, msg, msg_len);
+    return TJERNFAUG_BODY_MESSAGE + msg_len;
+}
+
+static inline uint64_t tjernfaug_body_message_draws(uint8_t access, uint8_t protection, uint16_t t3247, uint16_t t3346, const uint8_t *msg, uint64_t msg_len,
+                                                    uint8_t *body, uint64_t len)
+{
+    if (len < TJERNFAUG_BODY_MESSAGE_DRAWS || len - TJERNFAUG_BODY_MESSAGE_DRAWS < msg_len)
+        return 0;
+    body[0] = access;
+    body[1] = protection;
+    tjernfaug_put_two(body + 2, t3247);
+    tjernfaug_put_two(body + 4, t3346);
+    tjernfaug_put_octets(body + TJERNFAUG_BODY_MESSAGE_DRAWS, msg, msg_len);
+    return TJERNFAUG_BODY_MESSAGE_DRAWS + msg_len;
+}
+
+/* Of a slot, tjernfaug_slot_number and tjernfaug_slot_access give both. */
+static inline uint64_t tjernfaug_body_timer(uint8_t number, uint8_t access, uint8_t *body, uint64_t len)
+{
+    if (len < TJERNFAUG_BODY_TIMER)
+        return 0;
+    body[0] = number;
+    body[1] = access;
+    return TJERNFAUG_BODY_TIMER;
+}
+
+static inline uint64_t tjernfaug_body_key(uint8_t access, uint8_t set, uint8_t *body, uint64_t len)
+{
+    if (len < TJERNFAUG_BODY_KEY)
+        return 0;
+    body[0] = access;
+    body[1] = set;
+    return TJERNFAUG_BODY_KEY;
+}
+
+static inline uint64_t tjernfaug_body_update(uint8_t access, uint8_t type, uint32_t network, uint32_t code, uint16_t uplink, uint16_t sessions,
+                                             uint8_t *body, uint64_t len)
+{
+    if (len < TJERNFAUG_BODY_UPDATE)
+        return 0;
+    body[0] = access;
+    body[1] = type;
+    tjernfaug_put_three(body + 2, network);
+    tjernfaug_put_three(body + 5, code);
+    tjernfaug_put_two(body + 8, uplink);
+    tjernfaug_put_two(body + 10, sessions);
+    return TJERNFAUG_BODY_UPDATE;
+}
+
+#ifdef __cplusplus
+}
+#endif
 
 #endif

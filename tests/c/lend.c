@@ -3,6 +3,7 @@
  * What is lent ends where nothing may be read or written, and octets that must stay lie before it. A record and a notice go in and out field by field, by the header's names.
  */
 #define _DEFAULT_SOURCE
+#include <stddef.h>
 #include <stdio.h>
 #include <stdlib.h>
 #include <string.h>
@@ -137,7 +138,7 @@ int main(void)
     for (size_t i = 0; i < ROOMS; i++)
         ends[i] = room();
     for (size_t i = 0; i < FIELDS; i++)
-        octets += fields[i].len;
+        octets += (uint32_t)fields[i].len;
     setvbuf(stdin, NULL, _IOFBF, ROOM);
     setvbuf(stdout, NULL, _IOFBF, ROOM);
     const uint32_t sizes[] = {octets, TJERNFAUG_LONGEST_REQUEST, TJERNFAUG_MOST_CELLS, TJERNFAUG_LONGEST_LIST};
