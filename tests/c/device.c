@@ -4,39 +4,62 @@
  * home. In a busy hour the network asks for ten minutes there, and the device waits. Then the network takes it, after an accept that lost its last octet, and it moves: a
  * mobility update in the next area, and a periodic one once T3512 has run out. It writes the card's file, which forbids the same networks for a record just given that card.
  * Last it has a new card and goes a long way: sixteen networks turn it away, and the seventeenth finds a place once T3247 has lifted their marks.
- * It writes what it was told to a log, from which the lab's program replays the same states.
+ * Its ten timers go as the notices tell. It writes what it was told to a log, from which the lab's program replays the same states.
  * Usage: device LOG; the states go to standard output as the lab's program prints them.
  */
+#include <inttypes.h>
 #include <stdio.h>
 #include <string.h>
 #include "tjernfaug.h"
 
-enum { CARD = 1, START, MESSAGE, TIMER, KEY = 6, UPDATE, DRAWS, IMPORT = 10 };
-enum { T3247 = 4, T3512, T3346 };
-enum { MOBILITY = 2, PERIODIC };
-enum { TAKEN = 0, RANGE = 1, FULL = 4, STATE = 6, LISTED = 8, SHORT = 12, CUT, PAST = 17, STRANGE, WAITING = 20, REFUSED = 256 };
+/* Networks and area codes. */
+#define HOME tjernfaug_network(1, 1, 2)
+#define AWAY tjernfaug_network(2, 2, 2)
+#define OTHER tjernfaug_network(3, 3, 2)
+#define BANNED tjernfaug_network(4, 4, 2)
+enum { HERE = 0x2A, NEXT };
 
-/* Areas: a network's three octets and an area code's. */
-static const uint8_t away[] = {0x00, 0xF2, 0x20, 0x00, 0x00, 0x2A};
-static const uint8_t home[] = {0x00, 0xF1, 0x10, 0x00, 0x00, 0x2A};
-static const uint8_t next[] = {0x00, 0xF1, 0x10, 0x00, 0x00, 0x2B};
-static const uint8_t banned[] = {0x00, 0xF4, 0x40, 0x00, 0x00, 0x2A};
-
-/* The card: home and SUCI. Its file of forbidden networks has four places, of which the second is in use; in the end the first two are. */
-static const uint8_t issued[] = {0x00, 0xF1, 0x10, 0x01, 0x00, 0xF1, 0x10, 0xF0, 0xFF, 0x00, 0x00, 0x07};
+/* The card's SUCI. Its file of forbidden networks has four places, of which the second is in use; in the end the first two are. */
+static const uint8_t suci[] = {0x01, 0x00, 0xF1, 0x10, 0xF0, 0xFF, 0x00, 0x00, 0x07};
 static const uint8_t listed[] = {0xFF, 0xFF, 0xFF, 0x00, 0xF4, 0x40, 0xFF, 0xFF, 0xFF, 0xFF, 0xFF, 0xFF};
 static const uint8_t stored[] = {0x00, 0xF4, 0x40, 0x00, 0xF2, 0x20, 0xFF, 0xFF, 0xFF, 0xFF, 0xFF, 0xFF};
 
+/* The false cell's reject, cause 11; that of a busy network, cause 22 with T3346 (5F 01 2A, ten minutes); an accept with T3512 (5E 01 21, an hour), which may be left out. */
+static const uint8_t reject[] = {0x7E, 0x00, 0x44, 0x0B};
+static const uint8_t congestion[] = {0x7E, 0x00, 0x44, 0x16, 0x5F, 0x01, 0x2A};
+static const uint8_t accept[] = {0x7E, 0x00, 0x42, 0x01, 0x01, 0x5E, 0x01, 0x21};
+enum { ELEMENT = 3 };
+
+/* A request with ngKSI 7: the clear part alone, the card's SUCI and 2E. */
+static const uint8_t clear[] = {0x7E, 0x00, 0x41, 0x71, 0x00, 0x09, 0x01, 0x00, 0xF1, 0x10, 0xF0, 0xFF, 0x00, 0x00, 0x07, 0x2E, 0x02, 0xF0, 0xF0};
+
+/* now is in seconds, and ends has when a slot's timer is out; 0 where it does not run. */
 struct device {
     struct tjernfaug_record record;
     struct tjernfaug_notice notice;
+    uint32_t now, ends[TJERNFAUG_SLOTS];
+    uint8_t body[TJERNFAUG_LONGEST_CARD];
     FILE *log;
     unsigned events;
-    unsigned long now;
 };
 
+/* Starts and stops the device's timers as the notice tells. Right is that those run which the record holds as running. */
+static int follow(struct device *d)
+{
+    const struct tjernfaug_access *a = &d->record.hot.a0, *b = &d->record.hot.a1;
+    const uint8_t held[] = {a->t3510, a->t3511, a->t3502, a->t3346, b->t3510, b->t3511, b->t3502, b->t3346, d->record.hot.dev.t3247, d->record.hot.dev.t3512};
+    int right = 1;
+    for (uint32_t slot = 0; slot < TJERNFAUG_SLOTS; slot++) {
+        const struct tjernfaug_timer timer = tjernfaug_timer_of(&d->notice, slot);
+        if (timer.told != TJERNFAUG_TOLD_LEFT)
+            d->ends[slot] = timer.told == TJERNFAUG_TOLD_STARTED ? d->now + timer.seconds : 0;
+        right &= (d->ends[slot] != 0) == held[slot];
+    }
+    return right;
+}
+
 /* Logs the event, hands it over, and prints its number, its answer, both states and T3247; of a message at fault it says which octet was bad. */
-static uint32_t hand(struct device *d, uint32_t kind, const uint8_t *body, size_t len)
+static uint32_t hand(struct device *d, uint32_t kind, const uint8_t *body, uint64_t len)
 {
     const uint8_t head[] = {(uint8_t)(len + 2), (uint8_t)((len + 2) >> 8), (uint8_t)kind, (uint8_t)(kind >> 8)};
     fwrite(head, 1, sizeof head, d->log);
@@ -44,9 +67,19 @@ static uint32_t hand(struct device *d, uint32_t kind, const uint8_t *body, size_
     uint32_t answer = tjernfaug_event(&d->record, kind, body, len, &d->notice);
     const struct tjernfaug_hot *hot = &d->record.hot;
     printf("%u %u %u %u %u\n", ++d->events, answer, hot->a0.state, hot->a1.state, hot->dev.t3247);
-    if (answer >= CUT && answer <= STRANGE)
-        fprintf(stderr, "device: octet %zu: %u\n", d->notice.offset, answer);
-    return answer;
+    if (answer >= TJERNFAUG_ANSWER_CUT && answer <= TJERNFAUG_ANSWER_UNKNOWN_ELEMENT)
+        fprintf(stderr, "device: octet %" PRIu64 ": %s\n", d->notice.offset, tjernfaug_answer_name(answer));
+    return follow(d) ? answer : TJERNFAUG_REFUSED;
+}
+
+static int taken(uint32_t answer)
+{
+    return answer == TJERNFAUG_ANSWER_TAKEN;
+}
+
+static int runs(const struct device *d, uint32_t slot, uint32_t seconds)
+{
+    return d->ends[slot] == d->now + seconds;
 }
 
 static uint32_t opened(struct tjernfaug_record *r)
@@ -55,212 +88,168 @@ static uint32_t opened(struct tjernfaug_record *r)
     return tjernfaug_new(r, 3, 3, 3, capability, sizeof capability, security, sizeof security);
 }
 
-static uint32_t start(struct device *d, const uint8_t *area)
+static uint32_t card(struct device *d)
 {
-    uint8_t body[8] = {0x00, 0x00};
-    memcpy(body + 2, area, 6);
-    return hand(d, START, body, sizeof body);
+    return hand(d, TJERNFAUG_KIND_CARD, d->body, tjernfaug_body_card(HOME, suci, sizeof suci, d->body, sizeof d->body));
+}
+
+static uint32_t start(struct device *d, uint32_t network)
+{
+    return hand(d, TJERNFAUG_KIND_START, d->body, tjernfaug_body_start(0, 0, network, HERE, d->body, sizeof d->body));
 }
 
 /* Session 5 stands, and has data to send. */
-static uint32_t update(struct device *d, uint8_t type, const uint8_t *area)
+static uint32_t update(struct device *d, uint8_t type, uint32_t code)
 {
-    uint8_t body[12] = {0x00, type, [8] = 0x20, 0x00, 0x20, 0x00};
-    memcpy(body + 2, area, 6);
-    return hand(d, UPDATE, body, sizeof body);
-}
-
-/* The device sends these octets. What lies behind them stays, and in a buffer that is an octet too short all of it. */
-static int sends(const struct device *d, const uint8_t *octets, size_t len)
-{
-    uint8_t sent[TJERNFAUG_LONGEST_REQUEST], kept[TJERNFAUG_LONGEST_REQUEST];
-    memset(sent, 0xA5, sizeof sent);
-    memset(kept, 0xA5, sizeof kept);
-    int right = tjernfaug_request(&d->record, 0, sent, len - 1) == REFUSED + SHORT;
-    right &= tjernfaug_request(&d->record, 1, sent, sizeof sent) == REFUSED + STATE;
-    right &= tjernfaug_request(&d->record, 2, sent, sizeof sent) == REFUSED + RANGE;
-    right &= memcmp(sent, kept, sizeof sent) == 0;
-    right &= tjernfaug_request(&d->record, 0, sent, sizeof sent) == len;
-    memcpy(kept, octets, len);
-    return right && memcmp(sent, kept, sizeof sent) == 0;
-}
-
-/* With ngKSI 7: the clear part alone, the card's SUCI and 2E. */
-static int clear(const struct device *d)
-{
-    static const uint8_t octets[] = {0x7E, 0x00, 0x41, 0x71, 0x00, 0x09, 0x01, 0x00, 0xF1, 0x10, 0xF0, 0xFF, 0x00, 0x00, 0x07, 0x2E, 0x02, 0xF0, 0xF0};
-    return sends(d, octets, sizeof octets);
-}
-
-/* With ngKSI 0, in an update: the clear part, then 71 and in it the whole request, with 10, the last area, the uplink data status and the session status. */
-static int nested(const struct device *d, uint8_t type, const uint8_t *last)
-{
-    const uint8_t octets[] = {
-        0x7E, 0x00, 0x41, type, 0x00, 0x09, 0x01, 0x00, 0xF1, 0x10, 0xF0, 0xFF, 0x00, 0x00, 0x07, 0x2E, 0x02, 0xF0, 0xF0, 0x71, 0x00, 0x25,
-        0x7E, 0x00, 0x41, type, 0x00, 0x09, 0x01, 0x00, 0xF1, 0x10, 0xF0, 0xFF, 0x00, 0x00, 0x07, 0x10, 0x01, 0x00, 0x2E, 0x02, 0xF0, 0xF0,
-        0x52, last[0], last[1], last[2], last[3], last[4], last[5], 0x40, 0x02, 0x20, 0x00, 0x50, 0x02, 0x20, 0x00,
-    };
-    return sends(d, octets, sizeof octets);
-}
-
-/* The false cell: cause 11, not protected; the draw for T3247 is 1800 s. */
-static uint32_t reject(struct device *d)
-{
-    static const uint8_t body[] = {0x00, 0x00, 0x08, 0x07, 0x7E, 0x00, 0x44, 0x0B};
-    return hand(d, MESSAGE, body, sizeof body);
-}
-
-/* A busy network: cause 22, protected, with T3346 (5F 01 2A, ten minutes). The draws are 1800 s for T3247 and 900 s for T3346. */
-static uint32_t congested(struct device *d)
-{
-    static const uint8_t body[] = {0x00, 0x01, 0x08, 0x07, 0x84, 0x03, 0x7E, 0x00, 0x44, 0x16, 0x5F, 0x01, 0x2A};
-    return hand(d, DRAWS, body, sizeof body);
-}
-
-/* The clock goes on by what the timer was started for; then the event is handed over. */
-static uint32_t wait(struct device *d, uint8_t timer, uint32_t seconds)
-{
-    const uint8_t body[] = {timer, 0x00};
-    d->now += seconds;
-    return hand(d, TIMER, body, sizeof body);
+    return hand(d, TJERNFAUG_KIND_UPDATE, d->body, tjernfaug_body_update(0, type, HOME, code, 1 << 5, 1 << 5, d->body, sizeof d->body));
 }
 
 static uint32_t key(struct device *d)
 {
-    static const uint8_t body[] = {0x00, 0x00};
-    return hand(d, KEY, body, sizeof body);
+    return hand(d, TJERNFAUG_KIND_KEY, d->body, tjernfaug_body_key(0, 0, d->body, sizeof d->body));
 }
 
-/* Protected, and T3512 is an hour (5E 01 21); the accept of an update leaves it out, and the hour is kept. A broken one has lost its last octet. */
-enum { WHOLE, BROKEN, BARE = 3 };
-static uint32_t accept(struct device *d, size_t less)
+/* The time goes on until a slot's timer is out; then that is handed over. */
+static uint32_t wait(struct device *d, uint32_t slot)
 {
-    static const uint8_t body[] = {0x00, 0x01, 0x08, 0x07, 0x7E, 0x00, 0x42, 0x01, 0x01, 0x5E, 0x01, 0x21};
-    return hand(d, MESSAGE, body, sizeof body - less);
+    d->now = d->ends[slot];
+    return hand(d, TJERNFAUG_KIND_TIMER, d->body, tjernfaug_body_timer(tjernfaug_slot_number(slot), tjernfaug_slot_access(slot), d->body, sizeof d->body));
 }
 
-/* Power-up: the card, then its file. What it forbids is not started. */
+/* The draws are 1800 s for T3247 and 900 s for T3346. */
+static uint32_t heard(struct device *d, uint8_t protection, const uint8_t *msg, uint64_t len)
+{
+    return hand(d, TJERNFAUG_KIND_MESSAGE_DRAWS, d->body, tjernfaug_body_message_draws(0, protection, 1800, 900, msg, len, d->body, sizeof d->body));
+}
+
+/* The device sends these octets. What lies behind them stays, and in a buffer that is an octet too short all of it. */
+static int sends(const struct device *d, const uint8_t *octets, uint64_t len)
+{
+    uint8_t sent[TJERNFAUG_LONGEST_REQUEST], kept[TJERNFAUG_LONGEST_REQUEST];
+    memset(sent, 0xA5, sizeof sent);
+    memset(kept, 0xA5, sizeof kept);
+    return tjernfaug_request(&d->record, 0, sent, len - 1) == TJERNFAUG_REFUSED + TJERNFAUG_ANSWER_SHORT
+        && tjernfaug_request(&d->record, 1, sent, sizeof sent) == TJERNFAUG_REFUSED + TJERNFAUG_ANSWER_STATE
+        && tjernfaug_request(&d->record, 2, sent, sizeof sent) == TJERNFAUG_REFUSED + TJERNFAUG_ANSWER_RANGE && memcmp(sent, kept, sizeof sent) == 0
+        && tjernfaug_request(&d->record, 0, sent, sizeof sent) == len && memcmp(sent, octets, len) == 0 && memcmp(sent + len, kept, sizeof sent - len) == 0;
+}
+
+/* With ngKSI 0, in an update: the clear part, then 71 and in it the whole request, with 10, the last area, the uplink data status and the session status. */
+static int nested(const struct device *d, uint8_t type, uint8_t last)
+{
+    const uint8_t octets[] = {
+        0x7E, 0x00, 0x41, type, 0x00, 0x09, 0x01, 0x00, 0xF1, 0x10, 0xF0, 0xFF, 0x00, 0x00, 0x07, 0x2E, 0x02, 0xF0, 0xF0, 0x71, 0x00, 0x25,
+        0x7E, 0x00, 0x41, type, 0x00, 0x09, 0x01, 0x00, 0xF1, 0x10, 0xF0, 0xFF, 0x00, 0x00, 0x07, 0x10, 0x01, 0x00, 0x2E, 0x02, 0xF0, 0xF0,
+        0x52, 0x00, 0xF1, 0x10, 0x00, 0x00, last, 0x40, 0x02, 0x20, 0x00, 0x50, 0x02, 0x20, 0x00,
+    };
+    return sends(d, octets, sizeof octets);
+}
+
+/* Power-up: the card, then its file. What it forbids is not started, nor is what has no such digits or no body. */
 static int reads(struct device *d)
 {
-    int wrong = hand(d, CARD, issued, sizeof issued) != TAKEN || hand(d, IMPORT, listed, sizeof listed - 1) != RANGE;
-    wrong |= hand(d, IMPORT, listed, sizeof listed) != TAKEN || start(d, banned) != LISTED;
-    wrong |= d->record.hot.a0.entries != 1 || d->record.e0.nets[0] != 0x00F440 || d->record.e0.forbidden[0] != 1 || d->record.e0.bans[0] != 0;
-    fprintf(stderr, "device: the card forbids %u network\n", d->record.hot.a0.entries);
-    return wrong;
+    const struct tjernfaug_entries *e = &d->record.e0;
+    return taken(card(d)) && hand(d, TJERNFAUG_KIND_IMPORT, listed, sizeof listed - 1) == TJERNFAUG_ANSWER_RANGE
+        && taken(hand(d, TJERNFAUG_KIND_IMPORT, listed, sizeof listed)) && start(d, BANNED) == TJERNFAUG_ANSWER_NETWORK_LISTED
+        && start(d, tjernfaug_network(1000, 1, 2)) == TJERNFAUG_ANSWER_RANGE && hand(d, TJERNFAUG_KIND_START, d->body, 0) == TJERNFAUG_ANSWER_RANGE
+        && d->record.hot.a0.entries == 1 && e->nets[0] == BANNED && e->forbidden[0] == 1 && e->bans[0] == 0;
 }
 
 /* The false cell, until the device is quiet. T3247 has not lifted what the card forbids. */
 static int quiet(struct device *d)
 {
-    int wrong = 0;
-    unsigned rejects = 0;
-    while (start(d, away) == TAKEN && rejects < 10) {
-        wrong |= d->notice.c0.t3510.told != 2 || d->notice.c0.t3510.seconds != 15 || !clear(d);
-        wrong |= reject(d) != TAKEN || d->notice.t3247.told != 2 || d->notice.c0.t3510.told != 1;
+    const struct tjernfaug_entries *e = &d->record.e0;
+    uint32_t rejects = 0;
+    while (rejects < 10 && taken(start(d, AWAY)) && runs(d, TJERNFAUG_T3510_0, 15) && sends(d, clear, sizeof clear)
+           && taken(heard(d, 0, reject, sizeof reject)) && runs(d, TJERNFAUG_T3247, 1800) && taken(wait(d, TJERNFAUG_T3247)))
         rejects++;
-        wrong |= wait(d, T3247, d->notice.t3247.seconds) != TAKEN || d->notice.t3247.told != 1;
-    }
-    wrong |= rejects != 3 || d->now != 5400 || start(d, away) != LISTED;
-    wrong |= d->record.e0.bans[1] != 3 || d->record.e0.forbidden[1] != 1 || d->record.hot.dev.t3247 != 0 || start(d, banned) != LISTED;
-    fprintf(stderr, "device: %u rejects, quiet after %lu s\n", rejects, d->now);
-    return wrong;
+    return rejects == 3 && d->now == 5400 && start(d, AWAY) == TJERNFAUG_ANSWER_NETWORK_LISTED && start(d, BANNED) == TJERNFAUG_ANSWER_NETWORK_LISTED
+        && e->nets[1] == AWAY && e->forbidden[1] == 1 && e->bans[1] == 3;
 }
 
 /* The cells heard: the false one's network twice, home, the one that the card forbids, another one, and home again. Over Wi-Fi no network is marked. */
-static int chooses(const struct device *d)
+static int chooses(struct device *d)
 {
-    static const uint32_t heard[] = {0x00F220, 0x00F110, 0x00F220, 0x00F440, 0x00F330, 0x00F110};
-    enum { HEARD = sizeof heard / sizeof *heard };
-    uint32_t permitted[HEARD] = {7, 7, 7, 7, 7, 7};
-    int wrong = tjernfaug_cells(&d->record, 0, heard, HEARD, permitted, HEARD - 1) != REFUSED + SHORT;
-    wrong |= tjernfaug_cells(&d->record, 2, heard, HEARD, permitted, HEARD) != REFUSED + RANGE || permitted[0] != 7;
-    uint32_t count = tjernfaug_cells(&d->record, 0, heard, HEARD, permitted, HEARD);
-    wrong |= count != 2 || permitted[0] != 0x00F110 || permitted[1] != 0x00F330 || permitted[2] != 7;
-    wrong |= tjernfaug_cells(&d->record, 1, heard, HEARD, permitted, HEARD) != 4 || permitted[0] != 0x00F220;
-    fprintf(stderr, "device: %u of 4 networks may be tried\n", count);
-    return wrong;
+    const uint32_t cells[] = {AWAY, HOME, AWAY, BANNED, OTHER, HOME};
+    enum { CELLS = sizeof cells / sizeof *cells };
+    uint32_t permitted[CELLS] = {7, 7, 7, 7, 7, 7};
+    return tjernfaug_cells(&d->record, 0, cells, CELLS, permitted, CELLS - 1) == TJERNFAUG_REFUSED + TJERNFAUG_ANSWER_SHORT
+        && tjernfaug_cells(&d->record, 2, cells, CELLS, permitted, CELLS) == TJERNFAUG_REFUSED + TJERNFAUG_ANSWER_RANGE && permitted[0] == 7
+        && tjernfaug_cells(&d->record, 0, cells, CELLS, permitted, CELLS) == 2 && permitted[0] == HOME && permitted[1] == OTHER && permitted[2] == 7
+        && tjernfaug_cells(&d->record, 1, cells, CELLS, permitted, CELLS) == 4 && permitted[0] == AWAY;
 }
 
 /* At home in a busy hour: asked for time, the device may not start again until T3346 has run out, and then is asked to. */
 static int busy(struct device *d)
 {
-    int wrong = start(d, home) != TAKEN || key(d) != TAKEN || congested(d) != TAKEN;
-    const struct tjernfaug_timer t3346 = d->notice.c0.t3346;
-    wrong |= t3346.told != 2 || t3346.seconds != 600 || d->record.hot.a0.t3346 != 1 || start(d, home) != WAITING;
-    wrong |= wait(d, T3346, t3346.seconds) != TAKEN || d->notice.c0.t3346.told != 1 || d->notice.restart != 1 || d->now != 6000;
-    fprintf(stderr, "device: asked for time, free after %lu s\n", d->now);
-    return wrong;
+    return taken(start(d, HOME)) && taken(key(d)) && taken(heard(d, 1, congestion, sizeof congestion)) && runs(d, TJERNFAUG_T3346_0, 600)
+        && start(d, HOME) == TJERNFAUG_ANSWER_WAITING && taken(wait(d, TJERNFAUG_T3346_0)) && d->notice.restart == 1 && d->now == 6000;
 }
 
 /* An update, its request octet by octet, and its accept. */
-static int moved(struct device *d, uint8_t type, const uint8_t *from, const uint8_t *to)
+static int moved(struct device *d, uint8_t type, uint8_t from, uint8_t to)
 {
-    int right = update(d, type, to) == TAKEN && d->notice.c0.t3510.told == 2 && nested(d, type, from);
-    return right && accept(d, BARE) == TAKEN && d->notice.t3512.told == 2 && d->notice.t3512.seconds == 3600;
+    return taken(update(d, type, to)) && runs(d, TJERNFAUG_T3510_0, 15) && nested(d, type, from)
+        && taken(heard(d, 1, accept, sizeof accept - ELEMENT)) && runs(d, TJERNFAUG_T3512, 3600);
 }
 
 /* At home: registered, moved to the next area, and an update when T3512 has run out, not before. */
 static int moves(struct device *d)
 {
-    int wrong = start(d, home) != TAKEN || key(d) != TAKEN || accept(d, BROKEN) != PAST || d->notice.offset != 5;
-    wrong |= accept(d, WHOLE) != TAKEN || d->notice.t3512.seconds != 3600 || d->notice.offset != 0;
-    wrong |= update(d, PERIODIC, home) != STATE || !moved(d, MOBILITY, home, next);
-    wrong |= wait(d, T3512, d->notice.t3512.seconds) != TAKEN || d->record.hot.dev.due != 1;
-    wrong |= !moved(d, PERIODIC, next, next) || d->record.hot.dev.due != 0 || d->now != 9600;
-    fprintf(stderr, "device: moved, and updated after %lu s\n", d->now);
-    return wrong;
+    return taken(start(d, HOME)) && taken(key(d)) && heard(d, 1, accept, sizeof accept - 1) == TJERNFAUG_ANSWER_PAST_END && d->notice.offset == 5
+        && taken(heard(d, 1, accept, sizeof accept)) && d->notice.offset == 0 && runs(d, TJERNFAUG_T3512, 3600)
+        && update(d, TJERNFAUG_TYPE_PERIODIC, HERE) == TJERNFAUG_ANSWER_STATE && moved(d, TJERNFAUG_TYPE_MOBILITY, HERE, NEXT)
+        && taken(wait(d, TJERNFAUG_T3512)) && d->record.hot.dev.due == 1 && moved(d, TJERNFAUG_TYPE_PERIODIC, NEXT, NEXT)
+        && d->record.hot.dev.due == 0 && d->now == 9600;
 }
 
 /* The card's file, with the false cell's network too; one that is too short, or ends within a place, stays. A record just given that card reads it and writes the same. */
-static int stores(const struct device *d)
+static int stores(struct device *d)
 {
     static struct tjernfaug_record later;
-    struct tjernfaug_notice notice;
     uint8_t file[sizeof stored], again[sizeof stored];
+    const uint64_t len = tjernfaug_body_card(HOME, suci, sizeof suci, d->body, sizeof d->body);
     memset(file, 0xA5, sizeof file);
     memset(again, 0xA5, sizeof again);
-    int wrong = tjernfaug_forbidden(&d->record, file, 3) != REFUSED + SHORT || tjernfaug_forbidden(&d->record, file, 7) != REFUSED + RANGE;
-    wrong |= memcmp(file, again, sizeof file) != 0;
-    uint32_t count = tjernfaug_forbidden(&d->record, file, sizeof file);
-    wrong |= count != 2 || memcmp(file, stored, sizeof file) != 0;
-    wrong |= opened(&later) != TAKEN || tjernfaug_event(&later, CARD, issued, sizeof issued, &notice) != TAKEN;
-    wrong |= tjernfaug_event(&later, IMPORT, file, sizeof file, &notice) != TAKEN;
-    wrong |= tjernfaug_forbidden(&later, again, sizeof again) != count || memcmp(file, again, sizeof file) != 0;
-    fprintf(stderr, "device: %u networks in the card's file\n", count);
-    return wrong;
+    return tjernfaug_forbidden(&d->record, file, 3) == TJERNFAUG_REFUSED + TJERNFAUG_ANSWER_SHORT
+        && tjernfaug_forbidden(&d->record, file, 7) == TJERNFAUG_REFUSED + TJERNFAUG_ANSWER_RANGE && memcmp(file, again, sizeof file) == 0
+        && tjernfaug_forbidden(&d->record, file, sizeof file) == 2 && memcmp(file, stored, sizeof file) == 0
+        && taken(opened(&later)) && taken(tjernfaug_event(&later, TJERNFAUG_KIND_CARD, d->body, len, &d->notice))
+        && taken(tjernfaug_event(&later, TJERNFAUG_KIND_IMPORT, file, sizeof file, &d->notice))
+        && tjernfaug_forbidden(&later, again, sizeof again) == 2 && memcmp(again, stored, sizeof again) == 0;
 }
 
 /* Seventeen networks, 005-00 to 005-16, that turn the device away. Sixteen have an entry and a mark, so that the last is answer 4; then T3247 is out, and the first gives up its place. */
 static int passes(struct device *d)
 {
     const struct tjernfaug_entries *e = &d->record.e0;
-    int wrong = hand(d, CARD, issued, sizeof issued) != TAKEN;
-    for (uint8_t i = 0; i < 17; i++) {
-        const uint8_t area[] = {0x00, 0xF5, (uint8_t)(i % 10 * 16 + i / 10), 0x00, 0x00, 0x2A};
-        wrong |= start(d, area) != TAKEN || reject(d) != (i < 16 ? TAKEN : FULL);
-        wrong |= e->ranks[i % 16] != i % 16;
-    }
-    wrong |= wait(d, T3247, 1800) != TAKEN || reject(d) != TAKEN || d->record.hot.a0.entries != 16;
-    wrong |= e->nets[0] != 0x00F561 || e->bans[0] != 1 || e->forbidden[0] != 1 || e->ranks[0] != 15 || e->ranks[1] != 0 || e->forbidden[1] != 0;
-    fprintf(stderr, "device: %u entries, and the seventeenth network in the place of the first\n", d->record.hot.a0.entries);
-    return wrong;
+    int right = taken(card(d));
+    for (uint32_t i = 0; i < 17; i++)
+        right &= taken(start(d, tjernfaug_network(5, i, 2)))
+            && heard(d, 0, reject, sizeof reject) == (i < 16 ? TJERNFAUG_ANSWER_TAKEN : TJERNFAUG_ANSWER_FULL) && e->ranks[i % 16] == i % 16;
+    return right && taken(wait(d, TJERNFAUG_T3247)) && taken(heard(d, 0, reject, sizeof reject)) && d->record.hot.a0.entries == 16
+        && e->nets[0] == tjernfaug_network(5, 16, 2) && e->bans[0] == 1 && e->forbidden[0] == 1 && e->ranks[0] == 15 && e->ranks[1] == 0 && e->forbidden[1] == 0;
 }
 
 int main(int argc, char **argv)
 {
+    static const struct { int (*part)(struct device *); const char *told; } story[] = {
+        {reads, "the card forbids a network"},
+        {quiet, "three rejects, and quiet"},
+        {chooses, "two of four networks may be tried"},
+        {busy, "asked for time, and free again"},
+        {moves, "registered, moved, and updated"},
+        {stores, "two networks in the card's file"},
+        {passes, "sixteen entries, and the seventeenth network in the place of the first"},
+    };
     static struct device d;
     if (argc != 2 || !(d.log = fopen(argv[1], "wb")))
         return 2;
-    int wrong = opened(&d.record) != TAKEN;
-    wrong |= reads(&d);
-    wrong |= quiet(&d);
-    wrong |= chooses(&d);
-    wrong |= busy(&d);
-    wrong |= moves(&d);
-    wrong |= stores(&d);
-    wrong |= passes(&d);
-    wrong |= fclose(d.log) != 0;
-    if (wrong)
-        fprintf(stderr, "device: that is wrong\n");
-    return wrong;
+    int right = taken(opened(&d.record));
+    for (size_t i = 0; right && i < sizeof story / sizeof *story; i++) {
+        right = story[i].part(&d);
+        fprintf(stderr, "device: %s%s, after %" PRIu32 " s\n", right ? "" : "wrong: ", story[i].told, d.now);
+    }
+    right &= fclose(d.log) == 0;
+    return !right;
 }
