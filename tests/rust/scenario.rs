@@ -1,7 +1,11 @@
 // An event log as readable text, and back.
 //
-//   scenario to-log     text on standard input, log on standard output
-//   scenario to-text    log on standard input, text on standard output
+//   scenario to-log [NAME]     text on standard input, log on standard output
+//   scenario to-text [NAME]    log on standard input, text on standard output
+//
+// NAME is what faults call the input. Of a text each bad line is told, as NAME:LINE: what is wrong,
+// and no log is written; of a log the offset of its bad record, and the text before it is written.
+// It ends with 1 then, and with 2 where its arguments are wrong.
 //
 // One event a line, words split by spaces; `#` begins a comment; empty lines count for
 // nothing. A network is MCC-MNC, as 001-01 or 310-260, or six hex digits where it is no
@@ -319,12 +323,20 @@ fn line(text: &str) -> Parsed<Vec<u8>> {
     Ok([&length.to_le_bytes(), &held[..]].concat())
 }
 
-fn to_log(text: &str) -> Parsed<Vec<u8>> {
-    let mut log = Vec::new();
-    for (place, held) in text.lines().enumerate() {
-        log.extend(line(held).map_err(|error| format!("line {}: {error}", place + 1))?);
+/// The log; else every bad line, with its number and what is wrong.
+fn to_log(text: &[u8], name: &str) -> Parsed<Vec<u8>> {
+    let (mut log, mut faults) = (Vec::new(), Vec::new());
+    for (place, held) in text.split(|octet| *octet == b'\n').enumerate() {
+        let read = std::str::from_utf8(held).map_err(|_| "the line is not UTF-8".into());
+        match read.and_then(line) {
+            Ok(record) => log.extend(record),
+            Err(error) => faults.push(format!("{name}:{}: {error}", place + 1)),
+        }
     }
-    Ok(log)
+    if faults.is_empty() {
+        return Ok(log);
+    }
+    Err(faults.join("\n"))
 }
 
 fn hex(held: &[u8]) -> String {
@@ -494,31 +506,34 @@ fn to_text(log: &[u8]) -> (String, Parsed<()>) {
     (text, Ok(()))
 }
 
-fn job() -> Parsed<()> {
+fn job(way: &str, name: &str) -> Parsed<()> {
     let mut input = Vec::new();
-    io::stdin().read_to_end(&mut input).map_err(|error| error.to_string())?;
-    let (output, ended) = match std::env::args().nth(1).as_deref() {
-        Some("to-log") => {
-            let text = String::from_utf8(input).map_err(|_| "the text is not UTF-8")?;
-            (to_log(&text)?, Ok(()))
-        }
-        Some("to-text") => {
-            let (text, ended) = to_text(&input);
-            (text.into_bytes(), ended)
-        }
-        _ => {
-            return Err("say to-log or to-text; the log or the text comes on standard input".into())
-        }
+    io::stdin().read_to_end(&mut input).map_err(|error| format!("{name}: {error}"))?;
+    let (output, ended) = if way == "to-log" {
+        (to_log(&input, name)?, Ok(()))
+    } else {
+        let (text, ended) = to_text(&input);
+        (text.into_bytes(), ended.map_err(|error| format!("{name}: {error}")))
     };
-    io::stdout().write_all(&output).map_err(|error| error.to_string())?;
+    io::stdout().write_all(&output).map_err(|error| format!("standard output: {error}"))?;
     ended
 }
 
 fn main() -> ExitCode {
-    match job() {
+    let words: Vec<String> = std::env::args().skip(1).collect();
+    let words: Vec<&str> = words.iter().map(String::as_str).collect();
+    let ended = match words[..] {
+        [way @ ("to-log" | "to-text")] => job(way, "standard input"),
+        [way @ ("to-log" | "to-text"), name] => job(way, name),
+        _ => {
+            eprintln!("scenario: say to-log or to-text; the input comes on standard input");
+            return ExitCode::from(2);
+        }
+    };
+    match ended {
         Ok(()) => ExitCode::SUCCESS,
         Err(error) => {
-            eprintln!("scenario: {error}");
+            eprintln!("{error}");
             ExitCode::FAILURE
         }
     }
