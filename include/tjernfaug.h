@@ -1,6 +1,6 @@
 /*
  * The registration record for C firmware.
- * libmessages.a has the two message readings, libfirmware.a the record's calls: `rt staticlib messages` and `rt staticlib firmware` write them to target/staticlib.
+ * libfirmware.a has all calls: `rt staticlib firmware` writes it to target/staticlib for x86-64, `tools/archive` makes it for other processors.
  *
  * What holds for every call: each pointer is valid, aligned for its type, and not null, also where its length is 0: the library takes it so, by its language's rules, and does not test it.
  * The storage behind a pointer that is not const overlaps no other argument. All of it is used during the call only, and nothing is kept.
@@ -22,6 +22,9 @@ extern "C" {
 /* This header's version: 10000 times the major number, 100 times the minor one, and the patch. */
 #define TJERNFAUG_VERSION 900
 #define TJERNFAUG_VERSION_TEXT "0.9.0"
+
+/* The library's: TJERNFAUG_VERSION of the header that belongs to it. */
+uint32_t tjernfaug_version(void);
 
 /* The numbers by name. Structs and calls have plain numbers, so that no compiler's enums change the layout. */
 enum tjernfaug_kind {

@@ -57,6 +57,7 @@ static uint32_t seconds(unsigned octet)
 
 static void timers(void)
 {
+    expect("version", tjernfaug_version(), TJERNFAUG_VERSION);
     expect("timer 3F", timer_seconds(0x3F), 1860);
     expect("timer 5F", timer_seconds(0x5F), 11160);
     expect("timer E5", timer_seconds(0xE5), 65535);

@@ -1,4 +1,4 @@
--- What the calls of C come to: a new record, an event as the event log has it, a request, the networks permitted, and the card's file. Assumes nothing.
+-- What the calls of C come to: a new record, an event as the event log has it, a request, the networks permitted, the card's file, and the version. Assumes nothing.
 use Prim.Native.Nat.{ℕ, _+_}
 use mathlib.Core.Bool.{cond}
 use mathlib.Core.List.{List}
@@ -61,3 +61,7 @@ filedBy l = numberOr (l .answer) (l .count)
 -- over access 0, into a file of n octets
 unfoldable pub filedOf : Record → ℕ → ℕ
 filedOf r n = filedBy (listedOf r n)
+
+-- 0.9.0: ten thousand times the first number, a hundred times the second, and the third
+abbrev pub version : ℕ
+version = 900

@@ -12,7 +12,9 @@ ghost use lib.ListN.{length};
 ghost use Rattle.request.specs.Writing.{bufferOf};
 ghost use Rattle.cells.specs.Cells.{listOf};
 ghost use Rattle.usim.specs.Usim.{fileAfter};
-ghost use Rattle.firmware.specs.Calls.{newOf, heardAs, numberOr, wroteOf, pickedOf, filedOf};
+ghost use Rattle.messages.specs.Message.{causeReading, causeOf, timerSeconds};
+ghost use Rattle.timers.specs.Timer.{span2Of};
+ghost use Rattle.firmware.specs.Calls.{newOf, heardAs, numberOr, wroteOf, pickedOf, filedOf, version};
 
 // A refusal keeps the record that was there.
 fn chosen(good: bool, made: Record, r: Record) -> Record
@@ -158,4 +160,27 @@ pub extern "C" fn tjernfaug_forbidden(r: &Record, file: &mut [u8]) -> u32
     ensures { λ a. ⌜ (a ≡ filedOf (now (r .entry)) (length (now (file .entry)))) × (now (file .exit) ≡ fileAfter (now (r .entry)) (now (file .entry))) ⌝ }
 {
     filed(*r, file)
+}
+
+// The two readings by themselves, so that one library has all calls.
+#[no_mangle]
+pub extern "C" fn reject_cause(msg: &[u8]) -> u32
+    ensures { λ r. ⌜ r ≡ causeOf (causeReading (now (msg .entry))) ⌝ }
+{
+    messages::reject_cause(msg)
+}
+
+#[no_mangle]
+pub extern "C" fn timer_seconds(octet: u8) -> u32
+    ensures { λ r. ⌜ r ≡ timerSeconds (span2Of octet) ⌝ }
+{
+    messages::timer_seconds(octet)
+}
+
+// The version that the library was made as, to be held against the header's.
+#[no_mangle]
+pub extern "C" fn tjernfaug_version() -> u32
+    ensures { λ r. ⌜ r ≡ version ⌝ }
+{
+    900
 }

@@ -5,11 +5,14 @@ mod calls;
 mod lent;
 mod told;
 
+pub use calls::reject_cause;
+pub use calls::timer_seconds;
 pub use calls::tjernfaug_cells;
 pub use calls::tjernfaug_event;
 pub use calls::tjernfaug_forbidden;
 pub use calls::tjernfaug_new;
 pub use calls::tjernfaug_request;
+pub use calls::tjernfaug_version;
 pub use lent::handle;
 
 // What is told of a timer: 0 left, 1 stopped, 2 started, and then for how many seconds.

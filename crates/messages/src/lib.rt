@@ -329,8 +329,7 @@ fn read_cause(msg: &[u8]) -> Reading
     }
 }
 
-#[no_mangle]
-pub extern "C" fn reject_cause(msg: &[u8]) -> u32
+pub fn reject_cause(msg: &[u8]) -> u32
     ensures { λ r. ⌜ r ≡ causeOf (causeReading (now (msg .entry))) ⌝ }
 {
     match read_cause(msg) {
@@ -340,8 +339,7 @@ pub extern "C" fn reject_cause(msg: &[u8]) -> u32
     }
 }
 
-#[no_mangle]
-pub extern "C" fn timer_seconds(octet: u8) -> u32
+pub fn timer_seconds(octet: u8) -> u32
     ensures { λ r. ⌜ r ≡ timerSeconds (span2Of octet) ⌝ }
 {
     match timers::timer2(octet) {
