@@ -5,3 +5,4 @@ pub mod Whole
 pub mod Second
 pub mod Orders
 pub mod Sights
+pub mod Sure

@@ -1,18 +1,27 @@
-// The step by value: the record is tested, taken apart, handed to the core, and put together again.
+// The step by value: the record is taken apart, its parts are tested and handed to the core, and put together again.
 use super::Outcome;
 use super::held::keep;
 use super::lent::core;
 use entries::Entries;
-use record::Answer;
 use record::Record;
 use rules::Event;
 ghost use mathlib.Core.Path.{_≡_};
-ghost use Rattle.events.specs.Step.{advanceOf, stepOf};
+ghost use mathlib.Core.Bool.{cond};
+ghost use Rattle.rules.specs.declared.Event.the-variants.{Unknown};
+ghost use Rattle.events.specs.Step.{stepOf};
 
-// For a record that is known to be valid: nothing is tested.
-fn advance(r: Record, e: Event, octets: &[u8]) -> Outcome
-    ensures { λ o. ⌜ o ≡ advanceOf r e (now (octets .entry)) ⌝ }
+// What is done on a record that is not valid: the event that is none, which answers 1 and changes nothing.
+fn sure(valid: bool, e: Event) -> Event
+    ensures { λ r. ⌜ r ≡ cond valid e Unknown ⌝ }
 {
+    if valid { e } else { Event::Unknown }
+}
+
+// Any record, any event, any octets.
+pub fn step(r: Record, e: Event, octets: &[u8]) -> Outcome
+    ensures { λ o. ⌜ o ≡ stepOf r e (now (octets .entry)) ⌝ }
+{
+    let h = r.hot;
     let s = r.e0;
     let t = r.e1;
     let mut nets0 = s.nets;
@@ -34,9 +43,30 @@ fn advance(r: Record, e: Event, octets: &[u8]) -> Outcome
     let mut equivalents0 = r.equivalents0;
     let mut equivalents1 = r.equivalents1;
     let mut suci = r.suci;
+    let valid = ranges::fits(
+        h,
+        &nets0,
+        &bans0,
+        &n1s0,
+        &forbidden0,
+        &barred0,
+        &ranks0,
+        &nets1,
+        &bans1,
+        &n1s1,
+        &forbidden1,
+        &barred1,
+        &ranks1,
+        &roaming,
+        &regional,
+        &equivalents0,
+        &equivalents1,
+        &suci,
+    );
+    let f = sure(valid, e);
     let d = core(
-        r.hot,
-        e,
+        h,
+        f,
         octets,
         &mut nets0,
         &mut bans0,
@@ -101,15 +131,4 @@ fn advance(r: Record, e: Event, octets: &[u8]) -> Outcome
         reply: reply,
         next: next,
     }
-}
-
-// Any record, any event, any octets.
-pub fn step(r: Record, e: Event, octets: &[u8]) -> Outcome
-    ensures { λ o. ⌜ o ≡ stepOf r e (now (octets .entry)) ⌝ }
-{
-    if ranges::valid(r) {
-        return advance(r, e, octets);
-    }
-    let p = rules::refused_reply(Answer::Range, 0);
-    Outcome { reply: p, next: r }
 }

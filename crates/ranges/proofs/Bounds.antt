@@ -1,17 +1,17 @@
 -- A count that passed its test is a bound. Assumes nothing.
 use mathlib.Core.Path.{_≡_}
-use mathlib.Core.Bool.{true}
+use mathlib.Core.Bool.{Bool, true}
 use Prim.Native.Nat.{ℕ, _≤_}
 use mathlib.Core.List.{List}
 use lib.Dec.{eqb}
 use borrow.Author.Tests.{leb-true}
 use Rattle.record.specs.Tests.{both, either, within, upTo, isFlag, isShort}
 use Rattle.record.proofs.Bounds.{one, rest}
-use Rattle.ranges.specs.Valid.{deviceRanges, modeRanges, identityRanges, pendingRanges, accessRanges, deviceNumbers, rangesOf}
+use Rattle.ranges.specs.Valid.{deviceRanges, modeRanges, identityRanges, pendingRanges, accessRanges, deviceNumbers, Bounded}
 use Rattle.entries.specs.declared.Entries.{Entries}
 use Rattle.record.specs.declared.Device.{Device}
 use Rattle.record.specs.declared.Access.{Access}
-use Rattle.record.specs.declared.Record.{Record}
+use Rattle.record.specs.declared.Hot.{Hot}
 
 pub counts : (a : Access) → identityRanges a ≡ true → (a .equivalents ≤ 15) × (a .entries ≤ 16)
 unfolding identityRanges
@@ -36,25 +36,19 @@ lists d e =
     (rest (either (eqb (d .card) 0) (within 9 64 (d .suci))) _ (rest (isFlag (d .card)) _ (one _ _ e)))))))) in
     (leb-true _ _ (one _ _ ranges), leb-true _ _ (rest (upTo 40 (d .roaming)) _ ranges))
 
--- the same of a record: the counts of both accesses' entries and of both lists
 entries : (a : Access) (l : List ℕ) (t : Entries) → accessRanges a l t ≡ true → a .entries ≤ 16
 unfolding accessRanges
 entries a l t e = counts a (one _ _ (rest (pendingRanges a) _ (rest (modeRanges a) _ e))) .1
 
-pub record Bounded (r : Record) : Type 0 where
-  pub first : r .hot .a0 .entries ≤ 16
-  pub second : r .hot .a1 .entries ≤ 16
-  pub roaming : r .hot .dev .roaming ≤ 40
-  pub regional : r .hot .dev .regional ≤ 40
+-- three tests joined, each by what it tells
+pub joined : {all more x y z a b c : Bool} → all ≡ both x more → more ≡ both y z → x ≡ a → y ≡ b → z ≡ c → all ≡ both a (both b c)
+joined e f p q r = cc
 
-pub bounded : (r : Record) → rangesOf r ≡ true → Bounded r
-unfolding rangesOf
-bounded r e =
-    let accesses = rest (deviceNumbers (r .hot .dev)) _ e in
-    let others = rest (accessRanges (r .hot .a0) (r .equivalents0) (r .e0)) _ accesses in
-    record {
-      first = entries (r .hot .a0) (r .equivalents0) (r .e0) (one _ _ accesses);
-      second = entries (r .hot .a1) (r .equivalents1) (r .e1) (one _ _ others);
-      roaming = lists (r .hot .dev) (one _ _ e) .0;
-      regional = lists (r .hot .dev) (one _ _ e) .1;
-    }
+-- the same of a record's numbers, once the ranges of both accesses hold too
+pub bounded : (h : Hot) (l0 l1 : List ℕ) (t0 t1 : Entries) (more : Bool) → deviceNumbers (h .dev) ≡ true → both (accessRanges (h .a0) l0 t0) (both (accessRanges (h .a1) l1 t1) more) ≡ true → Bounded h
+bounded h l0 l1 t0 t1 more d e = record {
+  first = entries (h .a0) l0 t0 (one _ _ e);
+  second = entries (h .a1) l1 t1 (one _ more (rest (accessRanges (h .a0) l0 t0) _ e));
+  roaming = lists (h .dev) d .0;
+  regional = lists (h .dev) d .1;
+}

@@ -1,3 +1,4 @@
 -- What the tests of a record show, and that a new record passes them.
 pub mod Bounds
 pub mod MadeValid
+pub mod Parts

@@ -1,7 +1,7 @@
 -- A record handed in is answer 1 if it breaks one of these: document 01's list, in its order. Assumes nothing.
-use Prim.Native.Nat.{ℕ, _/_}
+use Prim.Native.Nat.{ℕ, _/_, _≤_}
 use mathlib.Core.Bool.{Bool}
-use mathlib.Core.List.{List}
+use mathlib.Core.List.{List, []}
 use lib.ListN.{getD}
 use lib.Dec.{ltb, eqb}
 use Rattle.laws.specs.Upto.{allTo, distinctTo}
@@ -79,6 +79,13 @@ rangesOf r =
     (both (accessRanges (r .hot .a1) (r .equivalents1) (r .e1))
     (both (allTo isItem (r .hot .dev .roaming) (r .roaming)) (allTo isItem (r .hot .dev .regional) (r .regional)))))
 
+-- what numbers in these ranges bound: the counts of both accesses' entries and of both lists, which arrays have room for
+pub record Bounded (h : Hot) : Type 0 where
+  pub first : h .a0 .entries ≤ 16
+  pub second : h .a1 .entries ≤ 16
+  pub roaming : h .dev .roaming ≤ 40
+  pub regional : h .dev .regional ≤ 40
+
 -- "a counter above its limit"
 unfoldable pub countersOf : Device → Access → Entries → Bool
 countersOf d a t =
@@ -134,3 +141,20 @@ validOf r =
     (both (codesOf r)
     (both (both (clockOf (r .hot .a0)) (clockOf (r .hot .a1)))
     (both (onceOf r) (both (ranksOf (r .hot .a0) (r .e0)) (ranksOf (r .hot .a1) (r .e1)))))))))
+
+-- the record of the parts that the list reads, and nothing for the others: its GUTIs and capabilities
+unfoldable pub partsRecord : Hot → Entries → Entries → List ℕ → List ℕ → List ℕ → List ℕ → List ℕ → Record
+partsRecord h e0 e1 roaming regional equivalents0 equivalents1 suci = record {
+  hot = h;
+  e0 = e0;
+  e1 = e1;
+  roaming = roaming;
+  regional = regional;
+  guti0 = [];
+  guti1 = [];
+  equivalents0 = equivalents0;
+  equivalents1 = equivalents1;
+  suci = suci;
+  capability = [];
+  security = [];
+}

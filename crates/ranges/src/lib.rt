@@ -7,7 +7,6 @@ use columns::listed_once;
 use columns::networks;
 use columns::once;
 use columns::short;
-use entries::Entries;
 use record::Access;
 use record::Device;
 use record::Hot;
@@ -18,10 +17,12 @@ use record::network;
 use record::or;
 use record::ranged;
 ghost use mathlib.Core.Path.{_≡_};
-ghost use mathlib.Core.Bool.{true};
+ghost use mathlib.Core.List.{[]};
 ghost use Prim.Native.Nat.{_≤_};
+ghost use Rattle.laws.specs.Upto.{allTo};
+ghost use Rattle.entries.specs.Entries.{entriesOf};
 ghost use Rattle.record.specs.Tests.{both};
-ghost use Rattle.ranges.specs.Valid.{deviceRanges, periodicRanges, deviceNumbers, modeRanges, pendingRanges, identityRanges, heldRanges, accessRanges, rangesOf, countersOf, cardOf, suciOf, codesOf, clockOf, onceOf, ranksOf, validOf};
+ghost use Rattle.ranges.specs.Valid.{deviceRanges, periodicRanges, deviceNumbers, modeRanges, pendingRanges, identityRanges, heldRanges, accessRanges, isItem, Bounded, countersOf, cardOf, suciOf, codesOf, clockOf, onceOf, ranksOf, validOf, partsRecord};
 
 mod columns;
 
@@ -91,20 +92,22 @@ fn identity_ranges(a: Access) -> bool
     all(a.code < 16777216, a.guti <= 1, a.visited <= 1, counts)
 }
 
-fn held_ranges(a: Access, equivalents: &[u32; 15], t: Entries) -> bool
+fn held_ranges(a: Access, equivalents: &[u32; 15], forbidden: &[u8; 16], barred: &[u8; 16]) -> bool
     requires { ⌜ (a .equivalents ≤ 15) × (a .entries ≤ 16) ⌝ }
-    ensures { λ r. ⌜ r ≡ heldRanges a (now (equivalents .entry)) t ⌝ }
+    ensures { λ r. ⌜ r ≡ heldRanges a (now (equivalents .entry)) (entriesOf [] [] [] (now (forbidden .entry)) (now (barred .entry)) []) ⌝ }
 {
     let n = a.entries;
     let known = short(equivalents, a.equivalents);
-    and(
-        known,
-        and(limited(&t.forbidden, n, 1), limited(&t.barred, n, 1)),
-    )
+    and(known, and(limited(forbidden, n, 1), limited(barred, n, 1)))
 }
 
-fn access_ranges(a: Access, equivalents: &[u32; 15], t: Entries) -> bool
-    ensures { λ r. ⌜ r ≡ accessRanges a (now (equivalents .entry)) t ⌝ }
+fn access_ranges(
+    a: Access,
+    equivalents: &[u32; 15],
+    forbidden: &[u8; 16],
+    barred: &[u8; 16],
+) -> bool
+    ensures { λ r. ⌜ r ≡ accessRanges a (now (equivalents .entry)) (entriesOf [] [] [] (now (forbidden .entry)) (now (barred .entry)) []) ⌝ }
 {
     if !mode_ranges(a) {
         return false;
@@ -115,18 +118,15 @@ fn access_ranges(a: Access, equivalents: &[u32; 15], t: Entries) -> bool
     if !identity_ranges(a) {
         return false;
     }
-    held_ranges(a, equivalents, t)
+    held_ranges(a, equivalents, forbidden, barred)
 }
 
-fn counters(d: Device, a: Access, t: Entries) -> bool
+fn counters(d: Device, a: Access, bans: &[u8; 16], n1s: &[u8; 16]) -> bool
     requires { ⌜ a .entries ≤ 16 ⌝ }
-    ensures { λ r. ⌜ r ≡ countersOf d a t ⌝ }
+    ensures { λ r. ⌜ r ≡ countersOf d a (entriesOf [] (now (bans .entry)) (now (n1s .entry)) [] [] []) ⌝ }
 {
     let n = a.entries;
-    let tables = and(
-        limited(&t.bans, n, d.banlimit),
-        limited(&t.n1s, n, d.n1limit),
-    );
+    let tables = and(limited(bans, n, d.banlimit), limited(n1s, n, d.n1limit));
     and(a.cardcounter <= d.cardlimit, tables)
 }
 
@@ -148,38 +148,28 @@ fn clock(a: Access) -> bool
     or(a.t3510 == 0, a.state == 4)
 }
 
-fn ranges(r: Record) -> bool
-    ensures { λ o. ⌜ o ≡ rangesOf r ⌝ }
+fn listed(d: Device, roaming: &[u64; 40], regional: &[u64; 40]) -> bool
+    requires { ⌜ (d .roaming ≤ 40) × (d .regional ≤ 40) ⌝ }
+    ensures { λ o. ⌜ o ≡ both (allTo isItem (d .roaming) (now (roaming .entry))) (allTo isItem (d .regional) (now (regional .entry))) ⌝ }
 {
-    let h = r.hot;
-    let d = h.dev;
-    if !device_numbers(d) {
-        return false;
-    }
-    let x = access_ranges(h.a0, &r.equivalents0, r.e0);
-    let y = access_ranges(h.a1, &r.equivalents1, r.e1);
-    let z = items(&r.roaming, d.roaming);
-    let w = items(&r.regional, d.regional);
-    all(x, y, z, w)
+    and(items(roaming, d.roaming), items(regional, d.regional))
 }
 
-fn counted(r: Record) -> bool
-    requires { ⌜ rangesOf r ≡ true ⌝ }
-    ensures { λ o. ⌜ o ≡ both (countersOf (r .hot .dev) (r .hot .a0) (r .e0)) (countersOf (r .hot .dev) (r .hot .a1) (r .e1)) ⌝ }
+fn counted(h: Hot, bans0: &[u8; 16], n1s0: &[u8; 16], bans1: &[u8; 16], n1s1: &[u8; 16]) -> bool
+    requires { ⌜ Bounded h ⌝ }
+    ensures { λ o. ⌜ o ≡ both (countersOf (h .dev) (h .a0) (entriesOf [] (now (bans0 .entry)) (now (n1s0 .entry)) [] [] [])) (countersOf (h .dev) (h .a1) (entriesOf [] (now (bans1 .entry)) (now (n1s1 .entry)) [] [] [])) ⌝ }
 {
-    let h = r.hot;
-    let x = counters(h.dev, h.a0, r.e0);
-    let y = counters(h.dev, h.a1, r.e1);
+    let x = counters(h.dev, h.a0, bans0, n1s0);
+    let y = counters(h.dev, h.a1, bans1, n1s1);
     and(x, y)
 }
 
-fn codes(r: Record) -> bool
-    requires { ⌜ rangesOf r ≡ true ⌝ }
-    ensures { λ o. ⌜ o ≡ codesOf r ⌝ }
+fn codes(h: Hot, nets0: &[u32; 16], nets1: &[u32; 16]) -> bool
+    requires { ⌜ Bounded h ⌝ }
+    ensures { λ o. ⌜ o ≡ codesOf (partsRecord h (entriesOf (now (nets0 .entry)) [] [] [] [] []) (entriesOf (now (nets1 .entry)) [] [] [] [] []) [] [] [] [] []) ⌝ }
 {
-    let h = r.hot;
-    let x = networks(&r.e0.nets, h.a0.entries);
-    let y = networks(&r.e1.nets, h.a1.entries);
+    let x = networks(nets0, h.a0.entries);
+    let y = networks(nets1, h.a1.entries);
     all(
         network(h.dev.home),
         network(h.a0.net),
@@ -188,33 +178,37 @@ fn codes(r: Record) -> bool
     )
 }
 
-fn singles(r: Record) -> bool
-    requires { ⌜ rangesOf r ≡ true ⌝ }
-    ensures { λ o. ⌜ o ≡ onceOf r ⌝ }
+fn singles(
+    h: Hot,
+    nets0: &[u32; 16],
+    nets1: &[u32; 16],
+    roaming: &[u64; 40],
+    regional: &[u64; 40],
+) -> bool
+    requires { ⌜ Bounded h ⌝ }
+    ensures { λ o. ⌜ o ≡ onceOf (partsRecord h (entriesOf (now (nets0 .entry)) [] [] [] [] []) (entriesOf (now (nets1 .entry)) [] [] [] [] []) (now (roaming .entry)) (now (regional .entry)) [] [] []) ⌝ }
 {
-    let h = r.hot;
-    let x = once(&r.e0.nets, h.a0.entries);
-    let y = once(&r.e1.nets, h.a1.entries);
-    let z = listed_once(&r.roaming, h.dev.roaming);
-    let w = listed_once(&r.regional, h.dev.regional);
+    let x = once(nets0, h.a0.entries);
+    let y = once(nets1, h.a1.entries);
+    let z = listed_once(roaming, h.dev.roaming);
+    let w = listed_once(regional, h.dev.regional);
     all(x, y, z, w)
 }
 
-fn ordered(a: Access, t: Entries) -> bool
+fn ordered(a: Access, ranks: &[u8; 16]) -> bool
     requires { ⌜ a .entries ≤ 16 ⌝ }
-    ensures { λ r. ⌜ r ≡ ranksOf a t ⌝ }
+    ensures { λ r. ⌜ r ≡ ranksOf a (entriesOf [] [] [] [] [] (now (ranks .entry))) ⌝ }
 {
     let n = a.entries;
-    and(below(&t.ranks, n), apart(&t.ranks, n))
+    and(below(ranks, n), apart(ranks, n))
 }
 
-fn orders(r: Record) -> bool
-    requires { ⌜ rangesOf r ≡ true ⌝ }
-    ensures { λ o. ⌜ o ≡ both (ranksOf (r .hot .a0) (r .e0)) (ranksOf (r .hot .a1) (r .e1)) ⌝ }
+fn orders(h: Hot, ranks0: &[u8; 16], ranks1: &[u8; 16]) -> bool
+    requires { ⌜ Bounded h ⌝ }
+    ensures { λ o. ⌜ o ≡ both (ranksOf (h .a0) (entriesOf [] [] [] [] [] (now (ranks0 .entry)))) (ranksOf (h .a1) (entriesOf [] [] [] [] [] (now (ranks1 .entry)))) ⌝ }
 {
-    let h = r.hot;
-    let x = ordered(h.a0, r.e0);
-    let y = ordered(h.a1, r.e1);
+    let x = ordered(h.a0, ranks0);
+    let y = ordered(h.a1, ranks1);
     and(x, y)
 }
 
@@ -226,19 +220,68 @@ fn settled(h: Hot, suci: &[u8; 64], codes: bool, singles: bool) -> bool
     all(card(h), opens(h.dev, suci), codes, and(clocks, singles))
 }
 
-// What is left to test of a record whose ranges hold.
-fn kept(r: Record) -> bool
-    requires { ⌜ rangesOf r ≡ true ⌝ }
-    ensures { λ o. ⌜ o ≡ validOf r ⌝ }
+// The test over a record's parts, its arrays lent: none of them is copied. What is left is tested once the ranges hold.
+pub fn fits<'a>(
+    h: Hot,
+    nets0: &'a [u32; 16],
+    bans0: &'a [u8; 16],
+    n1s0: &'a [u8; 16],
+    forbidden0: &'a [u8; 16],
+    barred0: &'a [u8; 16],
+    ranks0: &'a [u8; 16],
+    nets1: &'a [u32; 16],
+    bans1: &'a [u8; 16],
+    n1s1: &'a [u8; 16],
+    forbidden1: &'a [u8; 16],
+    barred1: &'a [u8; 16],
+    ranks1: &'a [u8; 16],
+    roaming: &'a [u64; 40],
+    regional: &'a [u64; 40],
+    equivalents0: &'a [u32; 15],
+    equivalents1: &'a [u32; 15],
+    suci: &'a [u8; 64],
+) -> bool
+    ensures { λ o. ⌜ o ≡ validOf (partsRecord h (entriesOf (now (nets0 .entry)) (now (bans0 .entry)) (now (n1s0 .entry)) (now (forbidden0 .entry)) (now (barred0 .entry)) (now (ranks0 .entry))) (entriesOf (now (nets1 .entry)) (now (bans1 .entry)) (now (n1s1 .entry)) (now (forbidden1 .entry)) (now (barred1 .entry)) (now (ranks1 .entry))) (now (roaming .entry)) (now (regional .entry)) (now (equivalents0 .entry)) (now (equivalents1 .entry)) (now (suci .entry))) ⌝ }
 {
-    let x = codes(r);
-    let y = and(singles(r), orders(r));
-    and(counted(r), settled(r.hot, &r.suci, x, y))
+    if !device_numbers(h.dev) {
+        return false;
+    }
+    let x = access_ranges(h.a0, equivalents0, forbidden0, barred0);
+    let y = access_ranges(h.a1, equivalents1, forbidden1, barred1);
+    if !and(x, and(y, listed(h.dev, roaming, regional))) {
+        return false;
+    }
+    let z = codes(h, nets0, nets1);
+    let w = singles(h, nets0, nets1, roaming, regional);
+    let kept = and(w, orders(h, ranks0, ranks1));
+    and(
+        counted(h, bans0, n1s0, bans1, n1s1),
+        settled(h, suci, z, kept),
+    )
 }
 
 // The public test: a record that fails it is answer 1.
 pub fn valid(r: Record) -> bool
     ensures { λ o. ⌜ o ≡ validOf r ⌝ }
 {
-    if ranges(r) { kept(r) } else { false }
+    fits(
+        r.hot,
+        &r.e0.nets,
+        &r.e0.bans,
+        &r.e0.n1s,
+        &r.e0.forbidden,
+        &r.e0.barred,
+        &r.e0.ranks,
+        &r.e1.nets,
+        &r.e1.bans,
+        &r.e1.n1s,
+        &r.e1.forbidden,
+        &r.e1.barred,
+        &r.e1.ranks,
+        &r.roaming,
+        &r.regional,
+        &r.equivalents0,
+        &r.equivalents1,
+        &r.suci,
+    )
 }

@@ -1,15 +1,14 @@
--- The record's ranges hold, so each column is read to its count. Assumes nothing.
-use Rattle.ranges.specs.Valid.{codesOf}
-use Rattle.ranges.proofs.Bounds.{bounded}
+-- The counts are bounds, so each column is read to its count. Assumes nothing.
+use Rattle.ranges.specs.Valid.{codesOf, partsRecord}
 use borrow.Author.Needs.{needs}
 use Rattle.ranges.proofs.codes.Statement.{statement}
 use Rattle.ranges.proofs.codes.Tie as tie
 
 networks-requires : tie.Need-networks-requires
-networks-requires c κs = bounded _ (c .before .before .before .pre) .first
+networks-requires c κs = search needs
 
 networks-requires-2 : tie.Need-networks-requires-2
-networks-requires-2 c κs = bounded _ (c .before .before .before .before .before .before .pre) .second
+networks-requires-2 c κs = search needs
 
 network-requires : tie.Need-network-requires
 network-requires c κs = search needs
@@ -27,7 +26,7 @@ all-requires : tie.Need-all-requires
 all-requires c κs = search needs
 
 returns : tie.Need-returns
-unfolding codesOf
+unfolding codesOf partsRecord
 returns c = cc
 
 pub codes-spec : {M : Type 1} → statement M

@@ -1,14 +1,13 @@
--- The record's ranges hold, so each column is read to its count. Assumes nothing.
-use Rattle.ranges.proofs.Bounds.{bounded}
+-- The counts are bounds, so each column is read to its count. Assumes nothing.
 use borrow.Author.Needs.{needs}
 use Rattle.ranges.proofs.counted.Statement.{statement}
 use Rattle.ranges.proofs.counted.Tie as tie
 
 counters-requires : tie.Need-counters-requires
-counters-requires c κs = bounded _ (c .before .pre) .first
+counters-requires c κs = search needs
 
 counters-requires-2 : tie.Need-counters-requires-2
-counters-requires-2 c κs = bounded _ (c .before .before .pre) .second
+counters-requires-2 c κs = search needs
 
 and-requires : tie.Need-and-requires
 and-requires c κs = search needs

@@ -1,14 +1,13 @@
--- The record's ranges hold, so each column is read to its count. Assumes nothing.
-use Rattle.ranges.proofs.Bounds.{bounded}
+-- The counts are bounds, so each column is read to its count. Assumes nothing.
 use borrow.Author.Needs.{needs}
 use Rattle.ranges.proofs.orders.Statement.{statement}
 use Rattle.ranges.proofs.orders.Tie as tie
 
 ordered-requires : tie.Need-ordered-requires
-ordered-requires c κs = bounded _ (c .before .pre) .first
+ordered-requires c κs = search needs
 
 ordered-requires-2 : tie.Need-ordered-requires-2
-ordered-requires-2 c κs = bounded _ (c .before .before .pre) .second
+ordered-requires-2 c κs = search needs
 
 and-requires : tie.Need-and-requires
 and-requires c κs = search needs
