@@ -9,7 +9,6 @@
 #include "tjernfaug.h"
 
 enum { ROOM = 65536, PAINT = 0xA5 };
-enum { CARD = 1, START, MESSAGE, TIMER, POWER, KEY, UPDATE, DRAWS, IMPORT = 10 };
 
 static _Alignas(64) uint8_t stack[ROOM];
 static ucontext_t here, there;
@@ -76,7 +75,7 @@ static void fill(struct tjernfaug_access *a, struct tjernfaug_entries *e, uint8_
 enum { NEW, NONE, EMPTY, WAITING, FULL, SHAPES, ROUNDS = 7 * 3 * 2 * SHAPES };
 static void lay(unsigned round)
 {
-    const uint8_t state = round % 7, regtype = 1 + round / 7 % 3, mark = round / 21 % 2;
+    const uint8_t state = (uint8_t)(round % 7), regtype = (uint8_t)(1 + round / 7 % 3), mark = round / 21 % 2;
     struct tjernfaug_hot *hot = &record.hot;
     tjernfaug_new(&record, 10, 10, 10, octets, 13, octets, 8);
     if (round / 42 == NEW)
@@ -117,7 +116,7 @@ static void message(const void *text, size_t n)
         const size_t head = way / 2 ? 6 : 4;
         uint8_t body[128] = {0, way % 2, 0x08, 0x07, 0x84, 0x03};
         memcpy(body + head, text, n);
-        hand(way / 2 ? DRAWS : MESSAGE, body, head + n, 0);
+        hand(way / 2 ? TJERNFAUG_KIND_MESSAGE_DRAWS : TJERNFAUG_KIND_MESSAGE, body, head + n, 0);
     }
 }
 
@@ -138,19 +137,19 @@ static void events(void)
 {
     static const uint8_t card[67] = {0, 0xF1, 0x10, 1}, start[] = {0, 1, 0, 0xF3, 0x30, 0, 0, 0x2A}, listed[] = {0, 0, 0, 0xF5, 0, 0, 0, 0x2A};
     uint8_t update[] = {0, 2, 0, 0xF2, 0x20, 0, 0, 0x2A, 0xFE, 0xFF, 0xFE, 0xFF}, file[3 * 16];
-    hand(CARD, card, sizeof card, sizeof card);
-    hand(START, start, sizeof start, 0);
-    hand(START, listed, sizeof listed, 0);
+    hand(TJERNFAUG_KIND_CARD, card, sizeof card, sizeof card);
+    hand(TJERNFAUG_KIND_START, start, sizeof start, 0);
+    hand(TJERNFAUG_KIND_START, listed, sizeof listed, 0);
     for (; update[1] <= 3; update[1]++)
-        hand(UPDATE, update, sizeof update, 0);
+        hand(TJERNFAUG_KIND_UPDATE, update, sizeof update, 0);
     for (uint8_t number = 1; number <= 7; number++)
-        hand(TIMER, (const uint8_t[]){number, 0}, 2, 1);
-    hand(KEY, (const uint8_t[]){0, 3}, 2, 0);
-    hand(POWER, "", 0, 0);
+        hand(TJERNFAUG_KIND_TIMER, (const uint8_t[]){number, 0}, 2, 1);
+    hand(TJERNFAUG_KIND_KEY, (const uint8_t[]){0, 3}, 2, 0);
+    hand(TJERNFAUG_KIND_POWER, "", 0, 0);
     for (uint8_t i = 0; i < 16; i++)
-        memcpy(file + 3 * i, (const uint8_t[]){0, 0xF5, i % 10 * 16 + i / 10}, 3);
+        memcpy(file + 3 * i, (const uint8_t[]){0, 0xF5, (uint8_t)(i % 10 * 16 + i / 10)}, 3);
     for (size_t n = 0; n <= sizeof file; n += 16)
-        hand(IMPORT, file, n, n);
+        hand(TJERNFAUG_KIND_IMPORT, file, n, n);
     hand(9, start, sizeof start, 0);
     messages();
 }
@@ -196,7 +195,7 @@ static void readings(void)
 static void timers(void)
 {
     for (unsigned i = 0; i < 256; i++) {
-        limit = i;
+        limit = (uint8_t)i;
         on(seconds);
     }
 }
@@ -204,11 +203,11 @@ static void timers(void)
 /* The bounds, in octets. docs/FIRMWARE.md says the same, which tests/book sees. Beside them the last answer that is no refusal. */
 static const struct { const char *name; size_t bound; uint32_t last; void (*cases)(void); } calls[] = {
     {"tjernfaug_new", 2048, 0, news},
-    {"tjernfaug_event", 7680, 0, events},
-    {"tjernfaug_request", 5120, 255, requests},
-    {"tjernfaug_cells", 5120, 255, choices},
-    {"tjernfaug_forbidden", 4608, 255, files},
-    {"reject_cause", 512, 255, readings},
+    {"tjernfaug_event", 6144, 0, events},
+    {"tjernfaug_request", 5632, 255, requests},
+    {"tjernfaug_cells", 3072, 255, choices},
+    {"tjernfaug_forbidden", 2560, 255, files},
+    {"reject_cause", 1024, 255, readings},
     {"timer_seconds", 256, 65535, timers},
 };
 
