@@ -552,7 +552,10 @@ static inline uint64_t tjernfaug_body_start(uint8_t access, uint8_t manual, uint
     return TJERNFAUG_BODY_START;
 }
 
-/* Kind 3, with the draw for T3247 alone; the draw for T3346 is then 900. Kind 8, below, has both. */
+/*
+ * Kind 3, with the draw for T3247 alone; the draw for T3346 is then 900. Kind 8, below, has both.
+ * A message that was received in its place, at body + TJERNFAUG_BODY_MESSAGE or body + TJERNFAUG_BODY_MESSAGE_DRAWS, stays there: msg is that place, and no second buffer is needed.
+ */
 static inline uint64_t tjernfaug_body_message(uint8_t access, uint8_t protection, uint16_t t3247, const uint8_t *msg, uint64_t msg_len,
                                               uint8_t *body, uint64_t len)
 {

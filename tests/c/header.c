@@ -239,6 +239,15 @@ static void bodies(void)
          0x01, 0x03, 0x13, 0x00, 0x62, 0x12, 0x34, 0x56, 0xEF, 0xBE, 0xFE, 0xCA);
 }
 
+/* A message that stands in its place already. */
+static void in_place(void)
+{
+    static const uint8_t want[] = {0x01, 0x00, 0x10, 0x0E, 0xD2, 0x04, 0x7E, 0x00, 0x44, 0x0B};
+    uint8_t body[] = {0, 0, 0, 0, 0, 0, 0x7E, 0x00, 0x44, 0x0B};
+    expect("a message in its place", tjernfaug_body_message_draws(1, 0, 3600, 1234, body + TJERNFAUG_BODY_MESSAGE_DRAWS, 4, body, sizeof body), sizeof want);
+    expect("its octets", memcmp(body, want, sizeof want) != 0, 0);
+}
+
 /* Arguments longer than any buffer, and the longest card. */
 static void lengths(void)
 {
@@ -273,6 +282,7 @@ int main(void)
     slots();
     networks();
     bodies();
+    in_place();
     lengths();
     version();
     printf("header: %d wrong\n", wrong);
