@@ -1,5 +1,6 @@
 # What the tests of the C calls share; they source it, from the repository's root.
-strict=(-std=c11 -Wall -Wextra -Werror -Wconversion -pedantic -Iinclude)
+warned=(-Wall -Wextra -Werror -Wconversion -pedantic -Iinclude)
+strict=(-std=c11 "${warned[@]}")
 
 # bounds: each call and the most stack that it may take, by the table of tests/c/stack.c.
 bounds() { sed -n 's/^    {"\([a-z_]*\)", \([0-9]*\),.*/\1 \2/p' tests/c/stack.c; }

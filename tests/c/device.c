@@ -63,7 +63,7 @@ static uint32_t hand(struct device *d, uint32_t kind, const uint8_t *body, uint6
 {
     const uint8_t head[] = {(uint8_t)(len + 2), (uint8_t)((len + 2) >> 8), (uint8_t)kind, (uint8_t)(kind >> 8)};
     fwrite(head, 1, sizeof head, d->log);
-    fwrite(body, 1, len, d->log);
+    fwrite(body, 1, (size_t)len, d->log);
     uint32_t answer = tjernfaug_event(&d->record, kind, body, len, &d->notice);
     const struct tjernfaug_hot *hot = &d->record.hot;
     printf("%u %u %u %u %u\n", ++d->events, answer, hot->a0.state, hot->a1.state, hot->dev.t3247);
@@ -123,7 +123,7 @@ static uint32_t heard(struct device *d, uint8_t protection, const uint8_t *msg, 
 }
 
 /* The device sends these octets. What lies behind them stays, and in a buffer that is an octet too short all of it. */
-static int sends(const struct device *d, const uint8_t *octets, uint64_t len)
+static int sends(const struct device *d, const uint8_t *octets, size_t len)
 {
     uint8_t sent[TJERNFAUG_LONGEST_REQUEST], kept[TJERNFAUG_LONGEST_REQUEST];
     memset(sent, 0xA5, sizeof sent);

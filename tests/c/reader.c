@@ -32,7 +32,7 @@ static void heard(const char *what, uint32_t kind, size_t draws, uint32_t answer
     memcpy(body, before, draws);
     memcpy(body + draws, msg, len);
     expect(what, tjernfaug_event(&r, kind, body, draws + len, &notice), answer);
-    expect(what, notice.offset, offset);
+    expect(what, (size_t)notice.offset, offset);
 }
 
 static void message(const char *what, uint32_t cause, uint32_t answer, size_t offset, const uint8_t *msg, size_t len)
