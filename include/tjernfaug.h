@@ -512,7 +512,7 @@ enum {
     TJERNFAUG_LONGEST_CARD = 67,      /* with a SUCI of 64 octets */
 };
 
-/* For the bodies: three octets, the first one highest; two, the low one first; and octets as they are. */
+/* For the bodies: three octets, the first one highest; two, the low one first; and octets as they are, which are not copied where they stand already. */
 static inline void tjernfaug_put_three(uint8_t *to, uint32_t number)
 {
     to[0] = number >> 16 & 0xFF;
@@ -528,7 +528,7 @@ static inline void tjernfaug_put_two(uint8_t *to, uint32_t number)
 
 static inline void tjernfaug_put_octets(uint8_t *to, const uint8_t *from, uint64_t len)
 {
-    for (uint64_t i = 0; i < len; i++)
+    for (uint64_t i = 0; i < len && to != from; i++)
         to[i] = from[i];
 }
 
@@ -554,7 +554,7 @@ static inline uint64_t tjernfaug_body_start(uint8_t access, uint8_t manual, uint
 
 /*
  * Kind 3, with the draw for T3247 alone; the draw for T3346 is then 900. Kind 8, below, has both.
- * A message that was received in its place, at body + TJERNFAUG_BODY_MESSAGE or body + TJERNFAUG_BODY_MESSAGE_DRAWS, stays there: msg is that place, and no second buffer is needed.
+ * A message that was received in its place, at body + TJERNFAUG_BODY_MESSAGE or body + TJERNFAUG_BODY_MESSAGE_DRAWS, is not copied: msg is that place, and no second buffer is needed.
  */
 static inline uint64_t tjernfaug_body_message(uint8_t access, uint8_t protection, uint16_t t3247, const uint8_t *msg, uint64_t msg_len,
                                               uint8_t *body, uint64_t len)

@@ -200,10 +200,10 @@ static void timers(void)
     }
 }
 
-/* The bounds, in octets. docs/FIRMWARE.md says the same, which tests/book sees. Beside them the last answer that is no refusal. */
+/* The bounds, in octets. docs/FIRMWARE.md says the same, which tests/archives sees. Beside them the last answer that is no refusal. */
 static const struct { const char *name; size_t bound; uint32_t last; void (*cases)(void); } calls[] = {
     {"tjernfaug_new", 2048, 0, news},
-    {"tjernfaug_event", 6144, 0, events},
+    {"tjernfaug_event", 5120, 0, events},
     {"tjernfaug_request", 5632, 255, requests},
     {"tjernfaug_cells", 3072, 255, choices},
     {"tjernfaug_forbidden", 2560, 255, files},

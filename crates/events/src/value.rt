@@ -17,13 +17,41 @@ fn sure(valid: bool, e: Event) -> Event
     if valid { e } else { Event::Unknown }
 }
 
-// Any record, any event, any octets.
+// Any record, any event, any octets. The test is lent the entries as they came, and not their columns: with these the compiler keeps the whole record a
+// second time, for the test to look at.
 pub fn step(r: Record, e: Event, octets: &[u8]) -> Outcome
     ensures { λ o. ⌜ o ≡ stepOf r e (now (octets .entry)) ⌝ }
 {
     let h = r.hot;
     let s = r.e0;
     let t = r.e1;
+    let mut roaming = r.roaming;
+    let mut regional = r.regional;
+    let mut guti0 = r.guti0;
+    let mut guti1 = r.guti1;
+    let mut equivalents0 = r.equivalents0;
+    let mut equivalents1 = r.equivalents1;
+    let mut suci = r.suci;
+    let valid = ranges::fits(
+        h,
+        &s.nets,
+        &s.bans,
+        &s.n1s,
+        &s.forbidden,
+        &s.barred,
+        &s.ranks,
+        &t.nets,
+        &t.bans,
+        &t.n1s,
+        &t.forbidden,
+        &t.barred,
+        &t.ranks,
+        &roaming,
+        &regional,
+        &equivalents0,
+        &equivalents1,
+        &suci,
+    );
     let mut nets0 = s.nets;
     let mut bans0 = s.bans;
     let mut n1s0 = s.n1s;
@@ -36,33 +64,6 @@ pub fn step(r: Record, e: Event, octets: &[u8]) -> Outcome
     let mut forbidden1 = t.forbidden;
     let mut barred1 = t.barred;
     let mut ranks1 = t.ranks;
-    let mut roaming = r.roaming;
-    let mut regional = r.regional;
-    let mut guti0 = r.guti0;
-    let mut guti1 = r.guti1;
-    let mut equivalents0 = r.equivalents0;
-    let mut equivalents1 = r.equivalents1;
-    let mut suci = r.suci;
-    let valid = ranges::fits(
-        h,
-        &nets0,
-        &bans0,
-        &n1s0,
-        &forbidden0,
-        &barred0,
-        &ranks0,
-        &nets1,
-        &bans1,
-        &n1s1,
-        &forbidden1,
-        &barred1,
-        &ranks1,
-        &roaming,
-        &regional,
-        &equivalents0,
-        &equivalents1,
-        &suci,
-    );
     let f = sure(valid, e);
     let d = core(
         h,

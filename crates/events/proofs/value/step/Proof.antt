@@ -24,9 +24,9 @@ keep-requires c κs = search needs
 returns : tie.Need-returns
 unfolding together
 returns c =
-    let start = c .before .before .before .before .before .before .before .before .before .before .before .before .before .before .before .before .before .before .before .before .before .before .before .before .before .before .before .before .before .before .before .before .before .before .before .before .before .before .before .before .before .before .before .before .before .before .before .before .before .before .before .before .before .before .before .before .before .before .before .before .before .before .before .before .before .before .before .before in
+    let start = c .before .before .before .before .before .before .before .before .before .before .before .before .before .before .before .before .before .before .before .before .before .before .before .before .before .before .before .before .before .before .before .before .before .before .before .before .before .before .before .before .before .before .before .before .before .before .before .before .before .before .before .before .before .before .before .before .before .before .before .before .before .before .before .before .before .before .before .before .before .before in
     let done = c .before .before .before .before .before .before .before .before .before .before .before in
-    let tested = done .before .before .before .before .before .before .before .before .before .before .before .before .before .before .before .before in
+    let tested = done .before .before .before .before .before .before .before .before .before .before .before .before .before .before .before .before .before .before .before .before .before .before .before .before .before .before .before .before in
     let chosen = done .before .before .before .before .before .before .before .before .before .before .before .before .before .before .before in
     step-law (start .args .r) (chosen .sure .result) (start .args .octets .now) (done .core .result) _ _ _ _ _ (done .core .ensures) (c .before .before .before .before .before .keep .ensures)
     ∙ ap (λ (f : Event). advanceOf (start .args .r) f (start .args .octets .now)) (chosen .sure .ensures)
