@@ -20,8 +20,8 @@ extern "C" {
 #endif
 
 /* This header's version: 10000 times the major number, 100 times the minor one, and the patch. */
-#define TJERNFAUG_VERSION 900
-#define TJERNFAUG_VERSION_TEXT "0.9.0"
+#define TJERNFAUG_VERSION 1000
+#define TJERNFAUG_VERSION_TEXT "0.10.0"
 
 /* The library's: TJERNFAUG_VERSION of the header that belongs to it. */
 uint32_t tjernfaug_version(void);
@@ -37,6 +37,7 @@ enum tjernfaug_kind {
     TJERNFAUG_KIND_UPDATE = 7,
     TJERNFAUG_KIND_MESSAGE_DRAWS = 8,
     TJERNFAUG_KIND_IMPORT = 10,
+    TJERNFAUG_KIND_CARD_EDITION = 11,
 };
 
 /* The answers. A call that gives a number, or else says why not, adds REFUSED to its answer. No call here answers 3 or 19, which are for reading a request. */
@@ -106,6 +107,16 @@ enum tjernfaug_type {
 };
 
 /*
+ * Which text the device is certified against: by it the identity of a request is chosen. 001 is what kind 1 stands for. By 002 a device that comes from 4G may open with the GUTI
+ * mapped from its 4G-GUTI, by 003 only if that is a native one: see tjernfaug_request_from_s1.
+ */
+enum tjernfaug_edition {
+    TJERNFAUG_EDITION_SOURCE_001 = 1,
+    TJERNFAUG_EDITION_SOURCE_002 = 2,
+    TJERNFAUG_EDITION_SOURCE_003 = 3,
+};
+
+/*
  * The cause of a registration reject, msg[0] to msg[len - 1]: 0 to 255.
  * For any other message it is 256 plus the refusal's number; of several faults the one at the lowest offset, at a tie the lower number:
  *   269  fewer than the fixed octets
@@ -123,6 +134,7 @@ uint32_t timer_seconds(uint8_t octet);
 /*
  * The device's numbers, here and below the widest first. A flag is 0 or 1; lengths and counts say how much of an array is in use.
  * t3512length: T3512's kept length in seconds, 0 where the network wants no periodic updates. due: whether a periodic update is due.
+ * edition: that of the last card change, 1 before the first; it survives a power cycle.
  */
 struct tjernfaug_device {
     uint32_t home;
@@ -139,6 +151,7 @@ struct tjernfaug_device {
     uint8_t security;
     uint8_t roaming;
     uint8_t regional;
+    uint8_t edition;
 };
 
 /*
@@ -242,20 +255,35 @@ struct tjernfaug_notice {
     uint32_t update;
 };
 
+/*
+ * What a device brings from 4G, lent for a request. All but guti are 0 for no, any other number for yes.
+ * registered: it was registered in S1 mode. n26: it was told that interworking without N26 is not supported. context: it holds an EPS security context.
+ * valid: it holds a valid 4G-GUTI. native: that is a native one. guti: the 4G-GUTI: network (3, as sent), MME group (2, the high one first), MME code (1), M-TMSI (4).
+ */
+struct tjernfaug_s1 {
+    uint8_t registered;
+    uint8_t n26;
+    uint8_t context;
+    uint8_t valid;
+    uint8_t native;
+    uint8_t guti[10];
+};
+
 /* The library's layout: a compiler that has another one stops here. tests/c/run holds the library to it on x86-64. */
 #ifdef __cplusplus
 #define TJERNFAUG_LAYOUT(name, size, align) static_assert(sizeof(struct name) == (size) && alignof(struct name) == (align), "the layout of " #name)
 #else
 #define TJERNFAUG_LAYOUT(name, size, align) _Static_assert(sizeof(struct name) == (size) && _Alignof(struct name) == (align), "the layout of " #name)
 #endif
-TJERNFAUG_LAYOUT(tjernfaug_device, 20, 4);
+TJERNFAUG_LAYOUT(tjernfaug_device, 24, 4);
 TJERNFAUG_LAYOUT(tjernfaug_access, 36, 4);
-TJERNFAUG_LAYOUT(tjernfaug_hot, 92, 4);
+TJERNFAUG_LAYOUT(tjernfaug_hot, 96, 4);
 TJERNFAUG_LAYOUT(tjernfaug_entries, 144, 4);
 TJERNFAUG_LAYOUT(tjernfaug_record, 1256, 8);
 TJERNFAUG_LAYOUT(tjernfaug_timer, 8, 4);
 TJERNFAUG_LAYOUT(tjernfaug_timers, 32, 4);
 TJERNFAUG_LAYOUT(tjernfaug_notice, 104, 8);
+TJERNFAUG_LAYOUT(tjernfaug_s1, 15, 1);
 #undef TJERNFAUG_LAYOUT
 
 /*
@@ -267,7 +295,7 @@ uint32_t tjernfaug_new(struct tjernfaug_record *r, uint8_t cardlimit, uint8_t ba
 
 /*
  * An event in the event log's form: a log record is the length of what follows it (two octets, the low one first), the kind (the same) and the body.
- *   1 card     home (3), SUCI (9 to 64)
+ *   1 card     home (3), SUCI (9 to 64); the edition is then 1
  *   2 start    access, manual, network (3), area code (3)
  *   3 message  access, protected, draw for T3247 (2, the low one first), the message's octets; the draw for T3346 is then 900
  *   4 timer    1 T3510, 2 T3511, 3 T3502, 4 T3247, 5 T3512, 6 T3346; access (0 for T3247 and T3512)
@@ -276,6 +304,7 @@ uint32_t tjernfaug_new(struct tjernfaug_record *r, uint8_t cardlimit, uint8_t ba
  *   7 update   access, type (2 mobility, 3 periodic), network (3), area code (3), uplink data status (2), PDU session status (2), as sent, session 0 clear
  *   8 message  access, protected, draw for T3247 (2, the low one first), draw for T3346 (the same), the message's octets
  *  10 import   the card's file of forbidden networks, three octets each, FF FF FF unused: the whole body
+ *  11 card     edition (1 to 3), home (3), SUCI (9 to 64)
  * Draw both evenly, for each message anew: 1800 to 3600 s for T3247, 900 to 1800 s for T3346. One outside its range is answer 1, used or not.
  * The answer's number, 0 for taken. Every answer but 0 leaves r as it was; notice is always written.
  * 20 is a start or an update over an access whose T3346 runs: when it has run out, the notice asks for a restart.
@@ -310,6 +339,27 @@ enum { TJERNFAUG_LONGEST_REQUEST = 193 };
  */
 uint32_t tjernfaug_request(const struct tjernfaug_record *r, uint8_t access, uint8_t *buffer, uint64_t len);
 
+/* The longest attach message, and the longest request with one: a clear part of 65,047 octets, 71 with its length, and 65,069 in the container. */
+enum { TJERNFAUG_LONGEST_ATTACH = 65000, TJERNFAUG_LONGEST_REQUEST_FROM_S1 = 130119 };
+
+/*
+ * The registration request as tjernfaug_request writes it, of a device that may come from 4G: it lends what it brings from there, and the attach message, whose length may be 0.
+ * Both count in the mapped case alone. That is an initial registration, over either access: with edition 2 if registered, n26, context and valid are all yes, with edition 3 if
+ * native is yes too. The identity is then the 5G-GUTI mapped from the 4G-GUTI by TS 23.003, F2 and ten octets, and the request has more at its end. These stand behind 2E in the
+ * clear part, before 71, and behind all else in the container:
+ *   77  the 5G-GUTI that would else be the identity, behind its length (2, the high one first); left out if none is held
+ *   2B  01 00: not in EMM-REGISTERED
+ *   70  the attach message, behind its length (the same); left out if it is empty
+ * In all other cases the octets are those of tjernfaug_request, whatever is lent.
+ * A length may be above 255, so that it does not come back with the answer: *written is how many octets the request has, at most TJERNFAUG_LONGEST_REQUEST_FROM_S1, and 0 with a refusal.
+ * The answer's number, 0 for taken. For every other one, here without 256, the whole buffer is as it was:
+ *    1  access is not 0 or 1, r is invalid, or attach_len is above TJERNFAUG_LONGEST_ATTACH, in every edition, used or not
+ *    6  the access is not in state 4
+ *   12  the buffer is shorter than the request
+ */
+uint32_t tjernfaug_request_from_s1(const struct tjernfaug_record *r, uint8_t access, const struct tjernfaug_s1 *s1, const uint8_t *attach, uint64_t attach_len,
+                                   uint8_t *buffer, uint64_t len, uint64_t *written);
+
 /* How many networks are heard at most, for the size of both lists. */
 enum { TJERNFAUG_MOST_CELLS = 64 };
 
@@ -341,6 +391,7 @@ static inline const char *tjernfaug_kind_name(uint32_t kind)
 {
     static const char *const names[] = {
         "unknown", "card", "start", "message", "timer", "power", "key", "update", "message with both draws", "unknown", "import",
+        "card with an edition",
     };
     return kind < sizeof names / sizeof *names ? names[kind] : "unknown";
 }
@@ -509,7 +560,9 @@ enum {
     TJERNFAUG_BODY_KEY = 2,
     TJERNFAUG_BODY_UPDATE = 12,
     TJERNFAUG_BODY_MESSAGE_DRAWS = 6, /* and the message */
+    TJERNFAUG_BODY_CARD_EDITION = 4,  /* and the SUCI */
     TJERNFAUG_LONGEST_CARD = 67,      /* with a SUCI of 64 octets */
+    TJERNFAUG_LONGEST_CARD_EDITION = 68, /* the same */
 };
 
 /* For the bodies: three octets, the first one highest; two, the low one first; and octets as they are, which are not copied where they stand already. */
@@ -539,6 +592,15 @@ static inline uint64_t tjernfaug_body_card(uint32_t home, const uint8_t *suci, u
     tjernfaug_put_three(body, home);
     tjernfaug_put_octets(body + TJERNFAUG_BODY_CARD, suci, suci_len);
     return TJERNFAUG_BODY_CARD + suci_len;
+}
+
+/* Kind 11: the edition, and behind it kind 1's body. */
+static inline uint64_t tjernfaug_body_card_edition(uint8_t edition, uint32_t home, const uint8_t *suci, uint64_t suci_len, uint8_t *body, uint64_t len)
+{
+    if (len < TJERNFAUG_BODY_CARD_EDITION || len - TJERNFAUG_BODY_CARD_EDITION < suci_len)
+        return 0;
+    body[0] = edition;
+    return 1 + tjernfaug_body_card(home, suci, suci_len, body + 1, len - 1);
 }
 
 static inline uint64_t tjernfaug_body_start(uint8_t access, uint8_t manual, uint32_t network, uint32_t code, uint8_t *body, uint64_t len)

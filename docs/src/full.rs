@@ -3,7 +3,7 @@
 // One line after each event's line, four parts split by ` | `, words split by spaces:
 //   = ANSWER at OFFSET T3510 C C T3511 C C T3502 C C T3346 C C T3247 C T3512 C restart A
 //     leave A update A
-//   | card C home HEX suci HEX limits CARD BAN N1 cap HEX sec HEX T3247 B T3512 B
+//   | card C home HEX suci HEX limits CARD BAN N1 cap HEX sec HEX edition N T3247 B T3512 B
 //     length SECONDS due B roaming AREAS regional AREAS
 //   | 0 state N status N attempts N T3510 B T3511 B T3502 B length SECONDS T3346 B
 //     pending HEX type N uplink HEX sessions HEX guti HEX last HEX ksi N
@@ -127,6 +127,7 @@ pub fn record(text: &mut String, record: &Record) {
     hex(text, &record.capability);
     text.push_str(" sec ");
     hex(text, &record.security);
+    put!(text, " edition {}", record.edition);
     put!(text, " T3247 {} T3512 {}", record.t3247 as u8, record.t3512 as u8);
     put!(text, " length {} due {} roaming ", record.t3512_length, record.due as u8);
     areas(text, &record.roaming);

@@ -1,6 +1,6 @@
 // The registration record of document 01 with the updates of request R-5, the faults of R-1, the
-// waits of R-6, the counting on both accesses of R-14 and the places given up of R-9, and its seven
-// events, updated in place; the eighth, R-8's import, is in card.rs.
+// waits of R-6, the edition of R-7, the counting on both accesses of R-14 and the places given up
+// of R-9, and its seven events, updated in place; the eighth, R-8's import, is in card.rs.
 
 use crate::message::{self, Accept, Message, Reject};
 
@@ -53,6 +53,10 @@ pub const TIMERS: usize = 10;
 pub const INITIAL: u8 = 1;
 pub const MOBILITY: u8 = 2;
 pub const PERIODIC: u8 = 3;
+
+/// Document 01's edition of the identity order, by source 001; 2 and 3 are by sources 002 and 003.
+pub const FIRST_EDITION: u8 = 1;
+const LAST_EDITION: u8 = 3;
 
 const T3510_SECONDS: u32 = 15;
 const T3511_SECONDS: u32 = 10;
@@ -198,6 +202,8 @@ pub struct Record {
     pub due: bool,
     pub roaming: Areas,
     pub regional: Areas,
+    /// The edition of the identity order that the device is certified against.
+    pub edition: u8,
     pub access: [Access; 2],
 }
 
@@ -501,6 +507,7 @@ impl Record {
             due: false,
             roaming: List::new(),
             regional: List::new(),
+            edition: FIRST_EDITION,
             access: [Access::new(); 2],
         }
     }
@@ -516,8 +523,9 @@ impl Record {
         reply.stop(T3512, &mut self.t3512);
     }
 
-    pub fn card(&mut self, home: Network, suci: &[u8]) -> Reply {
-        if !is_network(&home) || suci.len() < 9 || suci.len() > 64 || suci[0] != 1 {
+    pub fn card(&mut self, edition: u8, home: Network, suci: &[u8]) -> Reply {
+        let named = (FIRST_EDITION..=LAST_EDITION).contains(&edition);
+        if !named || !is_network(&home) || suci.len() < 9 || suci.len() > 64 || suci[0] != 1 {
             return Reply::of(RANGE);
         }
         let mut reply = Reply::of(TAKEN);
@@ -529,6 +537,7 @@ impl Record {
         self.due = false;
         self.roaming.clear();
         self.regional.clear();
+        self.edition = edition;
         self.access = [Access { state: NORMAL, ..Access::new() }; 2];
         reply
     }

@@ -1,131 +1,118 @@
-// The registration request: choosing the identity, writing and reading back, with request R-3's
-// container.
+// The registration request: writing and reading back, with request R-3's container and what R-7
+// adds in the mapped case.
 
+use crate::identity::{self, S1};
 use crate::message::{cut, element, head_fault, Fault, Within};
 use crate::record::{
-    network_of, Network, Record, DEEP, INITIAL, INITIATED, NO_KEY, PERIODIC, RANGE, SHORT, STATE,
-    UNFIT,
+    Guti, Record, DEEP, INITIAL, INITIATED, NO_KEY, PERIODIC, RANGE, SHORT, STATE, UNFIT,
 };
 use std::ops::Range;
 
-/// The longest clear part: head, SUCI of 64 and 2E of 8.
-const CLEAR: usize = 6 + 64 + 10;
-/// What stands before the contents of a container: 71 and a length of two octets.
+/// What stands before the contents of 70, 71 and 77: the identifier and a length of two octets.
 const BEFORE: usize = 3;
-/// The longest request: the clear part, and in a container the same with 10 of 13, 52, 40 and 50.
-pub const LONGEST: usize = CLEAR + BEFORE + (CLEAR + 15 + 7 + 4 + 4);
+/// The longest 2E, and what only the whole request has: the longest 10, and 52.
+const SECURITY: usize = 2 + 8;
+const HIDDEN: usize = (2 + 13) + 7;
+/// The longest clear part without the mapped case: head, SUCI of 64 and 2E.
+const CLEAR: usize = 6 + 64 + SECURITY;
+/// The longest request if nothing is lent: the clear part, and in a container the same with what it
+/// hides, 40 and 50. Named by tests alone.
+#[allow(dead_code)]
+pub const LONGEST: usize = CLEAR + BEFORE + (CLEAR + HIDDEN + 4 + 4);
+/// The longest attach message that may be lent.
+pub const LONGEST_ATTACH: usize = 65_000;
+/// The longest clear part in the mapped case: head, GUTI and 2E, then 77, 2B and 70.
+const MAPPED: usize = 6 + 11 + SECURITY + (BEFORE + 11) + 3 + (BEFORE + LONGEST_ATTACH);
+/// The longest request of all. It is an initial registration, so that it has no 40 and 50.
+pub const LONGEST_FROM_S1: usize = MAPPED + BEFORE + (MAPPED + HIDDEN);
 /// How many requests in one another are read: the outer one and the one in its container.
 const LEVELS: usize = 2;
 
-/// Two identities as sent, F2 and ten octets, for access 0 then 1; zeros where none is held.
-pub fn gutis(record: &Record) -> [u8; 22] {
-    let mut octets = [0; 22];
-    for (a, access) in record.access.iter().enumerate() {
-        if let Some(guti) = access.guti {
-            octets[11 * a] = 0xF2;
-            octets[11 * a + 1..11 * a + 11].copy_from_slice(&guti);
-        }
-    }
-    octets
+/// An element with a length of one octet.
+fn short(identifier: u8, contents: &[u8]) -> Vec<u8> {
+    [&[identifier, contents.len() as u8], contents].concat()
 }
 
-/// A GUTI of the pending network, else of an equivalent one, else any, else the SUCI;
-/// within each, this access's first. The answer is a part of `gutis` or `suci`.
-pub fn identity<'a>(
-    gutis: &'a [u8; 22],
-    held: [bool; 2],
-    suci: &'a [u8],
-    a: usize,
-    pending: &Network,
-    equivalents: &[Network],
-) -> &'a [u8] {
-    let part = |b: usize| &gutis[11 * b..11 * b + 11];
-    let pick = |fits: &dyn Fn(&[u8]) -> bool| {
-        [a, 1 - a].iter().copied().find(|&b| held[b] && fits(&part(b)[1..4])).map(part)
-    };
-    pick(&|network| network == pending)
-        .or_else(|| pick(&|network| equivalents.iter().any(|equivalent| network == equivalent)))
-        .or_else(|| pick(&|_| true))
-        .unwrap_or(suci)
-}
-
-/// Octets as they are written, from the front.
-struct Written {
-    octets: [u8; LONGEST],
-    used: usize,
-}
-
-impl Written {
-    fn new() -> Written {
-        Written { octets: [0; LONGEST], used: 0 }
-    }
-
-    fn put(&mut self, part: &[u8]) {
-        self.octets[self.used..self.used + part.len()].copy_from_slice(part);
-        self.used += part.len();
-    }
-
-    fn octets(&self) -> &[u8] {
-        &self.octets[..self.used]
-    }
+/// An element with a length of two octets.
+fn long(identifier: u8, contents: &[u8]) -> Vec<u8> {
+    let [high, low] = (contents.len() as u16).to_be_bytes();
+    [&[identifier, high, low], contents].concat()
 }
 
 /// One request without a container: the clear part, and if `whole` its hidden elements too.
-fn single(record: &Record, a: usize, whole: bool) -> Written {
+fn single(record: &Record, a: usize, identity: &[u8], whole: bool) -> Vec<u8> {
     let access = &record.access[a];
-    let gutis = gutis(record);
-    let held = [record.access[0].guti.is_some(), record.access[1].guti.is_some()];
-    let pending = network_of(&access.pending);
-    let identity = identity(&gutis, held, &record.suci, a, &pending, &access.equivalents);
-    let mut out = Written::new();
-    out.put(&[0x7E, 0x00, 0x41, access.ksi * 16 + access.regtype, 0, identity.len() as u8]);
-    out.put(identity);
+    let fourth = access.ksi * 16 + access.regtype;
+    let mut out = vec![0x7E, 0x00, 0x41, fourth, 0, identity.len() as u8];
+    out.extend(identity);
     if whole {
-        out.put(&[0x10, record.capability.len() as u8]);
-        out.put(&record.capability);
+        out.extend(short(0x10, &record.capability));
     }
-    out.put(&[0x2E, record.security.len() as u8]);
-    out.put(&record.security);
+    out.extend(short(0x2E, &record.security));
     if let (true, Some(area)) = (whole, access.last) {
-        out.put(&[0x52]);
-        out.put(&area);
+        out.push(0x52);
+        out.extend(area);
     }
     if whole && access.regtype != INITIAL {
-        let [u1, u2] = access.uplink;
-        let [s1, s2] = access.sessions;
         if access.uplink != [0; 2] {
-            out.put(&[0x40, 2, u1, u2]);
+            out.extend(short(0x40, &access.uplink));
         }
-        out.put(&[0x50, 2, s1, s2]);
+        out.extend(short(0x50, &access.sessions));
     }
     out
 }
 
-/// The clear part, and with a key set the whole request in a container behind it.
-fn build(record: &Record, a: usize) -> Written {
-    let mut out = single(record, a, false);
+/// What the mapped case adds: 77 with document 01's GUTI if one is held, 2B that says "not in
+/// EMM-REGISTERED", and 70 with the attach message if there is one.
+fn added(best: Option<Guti>, attach: &[u8]) -> Vec<u8> {
+    let mut out = Vec::new();
+    if let Some(guti) = best {
+        out.extend(long(0x77, &identity::sent(&guti)));
+    }
+    out.extend(short(0x2B, &[0x00]));
+    if !attach.is_empty() {
+        out.extend(long(0x70, attach));
+    }
+    out
+}
+
+/// The clear part, and with a key set the whole request in a container behind it. What the mapped
+/// case adds comes last in both.
+fn build(record: &Record, a: usize, s1: &S1, attach: &[u8]) -> Vec<u8> {
+    let best = identity::best(record, a);
+    let (identity, last) = match (identity::from_s1(record, a, s1), best) {
+        (Some(guti), best) => (identity::sent(&guti).to_vec(), added(best, attach)),
+        (None, Some(guti)) => (identity::sent(&guti).to_vec(), vec![]),
+        (None, None) => (record.suci.to_vec(), vec![]),
+    };
+    let request = |whole| [single(record, a, &identity, whole), last.clone()].concat();
+    let mut out = request(false);
     if record.access[a].ksi != NO_KEY {
-        let whole = single(record, a, true);
-        let [high, low] = (whole.used as u16).to_be_bytes();
-        out.put(&[0x71, high, low]);
-        out.put(whole.octets());
+        out.extend(long(0x71, &request(true)));
     }
     out
 }
 
-/// Writes the request into the lent buffer and gives its length, or answer 1, 6 or 12.
-pub fn write(record: &Record, access: u8, buffer: &mut [u8]) -> Result<usize, u8> {
-    if access > 1 {
+/// Writes the request into the lent buffer and gives its length, or answer 1, 6 or 12. An attach
+/// message that is too long is refused even where it would not be sent.
+pub fn write(
+    record: &Record,
+    access: u8,
+    s1: S1,
+    attach: &[u8],
+    buffer: &mut [u8],
+) -> Result<usize, u8> {
+    if access > 1 || attach.len() > LONGEST_ATTACH {
         return Err(RANGE);
     }
     let a = access as usize;
     if record.access[a].state != INITIATED {
         return Err(STATE);
     }
-    let out = build(record, a);
-    let place = buffer.get_mut(..out.used).ok_or(SHORT)?;
-    place.copy_from_slice(out.octets());
-    Ok(out.used)
+    let out = build(record, a, &s1, attach);
+    let place = buffer.get_mut(..out.len()).ok_or(SHORT)?;
+    place.copy_from_slice(&out);
+    Ok(out.len())
 }
 
 /// What a request says, each part by its place in the outermost octets.
@@ -139,6 +126,12 @@ pub struct Request {
     pub area: Option<Range<usize>>,
     pub uplink: Option<Range<usize>>,
     pub sessions: Option<Range<usize>>,
+    /// The GUTI in 77, with its F2.
+    pub additional: Option<Range<usize>>,
+    /// The octet of 2B.
+    pub status: Option<Range<usize>>,
+    /// The message in 70.
+    pub attach: Option<Range<usize>>,
 }
 
 /// Reads a request back, elements in any order; with a request in its container, that one. The
@@ -164,13 +157,16 @@ pub fn read(octets: &[u8]) -> Result<Request, Fault> {
     request.ok_or(Fault { number: UNFIT, at: 0 })
 }
 
+/// The elements that are looked at, the container last.
+const KNOWN: [u8; 9] = [0x10, 0x2E, 0x52, 0x40, 0x50, 0x77, 0x2B, 0x70, 0x71];
+
 /// One of the requests in one another, as far as it is read.
 #[derive(Default)]
 struct Level {
     fourth: u8,
     identity: Range<usize>,
-    /// Where the contents of the first 10, 2E, 52, 40, 50 and 71 lie.
-    first: [Option<Range<usize>>; 6],
+    /// Where the contents of the first of each known element lie.
+    first: [Option<Range<usize>>; KNOWN.len()],
     fault: Option<Fault>,
 }
 
@@ -196,8 +192,7 @@ impl Level {
         while !rest.is_empty() {
             let (identifier, contents) = element(octets, &mut rest, Within::Request)?;
             let end = octets.len() - rest.len();
-            let known = [0x10, 0x2E, 0x52, 0x40, 0x50, 0x71];
-            if let Some(kind) = known.iter().position(|&known| known == identifier) {
+            if let Some(kind) = KNOWN.iter().position(|&known| known == identifier) {
                 self.first[kind].get_or_insert(end - contents.len()..end);
             }
         }
@@ -206,7 +201,7 @@ impl Level {
 
     /// The contents of the container; an empty one is absent, even if a full one follows.
     fn container(&self) -> Option<Range<usize>> {
-        self.first[5].clone().filter(|part| !part.is_empty())
+        self.first[KNOWN.len() - 1].clone().filter(|part| !part.is_empty())
     }
 
     /// What a well-formed request says by itself; None if it breaks the layout.
@@ -219,7 +214,8 @@ impl Level {
         {
             return None;
         }
-        let [capability, security, area, uplink, sessions, _] = self.first.clone();
+        let [capability, security, area, uplink, sessions, additional, status, attach, _] =
+            self.first.clone();
         let capability = capability.filter(|part| !part.is_empty());
         let security = security.filter(|part| part.len() >= 2)?;
         if capability.as_ref().is_some_and(|part| part.len() > 13) || security.len() > 8 {
@@ -232,8 +228,11 @@ impl Level {
             capability,
             security,
             area,
-            uplink: uplink.and_then(statuses),
-            sessions: sessions.and_then(statuses),
+            uplink: front(uplink, 2),
+            sessions: front(sessions, 2),
+            additional: front(additional, 11).filter(|part| octets[part.start] == 0xF2),
+            status: front(status, 1),
+            attach: attach.filter(|part| !part.is_empty()),
         })
     }
 }
@@ -247,7 +246,8 @@ fn identified(identity: &[u8]) -> bool {
     }
 }
 
-/// The two octets of 40 or 50 in its contents; further ones are ignored, fewer are none.
-fn statuses(contents: Range<usize>) -> Option<Range<usize>> {
-    (contents.len() >= 2).then_some(contents.start..contents.start + 2)
+/// The first octets of an element's contents; further ones are ignored, fewer are none.
+fn front(contents: Option<Range<usize>>, count: usize) -> Option<Range<usize>> {
+    let part = contents.filter(|part| part.len() >= count)?;
+    Some(part.start..part.start + count)
 }

@@ -1,8 +1,11 @@
 // Scenarios worked out by hand from document 01 and requests R-1, R-2, R-3, R-5, R-6, R-8, R-9,
-// R-12 and R-14: rustc --test docs/src/main.rs
+// R-12 and R-14, in editions.rs those of R-7: rustc --test docs/src/main.rs
+
+mod editions;
 
 use crate::card;
 use crate::cells;
+use crate::identity::S1;
 use crate::log::{apply, Input, Next};
 use crate::message::{self, Fault, Message, Reject, Span};
 use crate::record::*;
@@ -28,7 +31,7 @@ const LISTING: [u8; 70] = [
 fn limited(limit: u8) -> Record {
     let limits = Limits { card: limit, ban: limit, n1: limit };
     let mut record = Record::new(limits, &[0x00], &[0xF0, 0xF0]);
-    assert_eq!(record.card(HOME, &SUCI).answer, 0);
+    assert_eq!(record.card(1, HOME, &SUCI).answer, 0);
     record
 }
 
@@ -328,7 +331,7 @@ fn bans() {
 /// Limits 2, 3 and 4, and a card.
 fn apart() -> Record {
     let mut record = Record::new(Limits { card: 2, ban: 3, n1: 4 }, &[0x00], &[0xF0, 0xF0]);
-    assert_eq!(record.card(HOME, &SUCI).answer, 0);
+    assert_eq!(record.card(1, HOME, &SUCI).answer, 0);
     record
 }
 
@@ -414,7 +417,7 @@ fn seventeenth() {
         assert_eq!(reject(&mut record, a, 0, cause), Reply::of(4));
         assert_eq!(text(&record), before);
         assert_eq!(reject(&mut record, a, 0, 22).answer, 0);
-        assert_eq!(record.card(HOME, &SUCI).answer, 0);
+        assert_eq!(record.card(1, HOME, &SUCI).answer, 0);
         assert_eq!(start(&mut record, a, AWAY), 0);
         assert_eq!(reject(&mut record, a, 0, cause).answer, 0);
         assert_eq!(record.access[a as usize].entries.len(), 1);
@@ -630,7 +633,7 @@ fn starts() {
     ] {
         assert_eq!(start(&mut record, 0, bad), 1);
     }
-    record.card(HOME, &SUCI);
+    record.card(1, HOME, &SUCI);
     for (state, answer) in [(0, 5), (1, 0), (2, 0), (3, 0), (4, 6), (5, 6), (6, 0)] {
         let mut record = record;
         record.access[0].state = state;
@@ -825,14 +828,14 @@ fn cards() {
         [(AWAY, &suci[..8]), (AWAY, &[1; 65]), (AWAY, &suci[1..]), ([0xA0, 0, 0], &suci[..])]
     {
         let before = text(&record);
-        assert_eq!(record.card(home, suci), Reply::of(1));
+        assert_eq!(record.card(1, home, suci), Reply::of(1));
         assert_eq!(text(&record), before);
     }
     let mut expected = Reply::of(0);
     for timer in [T3502, T3502 + 1, T3247] {
         expected.timers[timer] = Change::Stopped;
     }
-    assert_eq!(record.card(AWAY, &suci), expected);
+    assert_eq!(record.card(1, AWAY, &suci), expected);
     let mut new = Record::new(record.limits, &[0x00], &[0xF0, 0xF0]);
     new.card = true;
     new.home = AWAY;
@@ -886,17 +889,26 @@ fn octets(text: &str) -> Vec<u8> {
     text.split_whitespace().map(|octet| u8::from_str_radix(octet, 16).unwrap()).collect()
 }
 
-fn written(record: &Record, a: u8) -> Vec<u8> {
-    let mut buffer = [0xEE; request::LONGEST + 1];
-    let length = request::write(record, a, &mut buffer).unwrap();
+/// The request with these lent, into buffers that are longer, shorter and just fit.
+fn written_with(record: &Record, a: u8, s1: S1, attach: &[u8]) -> Vec<u8> {
+    let write = |buffer: &mut [u8]| request::write(record, a, s1, attach, buffer);
+    let mut buffer = vec![0xEE; request::LONGEST_FROM_S1 + 1];
+    let length = write(&mut buffer).unwrap();
     assert!(buffer[length..].iter().all(|&octet| octet == 0xEE));
     for short in [0, length - 1] {
         let mut buffer = vec![0xEE; short];
-        assert_eq!(request::write(record, a, &mut buffer), Err(12));
+        assert_eq!(write(&mut buffer), Err(12));
         assert!(buffer.iter().all(|&octet| octet == 0xEE));
     }
-    assert_eq!(request::write(record, a, &mut buffer[..length]), Ok(length));
-    buffer[..length].to_vec()
+    assert_eq!(write(&mut buffer[..length]), Ok(length));
+    buffer.truncate(length);
+    buffer
+}
+
+fn written(record: &Record, a: u8) -> Vec<u8> {
+    let octets = written_with(record, a, S1::default(), &[]);
+    assert!(octets.len() <= request::LONGEST);
+    octets
 }
 
 /// A clear part, and a request in a container behind it.
@@ -907,10 +919,12 @@ fn contained(clear: &[u8], whole: &[u8]) -> Vec<u8> {
 #[test]
 fn requests() {
     let mut record = limited(3);
-    assert_eq!(request::write(&record, 0, &mut [0; 200]), Err(6));
-    assert_eq!(request::write(&record, 0, &mut []), Err(6));
-    assert_eq!(request::write(&record, 2, &mut [0; 200]), Err(1));
-    assert_eq!(request::write(&record, 2, &mut []), Err(1));
+    for (a, answer) in [(0, 6), (2, 1)] {
+        for length in [0, 200] {
+            let written = request::write(&record, a, S1::default(), &[], &mut vec![0; length]);
+            assert_eq!(written, Err(answer));
+        }
+    }
     start(&mut record, 0, AWAY);
     let plain = octets("7E 00 41 71 00 09 01 00 F1 10 F0 FF 00 00 07 2E 02 F0 F0");
     assert_eq!(written(&record, 0), plain);
@@ -1169,7 +1183,7 @@ fn valid(record: &Record) {
     let limits = record.limits;
     assert!([limits.card, limits.ban, limits.n1].iter().all(|limit| (1..=10).contains(limit)));
     assert!(is_network(&record.home));
-    assert!(record.t3512_length <= 35_712_000);
+    assert!(record.t3512_length <= 35_712_000 && (1..=3).contains(&record.edition));
     assert!(!record.card || (9..=64).contains(&record.suci.len()) && record.suci[0] == 1);
     for access in &record.access {
         assert!(access.state <= 6 && (access.state == 0 || record.card));
@@ -1252,7 +1266,7 @@ impl Draws {
             11 => record.key(a, self.below(8)),
             12 | 13 => self.update(record, a),
             _ => match self.below(40) {
-                0 => record.card(HOME, &SUCI),
+                0 => record.card(self.below(5), HOME, &SUCI),
                 1..=4 => record.power(),
                 5..=20 => record.timer(5, 0),
                 21..=26 => self.import(record),
@@ -1562,7 +1576,7 @@ fn due() {
     assert_eq!(accept(&mut record, 0), 0);
     assert_eq!(update(&mut record, 0, 3, AWAY), 6);
     out(&mut record, 5, 0);
-    assert_eq!(record.card(HOME, &SUCI).answer, 0);
+    assert_eq!(record.card(1, HOME, &SUCI).answer, 0);
     assert!(!record.due);
 }
 
@@ -1763,7 +1777,7 @@ fn power_and_card_stop_t3512() {
     other.due = true;
     assert_eq!(update(&mut other, 0, 2, NEAR), 0);
     other.t3512 = true;
-    assert_eq!(other.card(HOME, &SUCI).timers[T3512], Change::Stopped);
+    assert_eq!(other.card(1, HOME, &SUCI).timers[T3512], Change::Stopped);
     assert_eq!(text(&other), text(&limited(3)));
 }
 
@@ -1969,8 +1983,8 @@ fn full_line() {
     let parts = [
         "= 0 at 0 T3510 started:15 left T3511 left left T3502 left left T3346 left left \
          T3247 left T3512 stopped restart - leave - update -",
-        "card 1 home 00f110 suci 0100f110f0ff000007 limits 3 3 3 cap 00 sec f0f0 T3247 0 T3512 0 \
-         length 3240 due 0 roaming - regional -",
+        "card 1 home 00f110 suci 0100f110f0ff000007 limits 3 3 3 cap 00 sec f0f0 edition 1 \
+         T3247 0 T3512 0 length 3240 due 0 roaming - regional -",
         "0 state 4 status 1 attempts 0 T3510 1 T3511 0 T3502 0 length 720 T3346 0 \
          pending 62f22000002a type 2 uplink 2000 sessions a001 guti - last 00f22000002a ksi 7 \
          equivalents - cards 0 entries -",
@@ -2008,11 +2022,12 @@ fn request_lines() {
     start(&mut record, 0, AWAY);
     record.key(0, 3);
     let mut text = String::new();
-    crate::requests(&mut text, &record);
+    crate::requests(&mut text, &record, &crate::Lent::default());
     let head = "7e00413100090100f110f0ff000007";
     let lines = format!(
         "request 0 {head}2e02f0f0710016{head}1001002e02f0f0\n\
-         read 0 type 1 ksi 3 identity 0100f110f0ff000007 cap 00 sec f0f0 area - uplink - sessions -\n"
+         read 0 type 1 ksi 3 identity 0100f110f0ff000007 cap 00 sec f0f0 area - uplink - \
+         sessions - additional - status - attach -\n"
     );
     assert_eq!(text, lines);
 }
@@ -2599,6 +2614,9 @@ impl Nest {
             area: self.says.area.map(part),
             uplink: self.says.uplink.map(part),
             sessions: self.says.sessions.map(part),
+            additional: self.says.additional.map(part),
+            status: self.says.status.map(part),
+            attach: self.says.attach.map(part),
         };
         (says, self.containers.into_iter().map(|place| place + count).collect())
     }
@@ -2609,7 +2627,7 @@ fn append(octets: &mut Vec<u8>, identifier: u8, contents: &[u8]) -> Range<usize>
     let [high, low] = (contents.len() as u16).to_be_bytes();
     octets.push(identifier);
     match identifier {
-        0x71 => octets.extend([high, low]),
+        0x70 | 0x71 | 0x77 => octets.extend([high, low]),
         0x52 | 0x9F => {}
         _ => octets.push(low),
     }
@@ -2642,7 +2660,7 @@ impl Draws {
         let mut octets = self.head();
         let mut parts = BTreeMap::from([(0, 6..octets.len())]);
         let mut inner = None;
-        let mut kinds = vec![0x10, 0x2E, 0x52, 0x40, 0x50, 0x71, 0x9F];
+        let mut kinds = vec![0x10, 0x2E, 0x52, 0x40, 0x50, 0x77, 0x2B, 0x70, 0x71, 0x9F];
         while !kinds.is_empty() {
             let kind = kinds.swap_remove(self.below(kinds.len() as u64) as usize);
             let needed = kind == 0x2E || kind == 0x71 && depth > 0;
@@ -2655,6 +2673,8 @@ impl Draws {
                 0x2E => self.some(2, 8),
                 0x52 => self.many(6),
                 0x40 | 0x50 => self.some(0, 4),
+                0x77 => [vec![[0xF2, 0xF6][self.below(4) as usize / 3]], self.some(8, 12)].concat(),
+                0x2B | 0x70 => self.some(0, 3),
                 _ => vec![],
             };
             parts.insert(kind, append(&mut octets, kind, &contents));
@@ -2751,7 +2771,7 @@ fn nest_of(octets: Vec<u8>, parts: BTreeMap<u8, Range<usize>>, inner: Option<Nes
         return Nest { octets, says, containers };
     }
     let part = |kind, least| parts.get(&kind).cloned().filter(|part| part.len() >= least);
-    let status = |kind| part(kind, 2).map(|part| part.start..part.start + 2);
+    let front = |kind, count| part(kind, count).map(|part| part.start..part.start + count);
     let says = request::Request {
         regtype: octets[3] % 16,
         ksi: octets[3] / 16,
@@ -2759,8 +2779,11 @@ fn nest_of(octets: Vec<u8>, parts: BTreeMap<u8, Range<usize>>, inner: Option<Nes
         capability: part(0x10, 1),
         security: parts[&0x2E].clone(),
         area: part(0x52, 6),
-        uplink: status(0x40),
-        sessions: status(0x50),
+        uplink: front(0x40, 2),
+        sessions: front(0x50, 2),
+        additional: front(0x77, 11).filter(|part| octets[part.start] == 0xF2),
+        status: front(0x2B, 1),
+        attach: part(0x70, 1),
     };
     Nest { octets, says, containers: vec![] }
 }
@@ -3142,7 +3165,7 @@ fn power_and_card_stop_t3346() {
             assert!(record.access.iter().all(|access| !access.t3346));
             assert_eq!(start(record, 0, AWAY), if record.card { 0 } else { 5 });
         }
-        assert_eq!(record.card(HOME, &SUCI), expected);
+        assert_eq!(record.card(1, HOME, &SUCI), expected);
         assert_eq!(text(&record), text(&limited(3)));
         assert_eq!((start(&mut record, 0, AWAY), start(&mut record, 1, NEAR)), (0, 0));
     }
@@ -3305,8 +3328,8 @@ fn full_line_of_a_wait() {
     let parts = [
         "= 0 at 0 T3510 left stopped T3511 left left T3502 left left T3346 left started:1000 \
          T3247 left T3512 left restart - leave - update -",
-        "card 1 home 00f110 suci 0100f110f0ff000007 limits 3 3 3 cap 00 sec f0f0 T3247 0 T3512 0 \
-         length 3240 due 0 roaming - regional -",
+        "card 1 home 00f110 suci 0100f110f0ff000007 limits 3 3 3 cap 00 sec f0f0 edition 1 \
+         T3247 0 T3512 0 length 3240 due 0 roaming - regional -",
         "0 state 1 status 2 attempts 0 T3510 0 T3511 0 T3502 0 length 720 T3346 0 \
          pending 000000000000 type 1 uplink 0000 sessions 0000 guti - last - ksi 7 \
          equivalents - cards 0 entries -",
@@ -3653,7 +3676,7 @@ fn the_marks_of_events_choose() {
     let mut record = Record::new(Limits { card: 3, ban: 3, n1: 3 }, &[0x00], &[0xF0, 0xF0]);
     let tried = |record: &Record| [0, 1].map(|a| chosen(record, a, &[0x00F220], 1).unwrap().len());
     assert_eq!(tried(&record), [1, 1]);
-    record.card(HOME, &SUCI);
+    record.card(1, HOME, &SUCI);
     barred(&mut record, 0, 0, 12);
     assert_eq!((record.regional.len(), tried(&record)), (1, [1, 1]));
     assert_eq!(out(&mut record, 4, 0).answer, 0);
@@ -3914,7 +3937,7 @@ fn an_import_in_each_state() {
     imports(&mut bare, &[AWAY, HOME], &[new(AWAY), new(HOME)]);
     assert_eq!(bare.power(), Reply::of(0));
     assert_eq!(marks_of(&bare, 0), [(0, 0, true, false); 2]);
-    assert_eq!(bare.card(HOME, &SUCI).answer, 0);
+    assert_eq!(bare.card(1, HOME, &SUCI).answer, 0);
     assert!(bare.access[0].entries.is_empty());
 }
 
@@ -4122,7 +4145,7 @@ fn a_file_reads_back() {
         let spare = draws.below(4) as usize;
         let (file, count) = filed(&record, 3 * (marked.len() + spare)).unwrap();
         let mut later = Record::new(record.limits, &record.capability, &record.security);
-        assert_eq!(later.card(record.home, &SUCI).answer, 0);
+        assert_eq!(later.card(1, record.home, &SUCI).answer, 0);
         let entries: Vec<Entry> = marked.iter().copied().map(new).collect();
         imports(&mut later, file.as_chunks().0, &entries);
         assert_eq!(count, marked.len());
@@ -4474,7 +4497,7 @@ fn a_card_change_clears_the_order() {
         assert_eq!(out(&mut later, 4, 0).answer, 0);
         assert_eq!(reject(&mut later, a as u8, 0, cause).answer, 0);
         assert_eq!(seated(&later, a)[0], nth(16));
-        assert_eq!(record.card(HOME, &SUCI).answer, 0);
+        assert_eq!(record.card(1, HOME, &SUCI).answer, 0);
         assert!(record.access.iter().all(|access| access.order.is_empty()));
         for index in [16, 3, 8] {
             assert_eq!(turned_away(&mut record, a, nth(index), 0, cause), 0);
@@ -4534,7 +4557,7 @@ fn places_given_up_at_random() {
                 }
             }
             36 if draws.below(20) == 0 => {
-                assert_eq!(record.card(HOME, &SUCI).answer, 0);
+                assert_eq!(record.card(1, HOME, &SUCI).answer, 0);
                 stamps = [BTreeMap::new(), BTreeMap::new()];
             }
             37 => assert_eq!(record.power().answer, 0),
@@ -4584,13 +4607,14 @@ impl Draws {
             230..=236 => vec![4, 0, 4, 0],
             237 | 238 => vec![5, 0],
             239 if self.below(9) == 0 => [&[1, 0], &HOME[..], &SUCI].concat(),
+            240 if self.below(9) == 0 => [&[11, 0, 2], &HOME[..], &SUCI].concat(),
             _ => vec![4, 0, [1, 2, 3, 6][self.below(4) as usize], a],
         }
     }
 
     /// Of the other access's events and T3247 some are left out or altered, and some are put in.
     fn altered(&mut self, octets: &[u8], w: u8) -> Events {
-        let free = whose(octets) != Some(w) && !matches!(octets[0], 1 | 5);
+        let free = whose(octets) != Some(w) && !matches!(octets[0], 1 | 5 | 11);
         match self.below(60) {
             0 if free => vec![],
             1 if free => vec![self.logged(1 - w)],
@@ -4603,7 +4627,7 @@ impl Draws {
 /// The access that an event is of; None for a card, a power cycle and T3247, which are of both.
 fn whose(octets: &[u8]) -> Option<u8> {
     match octets {
-        [1 | 5, ..] | [4, _, 4, _] => None,
+        [1 | 5 | 11, ..] | [4, _, 4, _] => None,
         [10, ..] => Some(0),
         [4, _, _, access] => Some(*access),
         _ => Some(octets[2]),

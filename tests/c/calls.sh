@@ -3,7 +3,7 @@ warned=(-Wall -Wextra -Werror -Wconversion -pedantic -Iinclude)
 strict=(-std=c11 "${warned[@]}")
 
 # bounds: each call and the most stack that it may take, by the table of tests/c/stack.c.
-bounds() { sed -n 's/^    {"\([a-z_]*\)", \([0-9]*\),.*/\1 \2/p' tests/c/stack.c; }
+bounds() { sed -n 's/^    {"\([a-z0-9_]*\)", \([0-9]*\),.*/\1 \2/p' tests/c/stack.c; }
 
 # works COMPILER [WORDS]: it builds a program, and that runs; LANGUAGE is c if it does not say c++.
 works() {

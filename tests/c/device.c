@@ -3,7 +3,8 @@
  * device waits for T3247 each time and tries again, until the ban counter is at its limit and it stays quiet. Of the cells that it hears it then tries the first that it may:
  * home. In a busy hour the network asks for ten minutes there, and the device waits. Then the network takes it, after an accept that lost its last octet, and it moves: a
  * mobility update in the next area, and a periodic one once T3512 has run out. It writes the card's file, which forbids the same networks for a record just given that card.
- * Last it has a new card and goes a long way: sixteen networks turn it away, and the seventeenth finds a place once T3247 has lifted their marks.
+ * Then it has a new card and goes a long way: sixteen networks turn it away, and the seventeenth finds a place once T3247 has lifted their marks.
+ * Last it has a card of edition 2 and comes from 4G: it opens with the GUTI mapped from its 4G-GUTI, and adds its own, its UE status and the attach message.
  * Its ten timers go as the notices tell. It writes what it was told to a log, from which the lab's program replays the same states.
  * Usage: device LOG; the states go to standard output as the lab's program prints them.
  */
@@ -38,7 +39,7 @@ struct device {
     struct tjernfaug_record record;
     struct tjernfaug_notice notice;
     uint32_t now, ends[TJERNFAUG_SLOTS];
-    uint8_t body[TJERNFAUG_LONGEST_CARD];
+    uint8_t body[TJERNFAUG_LONGEST_CARD_EDITION];
     FILE *log;
     unsigned events;
 };
@@ -231,6 +232,58 @@ static int passes(struct device *d)
         && e->nets[0] == tjernfaug_network(5, 16, 2) && e->bans[0] == 1 && e->forbidden[0] == 1 && e->ranks[0] == 15 && e->ranks[1] == 0 && e->forbidden[1] == 0;
 }
 
+/* What the device brings from 4G, and the attach message that it had last. */
+static const struct tjernfaug_s1 from_4g = {1, 1, 1, 1, 0, {0x00, 0xF1, 0x10, 0x80, 0x01, 0xC5, 0xD1, 0xC2, 0xB3, 0xA4}};
+static const uint8_t attach[] = {0x07, 0x41};
+
+/* An accept that gives a 5G-GUTI, with which the device would else open. */
+static const uint8_t given[] = {0x7E, 0x00, 0x42, 0x01, 0x01, 0x77, 0x00, 0x0B, 0xF2, 0x00, 0xF2, 0x20, 0x11, 0x22, 0x83, 0x0A, 0x0B, 0x0C, 0x0D};
+static const uint8_t opening[] = {0x7E, 0x00, 0x41, 0x71, 0x00, 0x0B, 0xF2, 0x00, 0xF2, 0x20, 0x11, 0x22, 0x83, 0x0A, 0x0B, 0x0C, 0x0D, 0x2E, 0x02, 0xF0, 0xF0};
+
+/* With ngKSI 7: the mapped GUTI, 2E, then 77, 2B and 70. With ngKSI 0 the same three stand before 71 and end what it holds. */
+static const uint8_t mapped[] = {
+    0x7E, 0x00, 0x41, 0x71, 0x00, 0x0B, 0xF2, 0x00, 0xF1, 0x10, 0x80, 0x01, 0xC5, 0xD1, 0xC2, 0xB3, 0xA4, 0x2E, 0x02, 0xF0, 0xF0,
+    0x77, 0x00, 0x0B, 0xF2, 0x00, 0xF2, 0x20, 0x11, 0x22, 0x83, 0x0A, 0x0B, 0x0C, 0x0D, 0x2B, 0x01, 0x00, 0x70, 0x00, 0x02, 0x07, 0x41,
+};
+static const uint8_t hidden[] = {
+    0x7E, 0x00, 0x41, 0x01, 0x00, 0x0B, 0xF2, 0x00, 0xF1, 0x10, 0x80, 0x01, 0xC5, 0xD1, 0xC2, 0xB3, 0xA4, 0x2E, 0x02, 0xF0, 0xF0,
+    0x77, 0x00, 0x0B, 0xF2, 0x00, 0xF2, 0x20, 0x11, 0x22, 0x83, 0x0A, 0x0B, 0x0C, 0x0D, 0x2B, 0x01, 0x00, 0x70, 0x00, 0x02, 0x07, 0x41, 0x71, 0x00, 0x35,
+    0x7E, 0x00, 0x41, 0x01, 0x00, 0x0B, 0xF2, 0x00, 0xF1, 0x10, 0x80, 0x01, 0xC5, 0xD1, 0xC2, 0xB3, 0xA4, 0x10, 0x01, 0x00, 0x2E, 0x02, 0xF0, 0xF0,
+    0x52, 0x00, 0xF2, 0x20, 0x00, 0x00, 0x2A,
+    0x77, 0x00, 0x0B, 0xF2, 0x00, 0xF2, 0x20, 0x11, 0x22, 0x83, 0x0A, 0x0B, 0x0C, 0x0D, 0x2B, 0x01, 0x00, 0x70, 0x00, 0x02, 0x07, 0x41,
+};
+
+/* The device sends these octets with these facts lent. A refusal stores the length 0 and leaves the buffer. */
+static int brings(const struct device *d, const struct tjernfaug_s1 *s1, const uint8_t *octets, size_t len)
+{
+    static const uint8_t endless[TJERNFAUG_LONGEST_ATTACH + 1];
+    uint8_t sent[sizeof hidden + 1], kept[sizeof sent];
+    uint64_t none[] = {7, 7}, written = 7;
+    memset(sent, 0xA5, sizeof sent);
+    memset(kept, 0xA5, sizeof kept);
+    return tjernfaug_request_from_s1(&d->record, 0, s1, attach, sizeof attach, sent, len - 1, &none[0]) == TJERNFAUG_ANSWER_SHORT && none[0] == 0
+        && tjernfaug_request_from_s1(&d->record, 0, s1, endless, sizeof endless, sent, sizeof sent, &none[1]) == TJERNFAUG_ANSWER_RANGE && none[1] == 0
+        && memcmp(sent, kept, sizeof sent) == 0 && taken(tjernfaug_request_from_s1(&d->record, 0, s1, attach, sizeof attach, sent, sizeof sent, &written))
+        && written == len && memcmp(sent, octets, len) == 0 && memcmp(sent + len, kept, sizeof sent - len) == 0;
+}
+
+static uint32_t card_of(struct device *d, uint8_t edition)
+{
+    return hand(d, TJERNFAUG_KIND_CARD_EDITION, d->body, tjernfaug_body_card_edition(edition, HOME, suci, sizeof suci, d->body, sizeof d->body));
+}
+
+/* A card of edition 2, which a power cycle leaves, and a 5G-GUTI from another network. The mapped GUTI opens the next request if no fact is missing. */
+static int comes(struct device *d)
+{
+    struct tjernfaug_s1 lacking = from_4g;
+    lacking.context = 0;
+    return card_of(d, 4) == TJERNFAUG_ANSWER_RANGE && taken(card_of(d, TJERNFAUG_EDITION_SOURCE_002)) && taken(start(d, AWAY))
+        && taken(heard(d, 1, given, sizeof given)) && taken(hand(d, TJERNFAUG_KIND_POWER, d->body, TJERNFAUG_BODY_POWER))
+        && d->record.hot.dev.edition == TJERNFAUG_EDITION_SOURCE_002 && taken(start(d, HOME)) && sends(d, opening, sizeof opening)
+        && brings(d, &lacking, opening, sizeof opening) && brings(d, &from_4g, mapped, sizeof mapped)
+        && taken(key(d)) && brings(d, &from_4g, hidden, sizeof hidden) && taken(heard(d, 1, accept, sizeof accept));
+}
+
 int main(int argc, char **argv)
 {
     static const struct { int (*part)(struct device *); const char *told; } story[] = {
@@ -241,6 +294,7 @@ int main(int argc, char **argv)
         {moves, "registered, moved, and updated"},
         {stores, "two networks in the card's file"},
         {passes, "sixteen entries, and the seventeenth network in the place of the first"},
+        {comes, "from 4G with a mapped GUTI"},
     };
     static struct device d;
     if (argc != 2 || !(d.log = fopen(argv[1], "wb")))

@@ -1,6 +1,6 @@
 // The calls that the fuzz run makes, drawn: on a record that lives on events which are often right, and on records changed from it.
-use crate::second::{self, triple, CAccess, CEntries, CNotice, CRecord, Plain};
-use crate::{BAR, CAUSE, CELLS, EVENT, FORBIDDEN, IMPORT, NEW, REQUEST, UNUSED};
+use crate::second::{self, triple, CAccess, CEntries, CNotice, CRecord, Plain, CS1};
+use crate::{ATTACH, BAR, CARD, CAUSE, CELLS, EDITION, EVENT, FORBIDDEN, FROM_S1, IMPORT, NEW, REQUEST, UNUSED};
 
 const BODY: u32 = 96;
 /// Above the longest request.
@@ -23,6 +23,8 @@ pub struct Ask {
     pub kind: u32,
     pub record: CRecord,
     pub notice: CNotice,
+    pub s1: CS1,
+    pub length: u64,
     pub arrays: [Vec<u8>; 2],
     /// The place over access 0 that the event's network is to take from another.
     pub takes: Option<usize>,
@@ -82,20 +84,26 @@ impl Draw {
     }
 
     fn ask(&mut self, call: u8, record: CRecord) -> Ask {
-        let mut notice = CNotice::zero();
+        let (mut notice, mut s1) = (CNotice::zero(), CS1::zero());
         self.scatter(notice.octets_mut());
-        Ask { call, gaps: self.octet(256), small: [0; 3], kind: 0, record, notice, arrays: [vec![], vec![]], takes: None }
+        self.scatter(s1.octets_mut());
+        let length = (self.next() as u64) << 32 | self.next() as u64;
+        Ask { call, gaps: self.octet(256), small: [0; 3], kind: 0, record, notice, s1, length, arrays: [vec![], vec![]], takes: None }
     }
 
     fn hand(&mut self, record: CRecord, (kind, body): (u32, Vec<u8>)) -> Ask {
         Ask { kind, arrays: [body, vec![]], ..self.ask(EVENT, record) }
     }
 
-    /// A buffer of any length, or one that ends about where a part of the request does.
-    fn request(&mut self, record: CRecord, access: u8) -> Ask {
-        let (any, end) = (self.below(BUFFER + 1), ends(&record, access)[self.below(4) as usize]);
+    /// A buffer of any length up to one, or one that ends about where a part of the request does.
+    fn buffer(&mut self, most: u32, ends: [u32; 4]) -> Vec<u8> {
+        let (any, end) = (self.below(most + 1), ends[self.below(4) as usize]);
         let len = [any, end - 1, end, end + 1][self.below(4) as usize];
-        let buffer = self.octets(len);
+        self.octets(len)
+    }
+
+    fn request(&mut self, record: CRecord, access: u8) -> Ask {
+        let buffer = self.buffer(BUFFER, ends(&record, access, None));
         Ask { small: [access, 0, 0], arrays: [buffer, vec![]], ..self.ask(REQUEST, record) }
     }
 
@@ -108,14 +116,22 @@ fn number([a, b, c]: [u8; 3]) -> u32 {
     u32::from_be_bytes([0, a, b, c])
 }
 
-/// Where a request's parts end by R-3: the clear part, 71 with its length, and, drawn twice as often, the whole.
-fn ends(r: &CRecord, access: u8) -> [u32; 4] {
+/// Where a request's parts end by R-3: the clear part, 71 with its length, and, drawn twice as often, the whole. In R-7's mapped case so much is added to both parts.
+fn ends(r: &CRecord, access: u8, added: Option<u32>) -> [u32; 4] {
     let a = r.access[access as usize % 2];
-    let identity = if r.access.iter().any(|a| a.guti == 1) { 11 } else { r.dev.suci as u32 };
-    let clear = 6 + identity + 2 + r.dev.security as u32;
+    let guti = added.is_some() || r.access.iter().any(|a| a.guti == 1);
+    let identity = if guti { 11 } else { r.dev.suci as u32 };
+    let clear = 6 + identity + 2 + r.dev.security as u32 + added.unwrap_or(0);
     let statuses = if a.regtype == 1 { 0 } else { 4 + 4 * (a.uplink != 0) as u32 };
     let inner = clear + 2 + r.dev.capability as u32 + 7 * a.visited as u32 + statuses;
     if a.ksi == 7 { [clear; 4] } else { [clear, clear + 3, clear + 3 + inner, clear + 3 + inner] }
+}
+
+/// The same of a call that lends what comes from 4G: 77, if a GUTI is held, 2B and 70, if there is an attach message, are added in the mapped case.
+pub fn ends_from_s1(r: &CRecord, access: u8, s1: &CS1, attach: u32) -> [u32; 4] {
+    let guti = r.access.iter().any(|a| a.guti == 1);
+    let added = 14 * guti as u32 + 3 + (3 + attach) * (attach > 0) as u32;
+    ends(r, access, second::mapped(r, access, s1).then_some(added))
 }
 
 fn random(d: &mut Draw) -> CRecord {
@@ -147,8 +163,21 @@ pub fn first(d: &mut Draw) -> Vec<Ask> {
     vec![fitting(d, record)]
 }
 
-fn card(last: u8) -> Vec<u8> {
-    vec![0x00, 0xF1, 0x10, 0x01, 0x00, 0xF1, 0x10, 0xF0, 0xFF, 0x00, 0x00, last]
+/// A card: as kind 1, or as kind 11 with an edition, mostly one that there is.
+fn card(d: &mut Draw) -> (u32, Vec<u8>) {
+    let (last, known, any) = (d.octet(256), 1 + d.octet(3), [0, 4, d.octet(256)][d.below(3) as usize]);
+    let body = vec![0x00, 0xF1, 0x10, 0x01, 0x00, 0xF1, 0x10, 0xF0, 0xFF, 0x00, 0x00, last];
+    let edition = if d.below(4) == 0 { any } else { known };
+    if d.below(3) == 0 { (CARD, body) } else { (EDITION, [&[edition], &body[..]].concat()) }
+}
+
+/// A card of kind 11 with a SUCI of any length, often at an end of its range or next to it.
+fn long_card(d: &mut Draw) -> (u32, Vec<u8>) {
+    let (edition, any) = (d.octet(5), 1 + d.below(BODY));
+    let len = [8, 9, 64, 65, any][d.below(5) as usize];
+    let mut suci = d.octets(len);
+    suci[0] = 1;
+    (EDITION, [&[edition, 0x00, 0xF1, 0x10][..], &suci].concat())
 }
 
 /// An accept: an equivalent network, T3502, often a GUTI and T3512.
@@ -286,7 +315,7 @@ fn event(d: &mut Draw) -> (u32, Vec<u8>) {
     let net = NETS[d.below(6) as usize];
     let (access, sure, any) = (d.octet(2), d.octet(2), d.octet(256));
     match d.below(21) {
-        0 if d.below(20) == 0 => (1, card(any)),
+        0 if d.below(20) == 0 => card(d),
         0 => (5, vec![]),
         1 => (6, vec![access, any & 7]),
         2..=4 => (4, vec![[1, 2, 3, 4, 5, 6, d.octet(8)][d.below(7) as usize], access]),
@@ -309,7 +338,7 @@ fn bent(d: &mut Draw, octet: u8) -> u8 {
 /// Any octets as a body; or a right one whose kind has a high bit too, which has an octet more or less, or another one in an octet's place.
 fn wild(d: &mut Draw) -> (u32, Vec<u8>) {
     if d.below(4) > 0 {
-        let (kind, len) = (d.below(12), d.below(BODY + 1));
+        let (kind, len) = (d.below(13), d.below(BODY + 1));
         return (kind, d.octets(len));
     }
     let (kind, mut body) = event(d);
@@ -338,7 +367,7 @@ fn filled(d: &mut Draw, live: &CRecord) -> CRecord {
     (r.roaming, r.regional, r.dev.roaming, r.dev.regional, r.dev.t3247) = (roaming, regional, d.upto(40), d.upto(40), d.upto(1));
     (r.dev.card, r.dev.suci, r.suci[0]) = (1, 9 + d.upto(55), 1);
     (r.dev.t3512, r.dev.due, r.dev.t3512length) = (d.upto(1), d.upto(1), [0, 3240, MOST, d.below(MOST + 1)][d.below(4) as usize]);
-    r.equivalents = [0; 2].map(|_| [0; 15].map(|_| d.net()));
+    (r.equivalents, r.dev.edition) = ([0; 2].map(|_| [0; 15].map(|_| d.net())), 1 + d.octet(3));
     for (a, e) in r.access.iter_mut().zip(&mut r.entries) {
         fill(d, r.dev.limits, a, e);
     }
@@ -386,17 +415,18 @@ fn rank(d: &mut Draw, count: usize, ranks: &mut [u8; 16]) {
     }
 }
 
-/// The record with one number of an update, of T3512 or of T3346 about the ends of its range, half the time outside it.
+/// The record with one number of an update, of T3512 or of T3346, or its edition, about the ends of its range, half the time outside it.
 fn strained(d: &mut Draw, full: &CRecord) -> CRecord {
     let (mut r, at) = (*full, d.below(2) as usize);
     let a = &mut r.access[at];
-    match d.below(7) {
+    match d.below(8) {
         0 => a.regtype = d.octet(6),
         1 => a.uplink |= d.below(2) as u16,
         2 => a.sessions |= d.below(2) as u16,
         3 => r.dev.t3512 = d.octet(3),
         4 => r.dev.due = d.octet(3),
         5 => a.t3346 = [0, 1, 2, d.octet(256)][d.below(4) as usize],
+        6 => r.dev.edition = [0, 1, 3, 4, d.octet(256)][d.below(5) as usize],
         _ => r.dev.t3512length = [MOST - 1, MOST, MOST + 1, d.below(MOST) | 1 << (26 + d.below(6))][d.below(4) as usize],
     }
     r
@@ -452,7 +482,7 @@ fn stretch(r: &mut CRecord, at: usize) {
 }
 
 /// A record that is often one that writes a request: with a key set and without, of each type, an identity of each kind, with and without a last area, lengths from end to end.
-fn writing(d: &mut Draw, live: &CRecord) -> Ask {
+fn writer(d: &mut Draw, live: &CRecord) -> (CRecord, u8) {
     let mut r = *live;
     let at = d.below(2) as usize;
     d.scatter(&mut r.capability);
@@ -479,8 +509,53 @@ fn writing(d: &mut Draw, live: &CRecord) -> Ask {
     if d.below(16) == 0 {
         stretch(&mut r, at);
     }
-    let access = if d.below(20) == 0 { d.octet(256) } else { at as u8 };
+    (r, if d.below(20) == 0 { d.octet(256) } else { at as u8 })
+}
+
+fn writing(d: &mut Draw, live: &CRecord) -> Ask {
+    let (r, access) = writer(d, live);
     d.request(r, access)
+}
+
+/// What a device may bring from 4G: half the time all facts, else mostly all but one. A yes is any number but 0.
+fn facts(d: &mut Draw) -> CS1 {
+    let mut s1 = CS1::zero();
+    d.scatter(&mut s1.guti);
+    s1.facts = [0; 5].map(|_| [1, 255, 1 + d.octet(255)][d.below(3) as usize]);
+    let (one, some) = (d.below(5) as usize, d.octet(32));
+    match d.below(8) {
+        0 => (0..5).for_each(|i| s1.facts[i] *= some >> i & 1),
+        1..=3 => s1.facts[one] = 0,
+        _ => {}
+    }
+    s1
+}
+
+/// A request of a device that may come from 4G: mostly an edition that there is, an initial registration more often than not, and an attach message of no octets, a few, some
+/// hundred, or, of one in thirty-two each, as many as there may be and one more. With as many as there may be all that the mapped case has is at its longest.
+fn lending(d: &mut Draw, live: &CRecord) -> Ask {
+    let ((mut r, access), mut s1) = (writer(d, live), facts(d));
+    let at = access as usize % 2;
+    let (few, some, way) = (1 + d.below(40), 200 + d.below(400), d.below(32));
+    let attach = match way {
+        0 => ATTACH,
+        1 => ATTACH + 1,
+        2..=3 => some,
+        4..=9 => 0,
+        _ => few,
+    };
+    r.dev.edition = if d.below(16) == 0 { [0, 4][d.below(2) as usize] } else { [1, 2, 2, 3][d.below(4) as usize] };
+    r.access[at].regtype = if d.below(4) == 0 { r.access[at].regtype } else { 1 };
+    if d.below(8) == 0 {
+        (r.access[at].state, r.access[at].t3510) = (5 * r.dev.card, 0);
+    }
+    if way == 0 {
+        (r.dev.edition, r.dev.capability, r.dev.security, s1.facts) = (2 + d.octet(2), 13, 8, [1; 5]);
+        (r.access[at].regtype, r.access[at].guti, r.access[at].visited, r.access[at].ksi) = (1, 1, 1, 7 * d.octet(2));
+    }
+    let ends = ends_from_s1(&r, access, &s1, attach);
+    let arrays = [d.octets(attach), d.buffer(2 * ends[3], ends)];
+    Ask { small: [access, 0, 0], s1, arrays, ..d.ask(FROM_S1, r) }
 }
 
 /// A network heard: mostly of an entry of either access, in use or not; else heard before, unlike an entry's in one octet, or one of those that events name.
@@ -534,13 +609,20 @@ fn changed(d: &mut Draw, live: &CRecord, end: usize) -> CRecord {
     r
 }
 
+/// The requests of a round: of records made for them, with nothing lent and with what comes from 4G, and of these others.
+fn requests(d: &mut Draw, live: &CRecord, full: &CRecord, others: [CRecord; 3], access: u8) -> Vec<Ask> {
+    let mut asks = vec![writing(d, live), lending(d, live), lending(d, full)];
+    asks.extend(others.map(|record| d.request(record, access)));
+    asks
+}
+
 /// The calls of a round. The record lives on what the first one makes of it.
 pub fn round(d: &mut Draw, live: &CRecord) -> Vec<Ask> {
     const HOT: usize = std::mem::offset_of!(CRecord, entries);
     const ALL: usize = size_of::<CRecord>();
     let (one, hot, full) = (changed(d, live, ALL), changed(d, live, HOT), filled(d, live));
     let (access, sure, right, again, any, other) = (d.octet(2), d.octet(2), event(d), event(d), wild(d), wild(d));
-    let often = if live.dev.card == 0 && d.below(4) > 0 { (1, card(access)) } else { right };
+    let (often, carded, long) = (if live.dev.card == 0 && d.below(4) > 0 { card(d) } else { right }, card(d), long_card(d));
     let (scattered, end) = (random(d), [HOT, ALL][d.below(2) as usize]);
     let (broken, odd, net) = (changed(d, &full, end), strained(d, &full), NETS[d.below(6) as usize]);
     let (misranked, cause) = (misranked(d, &full), [11, 73, 27, 72][d.below(4) as usize]);
@@ -548,14 +630,12 @@ pub fn round(d: &mut Draw, live: &CRecord) -> Vec<Ask> {
     let (said, asked, barred) = (heard(d, access, 1, &octets), heard(d, access, sure, &busy), heard(d, access, sure, &bar));
     let banned = heard(d, access, sure, &ban);
     let (over, marked) = ([*live, full, scattered][d.below(3) as usize], [*live, full, full, broken][d.below(4) as usize]);
-    vec![
+    let mut calls = vec![
         d.hand(*live, often),
-        writing(d, live),
-        d.request(one, access),
-        d.hand(one, (5, vec![])),
-        d.hand(hot, (5, vec![])),
         d.hand(*live, any),
         d.hand(scattered, other),
+        d.hand(full, carded),
+        d.hand(full, long),
         d.hand(full, again.clone()),
         d.hand(broken, again),
         d.hand(full, moving),
@@ -564,19 +644,14 @@ pub fn round(d: &mut Draw, live: &CRecord) -> Vec<Ask> {
         d.hand(full, barred),
         d.hand(full, banned.clone()),
         d.hand(misranked, banned),
-        d.hand(misranked, (5, vec![])),
-        d.request(misranked, access),
         tied(d, &full),
         d.cause(octets),
-        d.hand(odd, (5, vec![])),
-        d.request(odd, access),
         opening(d, over),
-        cells(d, *live),
-        cells(d, full),
-        cells(d, broken),
-        cells(d, misranked),
         import(d, full),
-        forbidden(d, marked),
-        forbidden(d, misranked),
-    ]
+    ];
+    calls.extend([one, hot, misranked, odd].map(|record| d.hand(record, (5, vec![]))));
+    calls.extend([*live, full, broken, misranked].map(|record| cells(d, record)));
+    calls.extend([marked, misranked].map(|record| forbidden(d, record)));
+    calls.extend(requests(d, live, &full, [one, misranked, odd], access));
+    calls
 }

@@ -1,13 +1,15 @@
 // Random octets through the C interface: as a record, as a kind and a body, and as changes to a record that lives on random events.
 // Held: the header's layout, answer 1 exactly where the record is invalid by a second reading of document 01, a refusal's record unchanged, nothing written outside what is lent,
 // for a valid record the answer, the notice, the record and the request of the second program, which reads that request back as the record's, by its container where it is to have one,
-// its choice among the cells heard, its file of forbidden networks, and the fault of a message by a reading of R-1 alone, for the event and for the reject reader.
+// also with what a device brings from 4G, its choice among the cells heard, its file of forbidden networks, and the fault of a message by a reading of R-1 alone, for the event and
+// for the reject reader.
 //
 // Usage: fuzz SECONDS SEED PROGRAM [ARGUMENTS]
-// The program is tests/c/lend.c. First it tells how many octets a record and a notice have without their gaps, and the header's longest request, most cells and longest list.
+// The program is tests/c/lend.c. First it tells how many octets a record, a notice, the facts of 4G and a length have without their gaps, and the header's longest request, most cells,
+// longest list, longest attach message and longest request with one.
 // A call goes to it as one octet each for the call (0 to have the answers so far), what fills the gaps and six small numbers (three limits, or the access), then the kind and the
-// lengths of two arrays, then the record, the notice and the arrays; back come the answer, how many octets were written before what is lent, and the record, the notice and the
-// arrays as they then are.
+// lengths of two arrays, then the record, the notice, the facts, the length and the arrays; back come the answer, how many octets were written before what is lent, and all of these
+// as they then are.
 // Numbers have four octets, the low one first, in the two lists of cells too.
 // Cases are numbered from SEED on, and each draws by its number alone. With 0 seconds the case SEED runs alone.
 #![allow(dead_code)]
@@ -16,7 +18,10 @@ mod card;
 #[path = "../../docs/src/cells.rs"]
 mod cells;
 mod draws;
+mod editions;
 mod faults;
+#[path = "../../docs/src/identity.rs"]
+mod identity;
 #[path = "../../docs/src/log.rs"]
 mod log;
 #[path = "../../docs/src/message.rs"]
@@ -29,7 +34,7 @@ mod second;
 mod valid;
 
 use draws::{Ask, Draw};
-use second::{CNotice, CRecord, Plain};
+use second::{CNotice, CRecord, Plain, CS1};
 use std::io::{self, BufReader, Read, Write};
 use std::ops::Range;
 use std::panic::{catch_unwind, AssertUnwindSafe};
@@ -43,6 +48,10 @@ pub const REQUEST: u8 = 3;
 pub const CAUSE: u8 = 4;
 pub const CELLS: u8 = 5;
 pub const FORBIDDEN: u8 = 6;
+pub const FROM_S1: u8 = 7;
+/// The kinds of a card, the second R-7's.
+pub const CARD: u32 = 1;
+pub const EDITION: u32 = 11;
 /// The kind of R-8's event.
 pub const IMPORT: u32 = 10;
 /// A place of the card's file without a network.
@@ -57,6 +66,9 @@ pub const BAR: u8 = 27;
 const SHORT: u32 = 268;
 /// The longest request without a container and with one.
 const LONGEST: [u32; 2] = [80, 193];
+/// The same in R-7's mapped case, and the longest attach message.
+const MAPPED: [u32; 2] = [65_047, 130_119];
+pub const ATTACH: u32 = 65_000;
 /// The longest list of forbidden networks.
 const LIST: u32 = 48;
 const LIVES: u64 = 32;
@@ -68,6 +80,8 @@ struct Got {
     harm: u32,
     record: CRecord,
     notice: CNotice,
+    s1: CS1,
+    length: u64,
     arrays: [Vec<u8>; 2],
 }
 
@@ -106,6 +120,7 @@ struct Tally {
     files: [u64; 11],
     places: [u64; 18],
     ranks: [u64; 4],
+    editions: editions::Tally,
 }
 
 fn fail(what: &str) -> ! {
@@ -130,16 +145,19 @@ impl Ask {
         for n in [self.kind, self.arrays[0].len() as u32, self.arrays[1].len() as u32] {
             to.extend(n.to_le_bytes());
         }
-        for part in [self.record.octets(), self.notice.octets(), &self.arrays[0], &self.arrays[1]] {
+        for part in [self.record.octets(), self.notice.octets(), self.s1.octets(), &self.length.to_le_bytes(), &self.arrays[0], &self.arrays[1]] {
             to.extend(part);
         }
     }
 
     fn told(&self, from: &mut impl Read) -> io::Result<Got> {
         let (answer, harm) = (number(from)?, number(from)?);
-        let mut got = Got { answer, harm, record: self.record, notice: self.notice, arrays: self.arrays.clone() };
+        let (mut got, mut length) = (Got { answer, harm, record: self.record, notice: self.notice, s1: self.s1, length: 0, arrays: self.arrays.clone() }, [0; 8]);
         from.read_exact(got.record.octets_mut())?;
         from.read_exact(got.notice.octets_mut())?;
+        from.read_exact(got.s1.octets_mut())?;
+        from.read_exact(&mut length)?;
+        got.length = u64::from_le_bytes(length);
         from.read_exact(&mut got.arrays[0])?;
         from.read_exact(&mut got.arrays[1])?;
         Ok(got)
@@ -158,6 +176,10 @@ impl Ask {
             EVENT => format!("event of kind {}, body {}", self.kind, hex(&self.arrays[0])),
             CELLS => format!("cells over access {}, heard {:06X?}, list of {}", self.small[0], self.cells(), self.arrays[1].len() / 4),
             FORBIDDEN => format!("the card's file of {}", self.arrays[0].len()),
+            FROM_S1 => {
+                let (facts, lens) = (self.s1.facts, [0, 1].map(|i| self.arrays[i].len()));
+                format!("request from S1 over access {}, facts {facts:?}, attach message of {}, buffer of {}", self.small[0], lens[0], lens[1])
+            }
             _ => format!("request over access {}, buffer of {}", self.small[0], self.arrays[0].len()),
         }
     }
@@ -169,11 +191,11 @@ impl Side {
         let mut child = started.unwrap_or_else(|error| fail(&format!("{}: {error}", words[0])));
         let (input, output) = (child.stdin.take().unwrap(), child.stdout.take().unwrap());
         let mut side = Side { child, input, output: BufReader::with_capacity(65536, output) };
-        if number(&mut side.output).ok() != Some((size_of::<CRecord>() + size_of::<CNotice>()) as u32) {
-            fail("the C side does not start, or its record or notice has other fields");
+        if number(&mut side.output).ok() != Some((size_of::<CRecord>() + size_of::<CNotice>() + size_of::<CS1>() + size_of::<u64>()) as u32) {
+            fail("the C side does not start, or its record, notice or facts have other fields");
         }
-        if [0; 3].map(|_| number(&mut side.output).ok()) != [Some(LONGEST[1]), Some(cells::MOST as u32), Some(LIST)] {
-            fail("the header has another longest request or list, or other most cells");
+        if [0; 5].map(|_| number(&mut side.output).ok()) != [LONGEST[1], cells::MOST as u32, LIST, ATTACH, MAPPED[1]].map(Some) {
+            fail("the header has another longest request, list or attach message, or other most cells");
         }
         side
     }
@@ -283,7 +305,7 @@ fn judge_request(ask: &Ask, got: &Got) -> Result<(), String> {
     equal("the request's answer", got.answer, answer)?;
     alike("the buffer", &got.arrays[0], &want)?;
     alike("the record that is only read", got.record.octets(), ask.record.octets())?;
-    let read = answer > 255 || second::reads(&ask.record, ask.small[0], &want[..answer as usize]);
+    let read = answer > 255 || second::reads(&ask.record, ask.small[0], &CS1::zero(), &[], &want[..answer as usize]);
     hold(read, "the request does not read back")
 }
 
@@ -582,15 +604,18 @@ fn judge(ask: &Ask, got: &Got) -> Result<(), String> {
     if ask.call != REQUEST && ask.call != FORBIDDEN {
         alike("the first array", &got.arrays[0], &ask.arrays[0])?;
     }
-    if ask.call != CELLS {
+    if ask.call != CELLS && ask.call != FROM_S1 {
         alike("the second array", &got.arrays[1], &ask.arrays[1])?;
     }
+    alike("what comes from 4G", got.s1.octets(), ask.s1.octets())?;
+    hold(ask.call == FROM_S1 || got.length == ask.length, "the length, which is not lent, is another")?;
     match ask.call {
         NEW => judge_new(ask, got),
         EVENT => judge_event(ask, got),
         CAUSE => judge_cause(ask, got),
         CELLS => judge_cells(ask, got),
         FORBIDDEN => judge_file(ask, got),
+        FROM_S1 => editions::judge(ask, got),
         _ => judge_request(ask, got),
     }
 }
@@ -608,6 +633,7 @@ fn count(ask: &Ask, got: &Got, tally: &mut Tally) {
     for (count, came) in counts.zip(came) {
         *count += came as u64;
     }
+    tally.editions.count(ask, got);
     if ask.call == CAUSE {
         tally.causes[got.answer.saturating_sub(268).min(6) as usize] += 1;
     }
@@ -713,7 +739,7 @@ fn main() {
         group(&mut side, words, first..first + LIVES, &mut tally);
     }
     side.end();
-    let Tally { cases, answers, causes, invalid, news, made, requests, written, deeds, waits, rest, bars, shapes, refusals, choices, imports, files, places, ranks } = tally;
+    let Tally { cases, answers, causes, invalid, news, made, requests, written, deeds, waits, rest, bars, shapes, refusals, choices, imports, files, places, ranks, editions } = tally;
     println!("fuzz: {cases} cases, {} events, {invalid} of them on an invalid record", answers.iter().sum::<u64>());
     println!("fuzz: {made} of {news} new records made, {written} of {requests} requests written");
     for (shape, [written, fitted, longest, lacked]) in ["no container", "a container"].iter().zip(shapes) {
@@ -723,11 +749,12 @@ fn main() {
     show_cells(refusals, choices);
     show_card(imports, files);
     show_places(places, ranks);
+    editions.show();
     println!("fuzz: answers 0 to 20 came {answers:?} times, a reject's cause and 269 to 274 {causes:?} times");
     let missing = (0..21).any(|answer| answers[answer] == 0 && !NEVER.contains(&(answer as u32)));
     let seen = [&causes[..], &deeds, &waits, &rest, &bars, shapes.as_flattened(), &refusals, &choices, &imports, &files, &places, &ranks, &[invalid, made, news - made]].concat();
-    let unseen = seen.contains(&0);
+    let unseen = seen.contains(&0) || editions.unseen();
     if seconds > 0 && (missing || unseen) {
-        fail("some answer, deed, shape of a request, choice of cells, import, card's file, place given up or rank never came");
+        fail("some answer, deed, shape of a request, choice of cells, import, card's file, place given up, rank or edition never came");
     }
 }

@@ -29,14 +29,16 @@ static const uint32_t beyond = UINT32_MAX;
 
 static void kinds(void)
 {
-    static const char *const names[] = {"unknown", "card", "start", "message", "timer", "power", "key", "update", "message with both draws", "unknown", "import", "unknown"};
+    static const char *const names[] = {"unknown", "card", "start", "message", "timer", "power", "key", "update", "message with both draws", "unknown", "import",
+                                        "card with an edition", "unknown"};
     static const uint32_t numbers[] = {TJERNFAUG_KIND_CARD, TJERNFAUG_KIND_START, TJERNFAUG_KIND_MESSAGE, TJERNFAUG_KIND_TIMER, TJERNFAUG_KIND_POWER, TJERNFAUG_KIND_KEY,
                                        TJERNFAUG_KIND_UPDATE, TJERNFAUG_KIND_MESSAGE_DRAWS};
-    for (uint32_t i = 0; i < 12; i++)
+    for (uint32_t i = 0; i < 13; i++)
         spelled(tjernfaug_kind_name(i), names[i]);
     for (uint32_t i = 0; i < 8; i++)
         expect("kind", numbers[i], i + 1);
     expect("import", TJERNFAUG_KIND_IMPORT, 10);
+    expect("card with an edition", TJERNFAUG_KIND_CARD_EDITION, 11);
     spelled(tjernfaug_kind_name(beyond), "unknown");
 }
 
@@ -70,13 +72,14 @@ static void states(void)
                                         "network search", "unknown"};
     static const uint32_t numbers[] = {TJERNFAUG_STATE_NO_SUPI, TJERNFAUG_STATE_NORMAL_SERVICE, TJERNFAUG_STATE_LIMITED_SERVICE, TJERNFAUG_STATE_ATTEMPTING_REGISTRATION,
                                        TJERNFAUG_STATE_REGISTERED_INITIATED, TJERNFAUG_STATE_REGISTERED, TJERNFAUG_STATE_PLMN_SEARCH};
-    static const uint32_t small[] = {TJERNFAUG_STATUS_5U1, TJERNFAUG_STATUS_5U2, TJERNFAUG_STATUS_5U3, TJERNFAUG_TYPE_INITIAL, TJERNFAUG_TYPE_MOBILITY, TJERNFAUG_TYPE_PERIODIC};
+    static const uint32_t small[] = {TJERNFAUG_STATUS_5U1, TJERNFAUG_STATUS_5U2, TJERNFAUG_STATUS_5U3, TJERNFAUG_TYPE_INITIAL, TJERNFAUG_TYPE_MOBILITY, TJERNFAUG_TYPE_PERIODIC,
+                                     TJERNFAUG_EDITION_SOURCE_001, TJERNFAUG_EDITION_SOURCE_002, TJERNFAUG_EDITION_SOURCE_003};
     for (uint32_t i = 0; i < 8; i++)
         spelled(tjernfaug_state_name(i), names[i]);
     for (uint32_t i = 0; i < 7; i++)
         expect("state", numbers[i], i);
-    for (uint32_t i = 0; i < 6; i++)
-        expect("status or type", small[i], i % 3 + 1);
+    for (uint32_t i = 0; i < 9; i++)
+        expect("status, type or edition", small[i], i % 3 + 1);
     spelled(tjernfaug_state_name(beyond), "unknown");
 }
 
@@ -223,6 +226,9 @@ static void bodies(void)
     BODY("card", tjernfaug_body_card(0x00F110, suci, sizeof suci, body, len), 0x00, 0xF1, 0x10, 0x01, 0x00, 0xF1, 0x10, 0xF0, 0xFF, 0x00, 0x00, 0x07);
     BODY("card without SUCI", tjernfaug_body_card(0x130062, suci, 0, body, len), 0x13, 0x00, 0x62);
     BODY("card of no network", tjernfaug_body_card(TJERNFAUG_NO_NETWORK, suci, 1, body, len), 0xFF, 0xFF, 0xFF, 0x01);
+    BODY("card with an edition", tjernfaug_body_card_edition(TJERNFAUG_EDITION_SOURCE_002, 0x00F110, suci, sizeof suci, body, len),
+         0x02, 0x00, 0xF1, 0x10, 0x01, 0x00, 0xF1, 0x10, 0xF0, 0xFF, 0x00, 0x00, 0x07);
+    BODY("edition without SUCI", tjernfaug_body_card_edition(0xFF, 0x130062, suci, 0, body, len), 0xFF, 0x13, 0x00, 0x62);
     BODY("start", tjernfaug_body_start(0, 1, 0x00F220, 0x00002A, body, len), 0x00, 0x01, 0x00, 0xF2, 0x20, 0x00, 0x00, 0x2A);
     BODY("start, other numbers", tjernfaug_body_start(1, 0, 0x130062, 0x123456, body, len), 0x01, 0x00, 0x13, 0x00, 0x62, 0x12, 0x34, 0x56);
     BODY("start, wide numbers", tjernfaug_body_start(0xFF, 0xFE, 0xAB130062, 0xCD123456, body, len), 0xFF, 0xFE, 0x13, 0x00, 0x62, 0x12, 0x34, 0x56);
@@ -257,12 +263,15 @@ static void lengths(void)
     memset(kept, stays, sizeof kept);
     for (uint64_t less = 0; less < 8; less++) {
         expect("no end of a SUCI", tjernfaug_body_card(0, octets, UINT64_MAX - less, body, sizeof body), 0);
+        expect("no end of a SUCI behind an edition", tjernfaug_body_card_edition(1, 0, octets, UINT64_MAX - less, body, sizeof body), 0);
         expect("no end of a message", tjernfaug_body_message(0, 0, 0, octets, UINT64_MAX - less, body, sizeof body), 0);
         expect("no end of a message with both draws", tjernfaug_body_message_draws(0, 0, 0, 0, octets, UINT64_MAX - less, body, sizeof body), 0);
     }
     expect("all stays", memcmp(body, kept, sizeof body) != 0, 0);
     expect("the longest card", tjernfaug_body_card(0, octets, sizeof octets, body, TJERNFAUG_LONGEST_CARD), TJERNFAUG_LONGEST_CARD);
     expect("behind it", body[TJERNFAUG_LONGEST_CARD], stays);
+    expect("the longest with an edition", tjernfaug_body_card_edition(1, 0, octets, sizeof octets, body, TJERNFAUG_LONGEST_CARD_EDITION), TJERNFAUG_LONGEST_CARD_EDITION);
+    expect("behind that", body[TJERNFAUG_LONGEST_CARD_EDITION], stays);
     expect("power", TJERNFAUG_BODY_POWER, 0);
 }
 

@@ -1,6 +1,7 @@
 /*
  * The C side of the fuzz run: makes each call that standard input asks for and writes what came of it, as tests/c/fuzz.rs says.
- * What is lent ends where nothing may be read or written, and octets that must stay lie before it. A record and a notice go in and out field by field, by the header's names.
+ * What is lent ends where nothing may be read or written, and octets that must stay lie before it. A record, a notice and the facts of 4G go in and out field by field, by the header's
+ * names, and with them the length that a call stores.
  */
 #define _DEFAULT_SOURCE
 #include <stddef.h>
@@ -10,11 +11,11 @@
 #include <sys/mman.h>
 #include "tjernfaug.h"
 
-enum { FLUSH, NEW, EVENT, REQUEST, CAUSE, CELLS, FORBIDDEN };
-enum { RECORD, NOTICE, FIRST, SECOND, ROOMS };
-enum { ROOM = 65536, GUARD = 64, MARK = 0x5A };
+enum { FLUSH, NEW, EVENT, REQUEST, CAUSE, CELLS, FORBIDDEN, FROM_S1 };
+enum { RECORD, NOTICE, FACTS, LENGTH, FIRST, SECOND, ROOMS };
+enum { ROOM = 262144, GUARD = 64, MARK = 0x5A };
 
-/* What a call is asked with, ahead of the record, the notice and the octets of one or two arrays. */
+/* What a call is asked with, ahead of the record, the notice, the facts, the length and the octets of one or two arrays. */
 struct head {
     uint8_t call;
     uint8_t gaps;
@@ -31,13 +32,15 @@ struct head {
 #define TOLD(field) PLACE(NOTICE, tjernfaug_notice, field)
 #define TIMER(t) TOLD(t.told), TOLD(t.seconds)
 #define TIMERS(c) TIMER(c.t3510), TIMER(c.t3511), TIMER(c.t3502), TIMER(c.t3346)
+#define FACT(field) PLACE(FACTS, tjernfaug_s1, field)
 
 static const struct { size_t room, at, len; } fields[] = {
     AT(hot.dev.home), AT(hot.dev.t3512length), AT(hot.dev.card), AT(hot.dev.suci), AT(hot.dev.cardlimit), AT(hot.dev.banlimit), AT(hot.dev.n1limit),
-    AT(hot.dev.t3247), AT(hot.dev.t3512), AT(hot.dev.due), AT(hot.dev.capability), AT(hot.dev.security), AT(hot.dev.roaming), AT(hot.dev.regional),
+    AT(hot.dev.t3247), AT(hot.dev.t3512), AT(hot.dev.due), AT(hot.dev.capability), AT(hot.dev.security), AT(hot.dev.roaming), AT(hot.dev.regional), AT(hot.dev.edition),
     ACCESS(hot.a0), ACCESS(hot.a1), ENTRIES(e0), ENTRIES(e1), AT(roaming), AT(regional),
     AT(guti0), AT(guti1), AT(equivalents0), AT(equivalents1), AT(suci), AT(capability), AT(security),
     TOLD(offset), TIMERS(c0), TIMERS(c1), TIMER(t3247), TIMER(t3512), TOLD(restart), TOLD(leave), TOLD(update),
+    FACT(registered), FACT(n26), FACT(context), FACT(valid), FACT(native), FACT(guti), {LENGTH, 0, sizeof(uint64_t)},
 };
 
 enum { FIELDS = sizeof fields / sizeof *fields };
@@ -45,8 +48,8 @@ enum { FIELDS = sizeof fields / sizeof *fields };
 static uint8_t *ends[ROOMS], *lent[ROOMS];
 static size_t lens[ROOMS];
 
-/* A record and a notice without their gaps. */
-static uint8_t plain[sizeof(struct tjernfaug_record) + sizeof(struct tjernfaug_notice)];
+/* All of them without their gaps. */
+static uint8_t plain[sizeof(struct tjernfaug_record) + sizeof(struct tjernfaug_notice) + sizeof(struct tjernfaug_s1) + sizeof(uint64_t)];
 static uint32_t octets;
 
 static void get(void *at, size_t len)
@@ -73,7 +76,7 @@ static uint8_t *room(void)
 /* Lays out what is lent, as it was sent. */
 static void lay(const struct head *h)
 {
-    const size_t sizes[ROOMS] = {sizeof(struct tjernfaug_record), sizeof(struct tjernfaug_notice), h->lens[0], h->lens[1]};
+    const size_t sizes[ROOMS] = {sizeof(struct tjernfaug_record), sizeof(struct tjernfaug_notice), sizeof(struct tjernfaug_s1), sizeof(uint64_t), h->lens[0], h->lens[1]};
     for (size_t i = 0; i < ROOMS; i++) {
         if (sizes[i] > ROOM - GUARD)
             exit(2);
@@ -81,8 +84,8 @@ static void lay(const struct head *h)
         lent[i] = ends[i] - sizes[i];
         memset(lent[i] - GUARD, MARK, GUARD);
     }
-    memset(lent[RECORD], h->gaps, lens[RECORD]);
-    memset(lent[NOTICE], h->gaps, lens[NOTICE]);
+    for (size_t i = RECORD; i < FIRST; i++)
+        memset(lent[i], h->gaps, lens[i]);
     get(plain, octets);
     const uint8_t *from = plain;
     for (size_t i = 0; i < FIELDS; from += fields[i++].len)
@@ -100,6 +103,13 @@ static uint32_t cells(const struct tjernfaug_record *r, uint8_t access)
     return tjernfaug_cells(r, access, (const uint32_t *)lent[FIRST], lens[FIRST] / size, (uint32_t *)lent[SECOND], lens[SECOND] / size);
 }
 
+/* The attach message is the first array, and the buffer the second. */
+static uint32_t from_s1(const struct tjernfaug_record *r, uint8_t access)
+{
+    const struct tjernfaug_s1 *s1 = (const struct tjernfaug_s1 *)lent[FACTS];
+    return tjernfaug_request_from_s1(r, access, s1, lent[FIRST], lens[FIRST], lent[SECOND], lens[SECOND], (uint64_t *)lent[LENGTH]);
+}
+
 static uint32_t call(const struct head *h)
 {
     struct tjernfaug_record *r = (struct tjernfaug_record *)lent[RECORD];
@@ -111,6 +121,7 @@ static uint32_t call(const struct head *h)
     case CAUSE: return reject_cause(lent[FIRST], lens[FIRST]);
     case CELLS: return cells(r, h->small[0]);
     case FORBIDDEN: return tjernfaug_forbidden(r, lent[FIRST], lens[FIRST]);
+    case FROM_S1: return from_s1(r, h->small[0]);
     default: exit(2);
     }
 }
@@ -141,7 +152,7 @@ int main(void)
         octets += (uint32_t)fields[i].len;
     setvbuf(stdin, NULL, _IOFBF, ROOM);
     setvbuf(stdout, NULL, _IOFBF, ROOM);
-    const uint32_t sizes[] = {octets, TJERNFAUG_LONGEST_REQUEST, TJERNFAUG_MOST_CELLS, TJERNFAUG_LONGEST_LIST};
+    const uint32_t sizes[] = {octets, TJERNFAUG_LONGEST_REQUEST, TJERNFAUG_MOST_CELLS, TJERNFAUG_LONGEST_LIST, TJERNFAUG_LONGEST_ATTACH, TJERNFAUG_LONGEST_REQUEST_FROM_S1};
     put(sizes, sizeof sizes);
     fflush(stdout);
     while (fread(&h, sizeof h, 1, stdin) == 1) {

@@ -3,7 +3,7 @@
 #   what   what is said before them
 #   back   what a call itself puts on the stack
 #   red    what a function that calls none may use below it
-NF == 2 && $1 ~ /^[a-z_]+$/ { bound[$1] = $2; order[++calls] = $1 }
+NF == 2 && $1 ~ /^[a-z][a-z0-9_]*$/ && $2 ~ /^[0-9]+$/ { bound[$1] = $2; order[++calls] = $1 }
 / stack bytes in function '/ { split($0, part, "'"); frame[part[2]] = $3 }
 /^Relocation section / { split($0, part, "'"); from = part[2]; if (!sub(/^\.rela?\.text\./, "", from)) from = "" }
 from != "" { for (i = 4; i <= NF; i++) { to = $i; sub(/^\.text\./, "", to); called[from, to] = 1 } }

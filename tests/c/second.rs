@@ -1,5 +1,6 @@
 // The second program of docs/src on records as the C side sends them. It takes valid records only.
 use crate::record::{Access, Areas, Change, Entry, Limits, List, Listed, Record, Reply, INITIAL, RANGE, T3247, T3346, T3502, T3510, T3511, T3512};
+use crate::identity::S1;
 use crate::{card, cells, log, request};
 
 // The structs of include/tjernfaug.h without their gaps.
@@ -18,6 +19,7 @@ pub struct CDevice {
     pub security: u8,
     pub roaming: u8,
     pub regional: u8,
+    pub edition: u8,
 }
 
 #[repr(C, packed)]
@@ -82,6 +84,14 @@ pub struct CNotice {
     pub requests: [u32; 3],
 }
 
+/// The facts in the header's order: registered, n26, context, valid, native.
+#[repr(C, packed)]
+#[derive(Clone, Copy)]
+pub struct CS1 {
+    pub facts: [u8; 5],
+    pub guti: [u8; 10],
+}
+
 /// Numbers and arrays of numbers with no gap between them, so that they are octets and any octets are they.
 pub unsafe trait Plain: Copy {
     fn zero() -> Self {
@@ -99,6 +109,7 @@ pub unsafe trait Plain: Copy {
 
 unsafe impl Plain for CRecord {}
 unsafe impl Plain for CNotice {}
+unsafe impl Plain for CS1 {}
 
 pub fn triple(n: u32) -> [u8; 3] {
     let [_, a, b, c] = n.to_be_bytes();
@@ -188,6 +199,7 @@ fn record_in(r: &CRecord) -> Record {
         due: d.due == 1,
         roaming: areas(&roaming[..d.roaming as usize]),
         regional: areas(&regional[..d.regional as usize]),
+        edition: d.edition,
         access: [access_in(r, 0), access_in(r, 1)],
     }
 }
@@ -255,6 +267,7 @@ fn record_out(r: &Record) -> CRecord {
             security: r.security.len() as u8,
             roaming: r.roaming.len() as u8,
             regional: r.regional.len() as u8,
+            edition: r.edition,
         },
         access: [access_out(a), access_out(b)],
         entries: [entries_out(a), entries_out(b)],
@@ -317,9 +330,27 @@ fn count(written: Result<usize, u8>) -> u32 {
     written.map_or_else(|answer| 256 + answer as u32, |count| count as u32)
 }
 
-/// A request into the buffer: its length.
+/// A request into the buffer, nothing lent: its length.
 pub fn write(r: &CRecord, access: u8, buffer: &mut [u8]) -> u32 {
-    count(request::write(&record_in(r), access, buffer))
+    count(request::write(&record_in(r), access, S1::default(), &[], buffer))
+}
+
+/// The same with all that may be lent: the answer and the length, which is 0 with a refusal.
+pub fn write_from_s1(r: &CRecord, access: u8, s1: &CS1, attach: &[u8], buffer: &mut [u8]) -> (u32, u64) {
+    let [registered, n26, context, valid, native] = s1.facts.map(|fact| fact != 0);
+    let lent = S1 { registered, n26, context, valid, native, guti: s1.guti };
+    let written = request::write(&record_in(r), access, lent, attach, buffer);
+    written.map_or_else(|answer| (answer as u32, 0), |len| (0, len as u64))
+}
+
+/// R-7's mapped case: an initial registration, of edition 2 with the first four facts, of edition 3 with all five.
+pub fn mapped(r: &CRecord, access: u8, s1: &CS1) -> bool {
+    let wanted = match r.dev.edition {
+        2 => &s1.facts[..4],
+        3 => &s1.facts[..],
+        _ => return false,
+    };
+    r.access[access as usize % 2].regtype == INITIAL && wanted.iter().all(|fact| *fact != 0)
 }
 
 /// The permitted ones of the networks heard into the list: how many.
@@ -332,39 +363,57 @@ pub fn forbidden(r: &CRecord, file: &mut [u8]) -> u32 {
     count(card::write(&record_in(r), file))
 }
 
-/// Whether octets, read as a request, say what the record says over an access: with a key set it is the container's request that says it.
-pub fn reads(r: &CRecord, access: u8, octets: &[u8]) -> bool {
+/// Whether octets, read as a request, say what the record says over an access, and in the mapped case what is lent: with a key set it is the container's request that says it.
+pub fn reads(r: &CRecord, access: u8, s1: &CS1, attach: &[u8], octets: &[u8]) -> bool {
     let held = record_in(r);
     let a = &held.access[access as usize];
     let Ok(said) = request::read(octets) else { return false };
-    let shown = a.ksi < 7;
+    let (shown, mapped) = (a.ksi < 7, mapped(r, access, s1));
     let update = shown && a.regtype != INITIAL;
     let [capability, area, uplink, sessions] = [said.capability, said.area, said.uplink, said.sessions].map(|part| part.map(|part| &octets[part]));
-    let identity = &octets[said.identity.clone()];
+    let [additional, status, sent] = [said.additional, said.status, said.attach].map(|part| part.map(|part| &octets[part]));
+    let (identity, gutis) = (&octets[said.identity.clone()], gutis(&held));
+    let known = if mapped { vec![as_sent(&s1.guti)] } else if gutis.is_empty() { vec![held.suci.to_vec()] } else { gutis.clone() };
     (said.ksi, said.regtype) == (a.ksi, a.regtype)
-        && identities(&held).iter().any(|one| one == identity)
-        && begins(octets, identity, &held.security, shown).is_some_and(|start| said.identity.start == start + 6)
+        && known.iter().any(|one| one == identity)
+        && begins(octets, identity, &held.security, &added(additional, status, sent), shown).is_some_and(|start| said.identity.start == start + 6)
         && said.security.start > said.identity.end
         && octets[said.security] == held.security[..]
         && capability == shown.then_some(&held.capability[..])
         && area == a.last.as_ref().filter(|_| shown).map(|last| &last[..])
         && uplink == (update && a.uplink != [0; 2]).then_some(&a.uplink[..])
         && sessions == update.then_some(&a.sessions[..])
+        && additional.is_some() == (mapped && !gutis.is_empty())
+        && additional.is_none_or(|one| gutis.iter().any(|guti| guti == one))
+        && status == mapped.then_some(&[0][..])
+        && sent == Some(attach).filter(|attach| mapped && !attach.is_empty())
 }
 
-/// The GUTIs that are held, as sent; without any the SUCI.
-fn identities(held: &Record) -> Vec<Vec<u8>> {
-    let gutis: Vec<_> = held.access.iter().filter_map(|a| a.guti).map(|guti| [&[0xF2], &guti[..]].concat()).collect();
-    if gutis.is_empty() { vec![held.suci.to_vec()] } else { gutis }
+/// A GUTI as sent. One mapped from a 4G-GUTI has its ten octets.
+fn as_sent(guti: &[u8; 10]) -> Vec<u8> {
+    [&[0xF2], &guti[..]].concat()
 }
 
-/// Where the request to go by begins: at 0 if the clear part (head, identity, 2E) is all; in the container if there is to be one, up to the end and with the same head.
-fn begins(octets: &[u8], identity: &[u8], security: &[u8], nested: bool) -> Option<usize> {
+/// The GUTIs that are held.
+fn gutis(held: &Record) -> Vec<Vec<u8>> {
+    held.access.iter().filter_map(|a| a.guti).map(|guti| as_sent(&guti)).collect()
+}
+
+/// The octets of 77, 2B and 70, in this order, of those that were read.
+fn added(additional: Option<&[u8]>, status: Option<&[u8]>, attach: Option<&[u8]>) -> Vec<u8> {
+    let long = |identifier: u8, part: &[u8]| [&[identifier], &(part.len() as u16).to_be_bytes()[..], part].concat();
+    let short = |part: &[u8]| [&[0x2B, part.len() as u8], part].concat();
+    [additional.map(|part| long(0x77, part)), status.map(short), attach.map(|part| long(0x70, part))].into_iter().flatten().flatten().collect()
+}
+
+/// Where the request to go by begins: at 0 if the clear part (head, identity, 2E, what R-7 adds) is all; in the container if there is to be one, up to the end, with the same head
+/// and the same at its end.
+fn begins(octets: &[u8], identity: &[u8], security: &[u8], added: &[u8], nested: bool) -> Option<usize> {
     let head = [&octets[..6], identity].concat();
-    let clear = [&head[..], &[0x2E, security.len() as u8], security].concat();
+    let clear = [&head[..], &[0x2E, security.len() as u8], security, added].concat();
     match octets.strip_prefix(&clear[..])? {
         [] if !nested => Some(0),
-        [0x71, high, low, inner @ ..] if nested && inner.starts_with(&head) => {
+        [0x71, high, low, inner @ ..] if nested && inner.starts_with(&head) && inner.ends_with(added) => {
             (u16::from_be_bytes([*high, *low]) as usize == inner.len()).then_some(clear.len() + 3)
         }
         _ => None,

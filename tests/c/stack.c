@@ -21,10 +21,17 @@ static uint32_t heard[TJERNFAUG_MOST_CELLS + 1], permitted[TJERNFAUG_MOST_CELLS 
 static uint8_t access, limit, buffer[256];
 static size_t len;
 
+/* The records' edition, what a device brings from 4G, and room for the longest request with it. */
+static struct tjernfaug_s1 s1;
+static uint8_t edition = TJERNFAUG_EDITION_SOURCE_001, attach[TJERNFAUG_LONGEST_ATTACH + 1], wide[TJERNFAUG_LONGEST_REQUEST_FROM_S1 + 1];
+static size_t attach_len;
+static uint64_t written;
+
 static void nothing(void) { answer = 0; }
 static void new(void) { answer = tjernfaug_new(&record, limit, limit, limit, octets, len, octets, 8); }
 static void event(void) { answer = tjernfaug_event(&record, kind, buffer, len, &notice); }
 static void request(void) { answer = tjernfaug_request(&record, access, buffer, len); }
+static void from_s1(void) { answer = tjernfaug_request_from_s1(&record, access, &s1, attach, attach_len, wide, len, &written); }
 static void cells(void) { answer = tjernfaug_cells(&record, access, heard, len, permitted, len); }
 static void forbidden(void) { answer = tjernfaug_forbidden(&record, buffer, len); }
 static void cause(void) { answer = reject_cause(buffer, len); }
@@ -82,6 +89,7 @@ static void lay(unsigned round)
         return;
     hot->dev.card = hot->dev.t3247 = hot->dev.t3512 = hot->dev.due = record.suci[0] = 1;
     hot->dev.suci = 64;
+    hot->dev.edition = edition;
     hot->dev.roaming = hot->dev.regional = 40;
     for (uint64_t i = 0; i < 40; i++)
         record.roaming[i] = record.regional[i] = (0x00F220000000 + i) * 2 + i % 2;
@@ -135,9 +143,10 @@ static void messages(void)
 
 static void events(void)
 {
-    static const uint8_t card[67] = {0, 0xF1, 0x10, 1}, start[] = {0, 1, 0, 0xF3, 0x30, 0, 0, 0x2A}, listed[] = {0, 0, 0, 0xF5, 0, 0, 0, 0x2A};
+    static const uint8_t card[67] = {0, 0xF1, 0x10, 1}, of_edition[68] = {3, 0, 0xF1, 0x10, 1}, start[] = {0, 1, 0, 0xF3, 0x30, 0, 0, 0x2A}, listed[] = {0, 0, 0, 0xF5, 0, 0, 0, 0x2A};
     uint8_t update[] = {0, 2, 0, 0xF2, 0x20, 0, 0, 0x2A, 0xFE, 0xFF, 0xFE, 0xFF}, file[3 * 16];
     hand(TJERNFAUG_KIND_CARD, card, sizeof card, sizeof card);
+    hand(TJERNFAUG_KIND_CARD_EDITION, of_edition, sizeof of_edition, sizeof of_edition);
     hand(TJERNFAUG_KIND_START, start, sizeof start, 0);
     hand(TJERNFAUG_KIND_START, listed, sizeof listed, 0);
     for (; update[1] <= 3; update[1]++)
@@ -174,6 +183,20 @@ static void news(void)
 }
 
 static void requests(void) { lengths(request, (const size_t[]){0, 12, 80, 192, TJERNFAUG_LONGEST_REQUEST, sizeof buffer}, 6); }
+
+/* With each edition; no attach message, a short one, the longest and one that is too long; all facts but the last, and all. */
+static void requests_from_s1(void)
+{
+    static const size_t messages[] = {0, 2, TJERNFAUG_LONGEST_ATTACH, sizeof attach};
+    s1.registered = s1.n26 = s1.context = s1.valid = 1;
+    for (unsigned way = 0; way < 3 * 4 * 2; way++) {
+        edition = (uint8_t)(1 + way % 3);
+        attach_len = messages[way / 3 % 4];
+        s1.native = way / 12 != 0;
+        lengths(from_s1, (const size_t[]){0, 80, TJERNFAUG_LONGEST_REQUEST, TJERNFAUG_LONGEST_REQUEST_FROM_S1 - 1, sizeof wide}, 5);
+    }
+}
+
 static void files(void) { lengths(forbidden, (const size_t[]){0, 3, 4, TJERNFAUG_LONGEST_LIST, 255}, 5); }
 
 static void choices(void)
@@ -205,6 +228,7 @@ static const struct { const char *name; size_t bound; uint32_t last; void (*case
     {"tjernfaug_new", 2048, 0, news},
     {"tjernfaug_event", 5120, 0, events},
     {"tjernfaug_request", 5632, 255, requests},
+    {"tjernfaug_request_from_s1", 5632, 0, requests_from_s1},
     {"tjernfaug_cells", 3072, 255, choices},
     {"tjernfaug_forbidden", 2560, 255, files},
     {"reject_cause", 1024, 255, readings},

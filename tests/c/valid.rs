@@ -1,4 +1,4 @@
-// Whether document 01, with the fields of, takes the octets of a record as a valid one.
+// Whether document 01, with the fields of, takes the octets of a record as a valid one.
 use crate::second::{CAccess, CDevice, CEntries, CRecord};
 
 pub fn network(n: u32) -> bool {
@@ -53,6 +53,7 @@ fn device(r: &CRecord) -> bool {
         && d.limits.iter().all(|limit| (1..=10).contains(limit))
         && (1..=13).contains(&d.capability)
         && (2..=8).contains(&d.security)
+        && (1..=3).contains(&d.edition)
 }
 
 pub fn valid(r: &CRecord) -> bool {

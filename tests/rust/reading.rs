@@ -1,5 +1,5 @@
-// A second reading of messages, written from documents 01 and 02 (R-1, R-3, R-5, R-6) alone, by each of the three readers that the
-// program `reading` runs: that of accepts and rejects, that of requests, and the reject reader for C.
+// A second reading of messages, written from documents 01 and 02 (R-1, R-3, R-5, R-6, R-7) alone, by each of the three readers that
+// the program `reading` runs: that of accepts and rejects, that of requests, and the reject reader for C.
 //   reading DIR                     stored messages, to DIR/reading.stdin, and what `reading` has to print, to DIR/reading.stdout
 //   reading random SEED MESSAGES    so many messages by chance, to standard output
 //   reading compare SEED MESSAGES   holds what `reading` printed of those, on standard input, to the second reading; counts the
@@ -217,7 +217,7 @@ fn keeps(msg: &[u8], all: &[Element]) -> bool {
         && security.is_some_and(|c| c.len() <= 8)
 }
 
-// 3 where a level breaks the layout, else what the inner one says, with 40 and 50 of R-5.
+// 3 where a level breaks the layout, else what the inner one says, with 40 and 50 of R-5, and 77, 2B and 70 of R-7.
 fn request(msg: &[u8]) -> Result<String, Fault> {
     let levels = levels(msg)?;
     let fits = |level: &Level| keeps(&msg[level.place.clone()], &level.all);
@@ -226,15 +226,19 @@ fn request(msg: &[u8]) -> Result<String, Fault> {
     }
     let Level { place, all } = &levels[levels.len() - 1];
     let own = &msg[place.clone()];
-    let status = |id| held(all, id, 2).map(|c| c.start..c.start + 2);
+    let front = |id, count| held(all, id, count).map(|c| c.start..c.start + count);
+    let guti = front(0x77, 11).filter(|c| msg[c.start] == 0xF2);
     let mut text = format!("request {} {}", own[3] & 15, own[3] >> 4);
     for (name, part) in [
         ("identity", Some(place.start + 6..place.start + fixed(own))),
         ("capability", held(all, 0x10, 1)),
         ("security", held(all, 0x2E, 2)),
         ("last", held(all, 0x52, 6)),
-        ("uplink", status(0x40)),
-        ("sessions", status(0x50)),
+        ("uplink", front(0x40, 2)),
+        ("sessions", front(0x50, 2)),
+        ("additional", guti),
+        ("status", front(0x2B, 1)),
+        ("attach", held(all, 0x70, 1)),
     ] {
         if let Some(part) = part {
             text += &format!(" {name} {} {}", part.start, part.len());
@@ -285,6 +289,13 @@ const ASKING: &str = "7E 00 41 71 00 09 01 00 F1 10 F0 FF 00 00 07";
 const CLEAR: &str = "7E 00 41 31 00 0B F2 00 F1 10 80 01 C5 D1 C2 B3 A4 2E 02 F0 F0";
 const UPDATE: &str = "7E 00 41 32 00 0B F2 00 F1 10 80 01 C5 D1 C2 B3 A4 10 01 00 2E 02 F0 F0 52 00 F2 20 00 00 2A 40 02 20 00 50 02 20 00";
 
+// what R-7 adds, in its order
+const ADDED: [&str; 3] = [
+    "77 00 0B F2 00 F2 20 11 22 83 0A 0B 0C 0D",
+    "2B 01 00",
+    "70 00 02 07 41",
+];
+
 fn plain(all: &mut Vec<Message>, text: &str) {
     all.push(Message(hex(text), 0));
 }
@@ -326,6 +337,11 @@ fn sent(all: &mut Vec<Message>) {
     plain(all, UPDATE);
     plain(all, "7E 00 41 31 00 0B F2 00 F1 10 80 01 C5 D1 C2 B3 A4 2E 02 F0 F0 71 00 1F 7E 00 41 31 00 0B F2 00 F1 10 80 01 C5 D1 C2 B3 A4 10 01 00 2E 02 F0 F0 52 00 F2 20 00 00 2A");
     all.push(Message(around(&hex(UPDATE)), 0));
+    let added = ADDED.join(" ");
+    plain(all, &format!("{} {added}", CLEAR.replace("31", "71")));
+    let clear = hex(&format!("{CLEAR} {added}"));
+    let whole = container(&hex(&format!("{UPDATE} {added}")));
+    all.push(Message([clear, whole].concat(), 0));
     accepted(all, &format!("16 01 3F {GUTI}"), 0);
     plain(all, "7E 00 44 16 5F 01 2F 16 01 3F");
     plain(all, "7E 00 44 0B 5F 05");
@@ -460,6 +476,47 @@ H S 71 00 15 G S = request 1 7 identity 30 11 security 43 2
 G S 71 00 19 G S 71 00 01 05 = 19 at 45
 H 10 01 00 S 71 00 15 H S = request 1 3 identity 33 11 security 46 2
 H S 71 00 18 H 10 01 00 S = request 1 3 identity 30 11 capability 43 1 security 46 2
+H S 2B 01 00 71 00 15 H S = request 1 3 identity 33 11 security 46 2
+H S 71 00 18 H S 2B 01 00 = request 1 3 identity 30 11 security 43 2 status 47 1
+H S 70 00 01 07 71 00 1A H S 70 00 02 07 41 = request 1 3 identity 34 11 security 47 2 attach 52 2
+H S 71 00 15 H S 70 00 01 07 = request 1 3 identity 30 11 security 43 2
+H S 71 00 19 H S 70 00 01 = 17 at 21
+H S 71 00 18 H S 70 00 01 = 17 at 45
+H S 71 00 17 H S 2B 01 = 17 at 45
+H S 2B 01 = 17 at 21
+H S 77 00 0B F2 = 17 at 21
+";
+
+// What R-7 adds to a request, behind its 2E or before it: here it is behind "H S", at 21. The parts in any order and number, too
+// short and with more octets, an F2 and another lead, the first of a repeat; none is a reason to refuse.
+const ADDITIONS: &str = "\
+77 00 0B F2 01 02 03 04 05 06 07 08 09 0A = additional 24 11
+77 00 0C F2 01 02 03 04 05 06 07 08 09 0A 0B = additional 24 11
+77 00 0A F2 01 02 03 04 05 06 07 08 09 =
+77 00 0B F6 01 02 03 04 05 06 07 08 09 0A =
+77 00 0B 01 01 02 03 04 05 06 07 08 09 0A =
+77 00 0B 02 01 02 03 04 05 06 07 08 09 0A =
+77 00 01 F2 =
+77 00 00 =
+77 00 00 77 00 0B F2 01 02 03 04 05 06 07 08 09 0A =
+77 00 0B F6 01 02 03 04 05 06 07 08 09 0A 77 00 0B F2 01 02 03 04 05 06 07 08 09 0A =
+77 00 0B F2 01 02 03 04 05 06 07 08 09 0A 77 00 0B F2 00 00 00 00 00 00 00 00 00 00 = additional 24 11
+77 00 0B F2 01 02 03 04 05 06 07 08 09 0A 77 00 00 = additional 24 11
+2B 01 00 = status 23 1
+2B 01 03 = status 23 1
+2B 03 01 00 00 = status 23 1
+2B 00 =
+2B 00 2B 01 00 =
+2B 01 00 2B 00 = status 23 1
+70 00 01 07 = attach 24 1
+70 00 02 07 41 = attach 24 2
+70 00 03 05 00 71 = attach 24 3
+70 00 00 =
+70 00 00 70 00 01 07 =
+70 00 01 07 70 00 00 = attach 24 1
+9F 2B 01 00 75 00 00 70 00 01 07 = status 24 1 attach 31 1
+70 00 02 07 41 2B 01 00 77 00 0B F2 01 02 03 04 05 06 07 08 09 0A = additional 32 11 status 28 1 attach 24 2
+2B 01 00 77 00 0B F2 01 02 03 04 05 06 07 08 09 0A 70 00 02 07 41 = additional 27 11 status 23 1 attach 41 2
 ";
 
 fn refused(all: &mut Vec<Message>) {
@@ -476,6 +533,24 @@ fn refused(all: &mut Vec<Message>) {
         let said = format!("16 at 2 | {said} | 272");
         assert_eq!(line(&hex(&text)), said, "{row}");
         plain(all, &text);
+    }
+}
+
+// these behind a request's 2E and before it, in a container and beside one; and in an accept and a reject
+fn additions(all: &mut Vec<Message>) {
+    let (head, security) = CLEAR.split_at(CLEAR.len() - 11);
+    for row in ADDITIONS.lines() {
+        let (text, said) = row.split_once('=').unwrap();
+        let (first, update) = (format!("{CLEAR} {text}"), format!("{UPDATE} {text}"));
+        let said = format!("16 at 2 | request 1 3 identity 6 11 security 19 2{said} | 272");
+        assert_eq!(line(&hex(&first)), said, "{row}");
+        plain(all, &first);
+        plain(all, &format!("{head} {text} {security}"));
+        all.push(Message(around(&hex(&update)), 0));
+        let beside = container(&hex(UPDATE));
+        all.push(Message([hex(&first), beside].concat(), 0));
+        accepted(all, text, 0);
+        rejected(all, text, 0);
     }
 }
 
@@ -612,6 +687,9 @@ fn asking(all: &mut Vec<Message>) {
         ("2E", &[0, 1, 2, 7, 8, 9, 255]),
         ("40", &[0, 1, 2, 3, 255]),
         ("50", &[0, 1, 2, 3, 32, 255]),
+        ("2B", &[0, 1, 2, 255]),
+        ("70 00", &[0, 1, 2, 255]),
+        ("77 00", &[0, 10, 11, 12, 255]),
     ] {
         for &len in lengths {
             let text = format!("{id} {len:02X}");
@@ -675,6 +753,9 @@ fn placed(all: &mut Vec<Message>) {
         "52 00 F2 20 00 00 2A",
         "40 02 21 00",
         "50 02 20 00",
+        ADDED[0],
+        ADDED[1],
+        ADDED[2],
     ];
     for place in 0..=elements.len() {
         let with = |inner: &[u8]| {
@@ -749,7 +830,7 @@ fn layouts(all: &mut Vec<Message>) {
         let identity = format!("{lead}{}", " 2E".repeat(len - 1));
         each.push(format!("71 00 {len:02X} {identity} {security}"));
     }
-    let elements = "10 00, 10 0D, 10 0E, 2E 00, 2E 01, 2E 02, 2E 08, 2E 09, 40 01, 40 02, 40 03, 50 01, 50 02, 50 03";
+    let elements = "10 00, 10 0D, 10 0E, 2E 00, 2E 01, 2E 02, 2E 08, 2E 09, 40 01, 40 02, 40 03, 50 01, 50 02, 50 03, 2B 00, 2B 02";
     for element in elements.split(", ") {
         let contents = " 07".repeat(hex(element)[1].into());
         each.push(format!("32 {suci} {element}{contents} {security}"));
@@ -761,12 +842,14 @@ fn layouts(all: &mut Vec<Message>) {
     }
 }
 
-// containers as long as they can be, in them zeros, an identity, one more element or a third level; and one octet more or less
+// containers as long as they can be, in them zeros, an identity, one more element, an attach message or a third level; and one
+// octet more or less
 fn long(all: &mut Vec<Message>) {
     for (inner, len) in [
         ("".to_string(), 65535),
         ("7E 00 41 31 FF F9 01".to_string(), 65528),
         (format!("{CLEAR} 75 FF E7"), 65511),
+        (format!("{CLEAR} 70 FF E7"), 65511),
         (format!("{CLEAR} 71 FF E7"), 65511),
     ] {
         for zeros in [len - 1, len, len + 1] {
@@ -775,6 +858,17 @@ fn long(all: &mut Vec<Message>) {
             }
         }
     }
+}
+
+// an attach message of 65,000 octets at both levels
+fn longest(all: &mut Vec<Message>) {
+    let len: u16 = 65_000;
+    let head = format!("{} {} 70 FD E8", ADDED[0], ADDED[1]);
+    let clear = hex(&format!("{CLEAR} {head}"));
+    let whole = hex(&format!("{UPDATE} {head}"));
+    let [high, low] = (whole.len() as u16 + len).to_be_bytes();
+    let clear = [clear, vec![0x5A; len.into()], vec![0x71, high, low]].concat();
+    all.push(Message([clear, whole].concat(), len));
 }
 
 // every order of these: each text at every place of each order of those before it
@@ -803,7 +897,8 @@ fn orders(all: &mut Vec<Message>) {
         "40 02 21 00",
         "50 02 20 00",
     ];
-    for order in orders_of(&asks) {
+    let added = [&asks[..1], &ADDED].concat();
+    for order in [orders_of(&asks), orders_of(&added)].concat() {
         asked(all, &order.join(" "), 0);
     }
 }
@@ -859,8 +954,9 @@ const ACCEPTS: [u8; 19] = [
 const REJECTS: [u8; 14] = [
     0x5F, 0x5F, 0x5F, 0x5F, 0x5F, 0x5F, 0x16, 0x5E, 0x77, 0x75, 0x9F, 0x20, 0x52, 0x0F,
 ];
-const ASKS: [u8; 14] = [
-    0x10, 0x10, 0x10, 0x2E, 0x52, 0x52, 0x52, 0x40, 0x40, 0x50, 0x50, 0x75, 0x9F, 0x20,
+const ASKS: [u8; 20] = [
+    0x10, 0x10, 0x10, 0x2E, 0x52, 0x52, 0x52, 0x40, 0x40, 0x50, 0x50, 0x77, 0x77, 0x2B, 0x2B, 0x70,
+    0x70, 0x75, 0x9F, 0x20,
 ];
 const CONTENTS: [u8; 8] = [0xF2, 0xF2, 0xF2, 0xF2, 0x3F, 0xE5, 0x16, 0x00];
 
@@ -1041,6 +1137,7 @@ fn store(dir: &str) {
     for part in [
         sent,
         refused,
+        additions,
         opened,
         cut,
         bounds,
@@ -1055,6 +1152,7 @@ fn store(dir: &str) {
         nested,
         layouts,
         long,
+        longest,
         orders,
         octets,
         by_hand,
@@ -1067,9 +1165,9 @@ fn store(dir: &str) {
     fs::write(format!("{dir}/reading.stdout"), output).expect("to write their readings");
 }
 
-// The readings that there are, by reader, and of the requests' those of a request in a container. "T3346" is a reject with a
-// time to wait.
-const READINGS: [(&str, &[&str]); 4] = [
+// The readings that there are, by reader, and of the requests' those of a request in a container, and those with what R-7 adds.
+// "T3346" is a reject with a time to wait.
+const READINGS: [(&str, &[&str]); 5] = [
     (
         "accepts and rejects",
         &[
@@ -1088,6 +1186,7 @@ const READINGS: [(&str, &[&str]); 4] = [
         "requests in containers",
         &["request", "3", "13", "14", "15", "16", "17", "18"],
     ),
+    ("requests with", &["additional", "status", "attach"]),
 ];
 
 // Whether what is said of a request is of the one in its container: at an octet in there, at its end where that one is cut, or 3.
@@ -1117,6 +1216,9 @@ fn tally(all: &[Message], lines: &[String]) -> bool {
             *counts.entry((reader, word)).or_insert(0) += 1;
             if reader == 1 && inner(&msg.whole(), said) {
                 *counts.entry((3, word)).or_insert(0) += 1;
+            }
+            for part in READINGS[4].1.iter().filter(|part| said.contains(*part)) {
+                *counts.entry((4, part)).or_insert(0) += 1;
             }
         }
     }

@@ -3,10 +3,11 @@
 //   requests EVENTS <REPLAY    those of a replay
 //   requests hex OCTETS        one message, in hex digits that may be split by spaces
 //
-// REPLAY is what `regrun-rust --request` prints; EVENTS has a line of text for each event, as
-// `scenario to-text` writes it. A request is shown when it is new: after a start or an update, and
-// after an event that changes it, as a key set does. Elements have the names of TS 24.501, and the
-// request in a container stands indented below it.
+// REPLAY is what `regrun-rust --request` prints, whatever it was lent; EVENTS has a line of text for
+// each event, as `scenario to-text` writes it. A request is shown when it is new: after a start or
+// an update, and after an event that changes it, as a key set does. Elements have the names of
+// TS 24.501, and the request in a container stands indented below it. What 77 and 70 hold has rows
+// of its own.
 //
 //   2 start 0 002-02 area 00002A
 //     7E 00 41                              registration request over access 0, 19 octets
@@ -22,6 +23,9 @@
 //     7E 00 [44] 0B                         not read
 //     refused: 16 at 2, type not one this call reads
 
+#[allow(dead_code)]
+#[path = "../../docs/src/identity.rs"]
+mod identity;
 #[allow(dead_code)]
 #[path = "../../docs/src/message.rs"]
 mod message;
@@ -41,15 +45,20 @@ use std::process::ExitCode;
 type Parsed<T> = Result<T, String>;
 
 /// The elements that are looked at: identifier, fewest octets of contents, name.
-const ELEMENTS: [(u8, usize, &str); 6] = [
+const ELEMENTS: [(u8, usize, &str); 9] = [
     (0x10, 1, "5GMM capability"),
+    (0x2B, 1, "UE status"),
     (0x2E, 2, "UE security capability"),
     (0x40, 2, "uplink data status"),
     (0x50, 2, "PDU session status"),
     (0x52, 6, "last visited registered TAI"),
+    (ATTACH, 1, "EPS NAS message container"),
     (CONTAINER, 1, "NAS message container"),
+    (ADDITIONAL, 11, "additional GUTI"),
 ];
+const ATTACH: u8 = 0x70;
 const CONTAINER: u8 = 0x71;
+const ADDITIONAL: u8 = 0x77;
 
 /// By their numbers in octet 4, from 1.
 const TYPES: [&str; 3] =
@@ -129,8 +138,22 @@ fn element_name(identifier: u8, contents: &[u8], first: bool) -> String {
     match (identifier, contents) {
         _ if !first => format!("{name} again, not looked at"),
         _ if contents.len() < *fewest => format!("{name}, too short: as if absent"),
+        (ADDITIONAL, [lead, ..]) if *lead != 0xF2 => {
+            format!("{name}, not opening with F2: as if absent")
+        }
+        (0x2B, [status, ..]) if status & 1 == 0 => format!("{name}, not in EMM-REGISTERED"),
+        (0x2B, _) => format!("{name}, in EMM-REGISTERED"),
         (0x40 | 0x50, [low, high, ..]) => format!("{name}, {}", sessions(*low, *high)),
         _ => name.to_string(),
+    }
+}
+
+/// What an element holds that is split from its identifier and length, if it is one of those.
+fn contents_name(identifier: u8, contents: &[u8]) -> Option<&'static str> {
+    match (identifier, contents) {
+        (ADDITIONAL, [0xF2, guti @ ..]) if guti.len() >= 10 => Some("5G-GUTI"),
+        (ATTACH, [_, ..]) => Some("attach message"),
+        _ => None,
     }
 }
 
@@ -204,10 +227,16 @@ impl Split<'_> {
             let place = at..octets.len() - rest.len();
             let first = !seen.contains(&identifier);
             seen.push(identifier);
+            let name = element_name(identifier, contents, first);
+            let held = contents_name(identifier, contents).filter(|_| first);
             if identifier == CONTAINER && first && !contents.is_empty() {
                 self.container(level, place, contents.len());
+            } else if let Some(held) = held {
+                let (inner, length) = (place.end - contents.len(), contents.len());
+                self.line(level, place.start..inner, &format!("{name} of {length} octets"));
+                self.line(level, inner..place.end, held);
             } else {
-                self.line(level, place, &element_name(identifier, contents, first));
+                self.line(level, place, &name);
             }
         }
     }

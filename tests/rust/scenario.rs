@@ -11,7 +11,7 @@
 // nothing. A network is MCC-MNC, as 001-01 or 310-260, or six hex digits where it is no
 // network code. An access is 0 or 1, a cause and a draw are decimal, octets are hex.
 //
-//   card NETWORK SUCI
+//   card NETWORK SUCI [edition NUMBER]
 //   start ACCESS NETWORK area CODE [manual]
 //   update ACCESS mobility|periodic NETWORK area CODE [uplink OCTETS] [sessions OCTETS]
 //   reject ACCESS CAUSE protected|unprotected [DRAWS] [T3346 OCTET]
@@ -25,13 +25,15 @@
 //   import [NETWORK|unused]..   the card's file of forbidden networks, place by place
 //   raw OCTETS                  any other record: kind and body
 //
-// DRAWS are `draw SECONDS`, that for T3247 alone (log kind 3), or `draws SECONDS SECONDS`, that for
-// T3346 behind it (log kind 8); left out they are `draw 1800`. `uplink` and `sessions` are the two
-// octets of 40 and of 50 as sent, session 0 the lowest bit of the first; left out they are 0000. An
-// accept's elements stand in the order of their words, which is free; a reject's words say one 5F
-// of one octet and no other element. `unused` stands for FF FF FF; `import` alone is an empty file,
-// and one that ends within a place is `raw`. Octets of `message` and `raw` may be split by spaces. A
-// log and its text hold the same: to-text and then to-log gives the log back, octet for octet.
+// A card with an edition of the identity order is log kind 11; without one it is kind 1, which
+// means edition 1. DRAWS are `draw SECONDS`, that for T3247 alone (log kind 3), or `draws SECONDS
+// SECONDS`, that for T3346 behind it (log kind 8); left out they are `draw 1800`. `uplink` and
+// `sessions` are the two octets of 40 and of 50 as sent, session 0 the lowest bit of the first;
+// left out they are 0000. An accept's elements stand in the order of their words, which is free; a
+// reject's words say one 5F of one octet and no other element. `unused` stands for FF FF FF;
+// `import` alone is an empty file, and one that ends within a place is `raw`. Octets of `message`
+// and `raw` may be split by spaces. A log and its text hold the same: to-text and then to-log gives
+// the log back, octet for octet.
 //
 // Behind a message that is no accept and no reject, to-text adds a comment: the refusal's number,
 // the offset from 0 of the octet at fault, the fault in words, and the octets around that one. It
@@ -227,7 +229,12 @@ fn heard(access: u8, protected: u8, draws: &[u16], message: &[u8]) -> Vec<u8> {
 
 fn card(words: &mut Words) -> Parsed<Vec<u8>> {
     let home = network(words.next("the home network")?)?;
-    Ok([vec![1, 0], home, octets(words.next("the SUCI")?)?].concat())
+    let suci = octets(words.next("the SUCI")?)?;
+    let mut held = vec![1, 0];
+    if words.takes("edition") {
+        held = vec![11, 0, number(words.next("the edition")?, "edition: 0 to 255")?];
+    }
+    Ok([held, home, suci].concat())
 }
 
 fn start(words: &mut Words) -> Parsed<Vec<u8>> {
@@ -458,6 +465,10 @@ fn text_of(held: &[u8]) -> String {
     match held {
         [1, 0, h1, h2, h3, suci @ ..] if !suci.is_empty() => {
             format!("card {} {}", network_text(&[*h1, *h2, *h3]), hex(suci))
+        }
+        [11, 0, edition, h1, h2, h3, suci @ ..] if !suci.is_empty() => {
+            let home = network_text(&[*h1, *h2, *h3]);
+            format!("card {home} {} edition {edition}", hex(suci))
         }
         [2, 0, access, manual @ (0 | 1), n1, n2, n3, code @ ..] if code.len() == 3 => {
             let manual = if *manual == 1 { " manual" } else { "" };

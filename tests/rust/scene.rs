@@ -16,13 +16,14 @@ const TIMERS: [&str; 4] = ["T3510", "T3511", "T3502", "T3346"];
 /// The device's own, told once and not for each access.
 const CLOCKS: [&str; 2] = ["T3247", "T3512"];
 /// `T3512length` is `length` in the device's part of a line; a bare `length` is an access's T3502.
-const DEVICE: [&str; 12] = [
+const DEVICE: [&str; 13] = [
     "card",
     "home",
     "suci",
     "limits",
     "cap",
     "sec",
+    "edition",
     "T3247",
     "T3512",
     "T3512length",
@@ -31,6 +32,8 @@ const DEVICE: [&str; 12] = [
     "regional",
 ];
 const ASKED: [&str; 3] = ["restart", "leave", "update"];
+/// The log kind of a card with an edition.
+const CARD_EDITION: u8 = 11;
 
 struct Scene {
     place: String,
@@ -162,10 +165,21 @@ fn accept(words: &[&str]) -> Vec<u8> {
     message(words[1], protected, "1800", &octets_of)
 }
 
+/// `card [edition=NUMBER] HOME SUCI`: kind 11 with an edition, else kind 1.
+fn card(words: &[&str]) -> Vec<u8> {
+    let edition = words[1].strip_prefix("edition=");
+    let (mut held, rest) = match edition {
+        Some(number) => (vec![CARD_EDITION, 0, decimal(number) as u8], &words[2..]),
+        None => (vec![1, 0], &words[1..]),
+    };
+    held.extend(rest.iter().flat_map(|word| octets(word)));
+    held
+}
+
 fn record(words: &[&str]) -> Vec<u8> {
     let hex = |from: usize| words[from..].iter().flat_map(|word| octets(word)).collect::<Vec<u8>>();
     match words[0] {
-        "card" => [vec![1, 0], hex(1)].concat(),
+        "card" => card(words),
         "start" => {
             let manual = (words.get(4) == Some(&"manual")) as u8;
             let area = octets(&words[2..4].concat());
@@ -257,8 +271,8 @@ fn first() -> Fields {
 /// "A new record has": all but the card and the states.
 fn fresh() -> Fields {
     let mut fields = Fields::new();
-    let device = "limits=3_3_3 cap=00 sec=f0f0 T3247=0 T3512=0 T3512length=3240 due=0 roaming=- \
-                  regional=-";
+    let device = "limits=3_3_3 cap=00 sec=f0f0 edition=1 T3247=0 T3512=0 T3512length=3240 due=0 \
+                  roaming=- regional=-";
     let access = "status=2 attempts=0 T3510=0 T3511=0 T3502=0 length=720 T3346=0 \
                   pending=000000000000 type=1 uplink=0000 sessions=0000 guti=- last=- ksi=7 \
                   equivalents=- cards=0 entries=-";
@@ -391,14 +405,19 @@ impl Hope<'_> {
         }
     }
 
-    /// A card change: a new record.
+    /// A card change: a new record, with the edition that the card has, else the first.
     fn new_record(&mut self) {
         self.off();
         self.fields.extend(fresh());
         let record = &self.scene.record;
+        let (edition, body) = match record[..] {
+            [CARD_EDITION, _, edition, ..] => (edition, &record[3..]),
+            _ => (1, &record[2..]),
+        };
         let hex = |octets: &[u8]| octets.iter().map(|o| format!("{o:02x}")).collect::<String>();
-        let (home, suci) = (hex(&record[2..5]), hex(&record[5..]));
-        for (name, value) in [("card", "1"), ("home", &home), ("suci", &suci)] {
+        let (home, suci, edition) = (hex(&body[..3]), hex(&body[3..]), edition.to_string());
+        let card = [("card", "1"), ("home", &home), ("suci", &suci), ("edition", &edition)];
+        for (name, value) in card {
             self.set(name, value);
         }
         self.set("0.state", "1");

@@ -4,11 +4,12 @@
 //
 // FULL is what `regrun-rust --full` prints (docs/src/full.rs has its format); EVENTS has a line
 // of text for each event, as `scenario to-text` writes it. Columns: the event and its answer, of
-// a message that cannot be read with the octet at fault in brackets; the state of access 0 and of
-// access 1 with the attempt counter; T3247; T3512 and whether a periodic update is due, if it ever
-// ran; T3346 of each access where it ever ran; and for each network that an access ever held an
-// entry of, its counters against their limits and its marks, and where it gave up its place to
-// another. A ban with counter 0 is the card's own.
+// a message that cannot be read with the octet at fault in brackets, of a card that has an edition
+// or changes it with that edition; the state of access 0 and of access 1 with the attempt counter;
+// T3247; T3512 and whether a periodic update is due, if it ever ran; T3346 of each access where it
+// ever ran; and for each network that an access ever held an entry of, its counters against their
+// limits and its marks, and where it gave up its place to another. A ban with counter 0 is the
+// card's own.
 
 use std::collections::BTreeMap;
 use std::fmt::Write as _;
@@ -99,6 +100,8 @@ struct Step {
     t3247: bool,
     t3512: bool,
     due: bool,
+    /// Of the identity order.
+    edition: String,
     told: String,
     limits: [String; 3],
     areas: [usize; 2],
@@ -196,6 +199,7 @@ fn step(line: &str) -> Parsed<Step> {
         t3247: after(device, "T3247")? == "1",
         t3512: after(device, "T3512")? == "1",
         due: after(device, "due")? == "1",
+        edition: after(device, "edition")?.into(),
         told: told(reply)?,
         limits: [limit(1), limit(2), limit(3)],
         areas: [
@@ -339,8 +343,17 @@ fn parted(label: &str) -> (&str, &str) {
     (event, comment.rsplit_once(": ").map_or("", |(_, octets)| octets))
 }
 
-/// The answer in words, and the octet at fault or else what is told and whose place was taken.
-fn answered(steps: &[Step], row: usize, octets: &str) -> String {
+/// The edition of a taken card that has one, or that takes the record back to the first.
+fn edition<'a>(steps: &'a [Step], row: usize, event: &str) -> Option<&'a str> {
+    let (now, before) = (&steps[row], row.checked_sub(1).map(|row| &steps[row]));
+    let taken = now.answer.0 == 0 && event.starts_with("card ");
+    let changed = before.is_some_and(|before| before.edition != now.edition);
+    (taken && (changed || event.contains(" edition "))).then_some(&now.edition)
+}
+
+/// The answer in words, and the octet at fault or else what is told, whose place was taken and what
+/// edition a card brought.
+fn answered(steps: &[Step], row: usize, event: &str, octets: &str) -> String {
     let step = &steps[row];
     let (number, words) = step.answer;
     if FAULTS.contains(&number) {
@@ -349,7 +362,9 @@ fn answered(steps: &[Step], row: usize, octets: &str) -> String {
     let told = if step.told.is_empty() { String::new() } else { format!(": {}", step.told) };
     let old = (0..2).find_map(|which| given(steps, row, which));
     let place = old.map_or(String::new(), |(old, _)| format!("; takes the place of {old}"));
-    format!("{number} {words}{told}{place}")
+    let edition = edition(steps, row, event);
+    let order = edition.map_or(String::new(), |number| format!("; identities by edition {number}"));
+    format!("{number} {words}{told}{place}{order}")
 }
 
 fn events(picture: &mut Picture, labels: &[&str], steps: &[Step]) {
@@ -365,7 +380,7 @@ fn events(picture: &mut Picture, labels: &[&str], steps: &[Step]) {
         picture.text(6, y + 12, "", &format!("{} {short}", row + 1));
         let colour = if step.answer.0 == 0 { "#38761d" } else { "#990000" };
         let style = format!(r#"font-size="10" fill="{colour}""#);
-        picture.text(24, y + 23, &style, &answered(steps, row, octets));
+        picture.text(24, y + 23, &style, &answered(steps, row, event, octets));
     }
 }
 

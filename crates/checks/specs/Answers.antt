@@ -10,7 +10,7 @@ use lib.ListN.{length, getD}
 use lib.Dec.{ltb, leb, eqb}
 use Rattle.laws.specs.Upto.{every}
 use Rattle.networks.specs.Networks.{networksIn}
-use Rattle.record.specs.Tests.{both, either, flip, within, isFlag, isShort, isClear0}
+use Rattle.record.specs.Tests.{both, either, flip, within, isFlag, isShort, isClear0, isEdition}
 use Rattle.record.specs.Network.{isNetwork}
 use Rattle.record.specs.declared.Access.{Access}
 use Rattle.record.specs.declared.Hot.{Hot}
@@ -132,10 +132,10 @@ keyAnswer h w set =
     (check (eqb (accessOf h w .state) 4) answer.State
     answer.Taken)
 
--- Card change (home, SUCI 9 to 64 octets, first octet 01): 1
-unfoldable pub cardAnswer : ℕ → List ℕ → Answer
-cardAnswer home suci =
-    check (both (isNetwork home) (both (within 9 64 (length suci)) (eqb (getD suci 0 0) 1))) answer.Range
+-- Card change (home, SUCI 9 to 64 octets, first octet 01): 1, and "1 for an unknown edition" (document 02, R-7)
+unfoldable pub cardAnswer : ℕ → ℕ → List ℕ → Answer
+cardAnswer edition home suci =
+    check (both (isEdition edition) (both (isNetwork home) (both (within 9 64 (length suci)) (eqb (getD suci 0 0) 1)))) answer.Range
     answer.Taken
 
 -- Import (document 02, R-8): "1 for a length not a multiple of three or a bad code"

@@ -15,6 +15,7 @@ use record::not;
 use record::or;
 use record::other_of;
 use record::pick;
+use record::ranged;
 use turns::Draws;
 use turns::Row;
 use turns::is_device_timer;
@@ -236,12 +237,13 @@ pub fn key_answer(h: Hot, w: u8, set: u8) -> Answer
     )
 }
 
-pub fn card_answer(home: u32, suci: &[u8]) -> Answer
-    ensures { λ r. ⌜ r ≡ rules.cardAnswer home (now (suci .entry)) ⌝ }
+pub fn card_answer(edition: u8, home: u32, suci: &[u8]) -> Answer
+    ensures { λ r. ⌜ r ≡ rules.cardAnswer edition home (now (suci .entry)) ⌝ }
 {
     let n = suci.len();
     let whole = and(and(9 <= n, n <= 64), octet(suci, 0) == 1);
-    check(and(network(home), whole), Answer::Range, Answer::Taken)
+    let right = and(ranged(1, 3, edition), and(network(home), whole));
+    check(right, Answer::Range, Answer::Taken)
 }
 
 // Each place of a file is unused or a network code.

@@ -58,6 +58,7 @@ ticked t3247 t3512 d = record {
   security = d .security;
   roaming = d .roaming;
   regional = d .regional;
+  edition = d .edition;
 }
 
 -- T3512's time that is kept, and whether a periodic update is due
@@ -77,11 +78,12 @@ scheduled t3512length due d = record {
   security = d .security;
   roaming = d .roaming;
   regional = d .regional;
+  edition = d .edition;
 }
 
--- this card; limits and capabilities stay. The timers and the lists' counts become those of a new record by the orders and the tasks of the effect
-unfoldable pub carded : ℕ → ℕ → Device → Device
-carded home suci d = record {
+-- this card and its edition; limits and capabilities stay. The timers and the lists' counts become those of a new record by the orders and the tasks of the effect
+unfoldable pub carded : ℕ → ℕ → ℕ → Device → Device
+carded edition home suci d = record {
   card = 1;
   home = home;
   t3512length = 3240;
@@ -96,6 +98,7 @@ carded home suci d = record {
   security = d .security;
   roaming = d .roaming;
   regional = d .regional;
+  edition = edition;
 }
 
 -- nothing on the arrays
@@ -111,8 +114,8 @@ abbrev pub plain : Hot → ℕ → Turn → Bool → Effect
 plain h w t restart = record { dev = h .dev; mine = t; theirs = still (otherOf h w); t3247 = Leave; t3512 = Leave; work = idle; restart = restart }
 
 -- Card change: a new record with the same limits and capabilities, this card, both states 1
-unfoldable pub cardEffect : Hot → ℕ → ℕ → Effect
-cardEffect h home suci = record { dev = carded home suci (h .dev); mine = renewed; theirs = renewed; t3247 = Stop; t3512 = Stop; work = onBoth deed.Fresh task.Clear keep.Card; restart = false }
+unfoldable pub cardEffect : Hot → ℕ → ℕ → ℕ → Effect
+cardEffect h edition home suci = record { dev = carded edition home suci (h .dev); mine = renewed; theirs = renewed; t3247 = Stop; t3512 = Stop; work = onBoth deed.Fresh task.Clear keep.Card; restart = false }
 
 unfoldable pub startEffect : Hot → ℕ → ℕ → ℕ → Effect
 startEffect h w net code = plain h w (started net code (accessOf h w)) false

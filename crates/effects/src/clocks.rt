@@ -23,8 +23,8 @@ ghost use mathlib.Core.Path.{_≡_};
 ghost use Rattle.effects.specs.Effects as rules;
 ghost use Rattle.effects.specs.Effects.{sidesOf};
 
-fn carded(home: u32, suci: u8, d: Device) -> Device
-    ensures { λ r. ⌜ r ≡ rules.carded home suci d ⌝ }
+fn carded(edition: u8, home: u32, suci: u8, d: Device) -> Device
+    ensures { λ r. ⌜ r ≡ rules.carded edition home suci d ⌝ }
 {
     let mut q = d;
     q.card = 1;
@@ -32,13 +32,14 @@ fn carded(home: u32, suci: u8, d: Device) -> Device
     q.suci = suci;
     q.t3512length = 3240;
     q.due = 0;
+    q.edition = edition;
     q
 }
 
-pub fn card_effect(h: Hot, home: u32, suci: u8) -> Sides
-    ensures { λ r. ⌜ r ≡ sidesOf 0 (rules.cardEffect h home suci) ⌝ }
+pub fn card_effect(h: Hot, edition: u8, home: u32, suci: u8) -> Sides
+    ensures { λ r. ⌜ r ≡ sidesOf 0 (rules.cardEffect h edition home suci) ⌝ }
 {
-    let dev = carded(home, suci, h.dev);
+    let dev = carded(edition, home, suci, h.dev);
     let turn = renewed();
     let work = on_both(Deed::Fresh, Task::Clear, Keep::Card);
     Sides {

@@ -97,7 +97,7 @@ module _ (h : Hot) where
 
   event-paired : (e : Event) (s : Seen) (octets : List ℕ) → Paired (effectOf h e s octets)
   unfolding ranksAfter effectOf cardEffect startEffect updateEffect keyEffect powerEffect importEffect
-  event-paired (Card home) s octets count ranks = refl
+  event-paired (Card edition home) s octets count ranks = refl
   event-paired (Start w manual net code) s octets count ranks = refl
   event-paired (Message w protected draws) s octets count ranks = message-paired w protected draws (readingOf octets) s count ranks
   event-paired (Timer number w) s octets count ranks = timer-paired number w count ranks

@@ -65,7 +65,7 @@ module _ (h : Hot) where
 
   event-second : (e : Event) (s : Seen) (octets : List ℕ) → isImport (deedOn (accessIn e) (effectOf h e s octets .work .mine) (effectOf h e s octets .work .theirs) 1) ≡ false
   unfolding isImport deedOn accessIn effectOf cardEffect startEffect updateEffect keyEffect powerEffect importEffect
-  event-second (Card home) s octets = refl
+  event-second (Card edition home) s octets = refl
   event-second (Start w manual net code) s octets = either (eqb w 1) deed.Nothing deed.Nothing refl refl
   event-second (Message w protected draws) s octets = on-second w (messageEffect h w protected draws (readingOf octets) s) (message-none w protected draws (readingOf octets) s)
   event-second (Timer number w) s octets = on-second w (timerEffect h number w) (timer-none number w)

@@ -94,6 +94,7 @@ withCounts roaming regional h = record {
     security = h .dev .security;
     roaming = roaming;
     regional = regional;
+    edition = h .dev .edition;
   };
   a0 = h .a0;
   a1 = h .a1;

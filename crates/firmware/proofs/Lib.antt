@@ -1,2 +1,2 @@
 -- The length of a request, and what a call tells of it.
-pub mod Wrote
+pub mod Length

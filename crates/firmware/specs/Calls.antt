@@ -1,7 +1,7 @@
 -- What the calls of C come to: a new record, an event as the event log has it, a request, the networks permitted, the card's file, and the version. Assumes nothing.
 use Prim.Native.Nat.{ℕ, _+_}
 use mathlib.Core.Bool.{cond}
-use mathlib.Core.List.{List}
+use mathlib.Core.List.{List, []}
 use Rattle.record.specs.Answers.{numberOf, isTaken}
 use Rattle.record.specs.New.{madeOf}
 use Rattle.record.specs.declared.Record.{Record}
@@ -11,13 +11,15 @@ use Rattle.events.specs.declared.Outcome.{Outcome}
 use Rattle.events.specs.Step.{stepOf}
 use Rattle.log.specs.Log.{eventOf, besideOf}
 use Rattle.request.specs.declared.Written.{Written}
-use Rattle.request.specs.Writing.{writtenOf}
+use Rattle.request.specs.Writing.{noS1, writtenOf}
+use Rattle.identity.specs.declared.S1.{S1}
 use Rattle.cells.specs.declared.Chosen.{Chosen}
 use Rattle.cells.specs.Cells.{choiceOf}
 use Rattle.usim.specs.declared.Listed.{Listed}
 use Rattle.usim.specs.Usim.{listedOf}
 use Rattle.firmware.specs.declared.Opened.{Opened}
 use Rattle.firmware.specs.declared.Taken.{Taken}
+use Rattle.firmware.specs.declared.Wrote.{Wrote}
 use Rattle.firmware.specs.Notice.{noticeOf}
 
 -- "All but 0 change nothing": the record that was there stays
@@ -42,9 +44,17 @@ numberOr a n = cond (isTaken a) n (256 + numberOf a)
 unfoldable pub wroteBy : Written → ℕ
 wroteBy w = numberOr (w .answer) (w .len)
 
--- a request over an access, into a buffer of n octets
+-- a request over an access with nothing lent, into a buffer of n octets
 unfoldable pub wroteOf : Record → ℕ → ℕ → ℕ
-wroteOf r access n = wroteBy (writtenOf r access n)
+wroteOf r access n = wroteBy (writtenOf r access noS1 [] n)
+
+-- a length may be above 255: the answer and the length apart
+unfoldable pub wroteApart : Written → Wrote
+wroteApart w = record { answer = numberOf (w .answer); len = w .len }
+
+-- a request with the S1 facts and the attach message lent, into a buffer of n octets
+unfoldable pub wroteFromS1 : Record → ℕ → S1 → List ℕ → ℕ → Wrote
+wroteFromS1 r access s1 attach n = wroteApart (writtenOf r access s1 attach n)
 
 -- how many networks are permitted
 unfoldable pub pickedBy : Chosen → ℕ
@@ -62,6 +72,6 @@ filedBy l = numberOr (l .answer) (l .count)
 unfoldable pub filedOf : Record → ℕ → ℕ
 filedOf r n = filedBy (listedOf r n)
 
--- 0.9.0: ten thousand times the first number, a hundred times the second, and the third
+-- 0.10.0: ten thousand times the first number, a hundred times the second, and the third
 abbrev pub version : ℕ
-version = 900
+version = 1000

@@ -2,19 +2,22 @@
 use crate::Notice;
 use crate::Opened;
 use crate::Taken;
+use crate::Wrote;
 use crate::told::notice_of;
+use identity::S1;
 use record::Answer;
 use record::Record;
 ghost use mathlib.Core.Path.{_≡_};
 ghost use mathlib.Core.Bool.{cond};
+ghost use mathlib.Core.List.{[]};
 ghost use Prim.Native.Nat.{_≤_};
 ghost use lib.ListN.{length};
-ghost use Rattle.request.specs.Writing.{bufferOf};
+ghost use Rattle.request.specs.Writing.{noS1, bufferOf};
 ghost use Rattle.cells.specs.Cells.{listOf};
 ghost use Rattle.usim.specs.Usim.{fileAfter};
 ghost use Rattle.messages.specs.Message.{causeReading, causeOf, timerSeconds};
 ghost use Rattle.timers.specs.Timer.{span2Of};
-ghost use Rattle.firmware.specs.Calls.{newOf, heardAs, numberOr, wroteOf, pickedOf, filedOf, version};
+ghost use Rattle.firmware.specs.Calls.{newOf, heardAs, numberOr, wroteOf, wroteFromS1, pickedOf, filedOf, version};
 
 // A refusal keeps the record that was there.
 fn chosen(good: bool, made: Record, r: Record) -> Record
@@ -77,11 +80,25 @@ fn counted(a: Answer, n: usize) -> u32
 }
 
 fn asked(r: Record, access: u8, buffer: &mut [u8]) -> u32
-    ensures { λ a. ⌜ (a ≡ wroteOf r access (length (now (buffer .entry)))) × (now (buffer .exit) ≡ bufferOf r access (now (buffer .entry))) ⌝ }
+    ensures { λ a. ⌜ (a ≡ wroteOf r access (length (now (buffer .entry)))) × (now (buffer .exit) ≡ bufferOf r access noS1 [] (now (buffer .entry))) ⌝ }
 {
-    let w = request::write(r, access, buffer);
+    let none = [0u8; 1];
+    let w = request::write(r, access, request::no_s1(), &none[..0], buffer);
     let a = w.answer;
     counted(a, w.len)
+}
+
+// As `asked`, with what the caller lends of its time in 4G.
+fn asked_from_s1(r: Record, access: u8, s1: S1, attach: &[u8], buffer: &mut [u8]) -> Wrote
+    ensures { λ o. ⌜ (o ≡ wroteFromS1 r access s1 (now (attach .entry)) (length (now (buffer .entry)))) × (now (buffer .exit) ≡ bufferOf r access s1 (now (attach .entry)) (now (buffer .entry))) ⌝ }
+{
+    let w = request::write(r, access, s1, attach, buffer);
+    let a = w.answer;
+    let answer = record::number(a);
+    Wrote {
+        answer: answer as u32,
+        len: w.len as u64,
+    }
 }
 
 fn picked(r: Record, access: u8, heard: &[u32], permitted: &mut [u32]) -> u32
@@ -136,9 +153,26 @@ pub extern "C" fn tjernfaug_event(
 // The registration request of an access, written to the buffer's front.
 #[no_mangle]
 pub extern "C" fn tjernfaug_request(r: &Record, access: u8, buffer: &mut [u8]) -> u32
-    ensures { λ a. ⌜ (a ≡ wroteOf (now (r .entry)) access (length (now (buffer .entry)))) × (now (buffer .exit) ≡ bufferOf (now (r .entry)) access (now (buffer .entry))) ⌝ }
+    ensures { λ a. ⌜ (a ≡ wroteOf (now (r .entry)) access (length (now (buffer .entry)))) × (now (buffer .exit) ≡ bufferOf (now (r .entry)) access noS1 [] (now (buffer .entry))) ⌝ }
 {
     asked(*r, access, buffer)
+}
+
+// The same of a device that comes from 4G: the length is stored, 0 with a refusal, and the answer given back.
+#[no_mangle]
+pub extern "C" fn tjernfaug_request_from_s1(
+    r: &Record,
+    access: u8,
+    s1: &S1,
+    attach: &[u8],
+    buffer: &mut [u8],
+    written: &mut u64,
+) -> u32
+    ensures { λ a. ⌜ (a ≡ wroteFromS1 (now (r .entry)) access (now (s1 .entry)) (now (attach .entry)) (length (now (buffer .entry))) .answer) × ((now (buffer .exit) ≡ bufferOf (now (r .entry)) access (now (s1 .entry)) (now (attach .entry)) (now (buffer .entry))) × (now (written .exit) ≡ wroteFromS1 (now (r .entry)) access (now (s1 .entry)) (now (attach .entry)) (length (now (buffer .entry))) .len)) ⌝ }
+{
+    let o = asked_from_s1(*r, access, *s1, attach, buffer);
+    *written = o.len;
+    o.answer
 }
 
 // Of the networks heard those that may be tried over an access, written to the list's front.
@@ -182,5 +216,5 @@ pub extern "C" fn timer_seconds(octet: u8) -> u32
 pub extern "C" fn tjernfaug_version() -> u32
     ensures { λ r. ⌜ r ≡ version ⌝ }
 {
-    900
+    1000
 }

@@ -12,6 +12,7 @@ pub use calls::tjernfaug_event;
 pub use calls::tjernfaug_forbidden;
 pub use calls::tjernfaug_new;
 pub use calls::tjernfaug_request;
+pub use calls::tjernfaug_request_from_s1;
 pub use calls::tjernfaug_version;
 pub use lent::handle;
 
@@ -55,4 +56,10 @@ pub struct Taken {
     pub answer: u32,
     pub notice: Notice,
     pub next: Record,
+}
+
+// The answer to a request by its number, and how many octets were written: 0 with a refusal.
+pub struct Wrote {
+    pub answer: u32,
+    pub len: u64,
 }

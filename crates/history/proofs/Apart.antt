@@ -176,7 +176,7 @@ module _ (r : Record) where
 
   event-own : (e : Event) (s : Seen) (octets : List ℕ) → isOwn e ≡ true → Own (accessIn e) (crosses e (readingOf octets)) (effectOf (r .hot) e s octets)
   unfolding isOwn crosses accessIn effectOf startEffect updateEffect keyEffect importEffect otherOf
-  event-own (Card home) s octets o = absurd (false≢true o)
+  event-own (Card edition home) s octets o = absurd (false≢true o)
   event-own (Start b manual net code) s octets o = record { theirs = refl; deed = refl; kept = tt }
   event-own (Message b protected draws) s octets o = message-own b protected draws (readingOf octets) s
   event-own (Timer number b) s octets o = timer-own number b (flip-true (eqb number 4) o)

@@ -43,7 +43,7 @@ use Rattle.history.proofs.Sides.{Side, sides, sideWith, sideIn, ownDeed
 module _ (r : Record) (octets : List ℕ) where
   others : (e : Event) (w : ℕ) → concerns w e ≡ false → isTaken (answeredBy r e octets) ≡ true → (isOwn e ≡ true) × (eqb (accessIn e) w ≡ false)
   unfolding concerns isOwn accessIn answeredBy answerOf isTaken
-  others (Card home) w q t = absurd (true≢false q)
+  others (Card edition home) w q t = absurd (true≢false q)
   others (Start b manual net code) w q t = (refl, q)
   others (Message b protected draws) w q t = (refl, q)
   others (Timer number b) w q t = go (eqb number 4) q
@@ -60,7 +60,7 @@ module _ (r : Record) (octets : List ℕ) where
 -- home stays
 home-stays : (e : Event) (home : ℕ) → isOwn e ≡ true → homeAfter e home ≡ home
 unfolding isOwn homeAfter
-home-stays (Card new) home o = absurd (false≢true o)
+home-stays (Card edition new) home o = absurd (false≢true o)
 home-stays (Start b manual net code) home o = refl
 home-stays (Message b protected draws) home o = refl
 home-stays (Timer number b) home o = refl
@@ -164,7 +164,7 @@ module _ (r : Record) (x : Heard) (v : validOf r ≡ true) (t : isTaken (answere
   module _ (pending : ℕ → ℕ) (ours : pending (accessIn e) ≡ theirs) (counts : ℕ → Bool) (skip : (n : ℕ) → counts n ≡ false → hasEntry (here .count) n (here .table .nets) ≡ false) where
     across : (f : Event) → f ≡ e → sideAfter l w (acrossIn pending counts f octets) here ≡ sideAfter l w (reaching (crosses f (readingOf octets)) (pending (accessIn f))) here
     unfolding acrossIn crosses accessIn
-    across (Card home) p = refl
+    across (Card edition home) p = refl
     across (Start b manual net code) p = refl
     across (Message b protected draws) p =
         across-by l w (pending b) here (counts (pending b)) (skip (pending b)) (eqb protected 0) (byType false (λ cause. eqb cause 27) octets)

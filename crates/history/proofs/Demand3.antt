@@ -49,7 +49,7 @@ pub record Agrees (l : Limits) (r : Record) (t : List Heard) : Type 0 where
 alike : {home home′ : ℕ} → home ≡ home′ → (held : Bool) (f f′ : ℕ → ℕ) (w n : ℕ) → f w ≡ f′ w → (e : Event) (octets : List ℕ) → f (accessIn e) ≡ f′ (accessIn e)
     → eventNews home f held w n e octets ≡ eventNews home′ f′ held w n e octets
 unfolding eventNews accessIn
-alike p held f f′ w n s (Card home) octets s′ = refl
+alike p held f f′ w n s (Card edition home) octets s′ = refl
 alike p held f f′ w n s (Start b manual net code) octets s′ = refl
 alike p held f f′ w n s (Message b protected draw) octets s′ = rw (p, s, s′)
 alike p held f f′ w n s (Timer number b) octets s′ = refl
@@ -62,7 +62,7 @@ alike p held f f′ w n s Unknown octets s′ = refl
 -- and what becomes of the tale by the pending network of this one
 by-alike : (l : Limits) (f f′ : ℕ → ℕ) (w : ℕ) → f w ≡ f′ w → (d : ℕ → News) (e : Event) (octets : List ℕ) (k : Tale) → taleBy l f w d e octets k ≡ taleBy l f′ w d e octets k
 unfolding taleBy
-by-alike l f f′ w s d (Card home) octets k = refl
+by-alike l f f′ w s d (Card edition home) octets k = refl
 by-alike l f f′ w s d (Start b manual net code) octets k = refl
 by-alike l f f′ w s d (Message b protected draw) octets k = rw s
 by-alike l f f′ w s d (Timer number b) octets k = refl

@@ -21,6 +21,7 @@ pub mod News
 pub mod Full
 pub mod Runs
 pub mod Demand3
+pub mod Edition
 pub mod Listed
 pub mod Permitted
 pub mod Written

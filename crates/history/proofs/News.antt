@@ -253,7 +253,7 @@ module _ (r : Record) where
   event-news : (e : Event) (octets : List ℕ) → isTaken (answeredBy r e octets) ≡ true → (held : Bool) (w n : ℕ)
       → deedNews (deedIn r e octets w) octets held n ≡ eventNews (r .hot .dev .home) (λ (v : ℕ). accessOf (r .hot) v .net) held w n e octets
   unfolding accessIn effectOf cardEffect startEffect updateEffect keyEffect powerEffect importEffect eventNews
-  event-news (Card home) octets t held w n = either-news (eqb 0 w) deed.Fresh deed.Fresh octets held n quiet (λ q. refl) (λ q. refl)
+  event-news (Card edition home) octets t held w n = either-news (eqb 0 w) deed.Fresh deed.Fresh octets held n quiet (λ q. refl) (λ q. refl)
   event-news (Start b manual net code) octets t held w n = either-news (eqb b w) deed.Nothing deed.Nothing octets held n quiet (λ q. refl) (λ q. refl)
   event-news (Message b protected draws) octets t held w n = message-news r octets b protected draws t held w n
   event-news (Timer number b) octets t held w n =
@@ -267,7 +267,7 @@ module _ (r : Record) where
   pub event-fits : validOf r ≡ true → (e : Event) (octets : List ℕ) → isTaken (answeredBy r e octets) ≡ true → (w : ℕ)
       → Fits (deedIn r e octets w) (filedIn r octets) octets (accessOf (r .hot) w .entries) (entriesIn r w)
   unfolding accessIn effectOf cardEffect startEffect updateEffect keyEffect powerEffect importEffect
-  event-fits v (Card home) octets t w = either-fits (eqb 0 w) deed.Fresh deed.Fresh _ octets _ _ (λ q. tt) (λ q. tt)
+  event-fits v (Card edition home) octets t w = either-fits (eqb 0 w) deed.Fresh deed.Fresh _ octets _ _ (λ q. tt) (λ q. tt)
   event-fits v (Start b manual net code) octets t w = either-fits (eqb b w) deed.Nothing deed.Nothing _ octets _ _ (λ q. tt) (λ q. tt)
   event-fits v (Message b protected draws) octets t w = message-fits r octets b protected draws t (filedIn r octets) w
   event-fits v (Timer number b) octets t w =
@@ -281,7 +281,7 @@ module _ (r : Record) where
   event-tale : (l : Limits) (e : Event) (octets : List ℕ) (w : ℕ) (held : ℕ → Bool) (d : ℕ → News) (k : Tale) → ((n : ℕ) → d n ≡ deedNews (deedIn r e octets w) octets (held n) n)
       → deedTale l (deedIn r e octets w) octets d k ≡ taleBy l (λ (v : ℕ). accessOf (r .hot) v .net) w d e octets k
   unfolding accessIn effectOf cardEffect startEffect updateEffect keyEffect powerEffect importEffect taleBy
-  event-tale l (Card home) octets w held d k is = either-tale l (eqb 0 w) deed.Fresh deed.Fresh octets d k begun (λ q. refl) (λ q. refl)
+  event-tale l (Card edition home) octets w held d k is = either-tale l (eqb 0 w) deed.Fresh deed.Fresh octets d k begun (λ q. refl) (λ q. refl)
   event-tale l (Start b manual net code) octets w held d k is = either-tale l (eqb b w) deed.Nothing deed.Nothing octets d k (told d k) (λ q. refl) (λ q. refl)
   event-tale l (Message b protected draws) octets w held d k is = message-tale r octets b protected draws l w held d k is
   event-tale l (Timer number b) octets w held d k is =

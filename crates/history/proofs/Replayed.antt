@@ -52,7 +52,8 @@ beside-small s o =
     either-small (eqb (pairAt s 0) 1) _ _ (drop-octets 3 (drop 2 s) (drop-octets 2 s o))
     (either-small (eqb (pairAt s 0) 3) _ _ (drop-octets 4 (drop 2 s) (drop-octets 2 s o))
     (either-small (eqb (pairAt s 0) 8) _ _ (drop-octets 6 (drop 2 s) (drop-octets 2 s o))
-    (either-small (eqb (pairAt s 0) 10) _ _ (drop-octets 2 s o) (λ k. omega arith))))
+    (either-small (eqb (pairAt s 0) 10) _ _ (drop-octets 2 s o)
+    (either-small (eqb (pairAt s 0) 11) _ _ (drop-octets 4 (drop 2 s) (drop-octets 2 s o)) (λ k. omega arith)))))
 
 or-bad : (t : Bool) (at : ℕ) (l : Log) → AllOctets (heardIn l) → AllOctets (heardIn (cond t (bad at) l))
 unfolding heardIn

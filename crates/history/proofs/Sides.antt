@@ -73,7 +73,7 @@ readDeed w protected (reading.Reject k) s = newsDeed (causeNews (eqb (s .net) (s
 readDeed w protected (reading.Bad f at) s = deed.Nothing
 
 abbrev pub ownDeed : ℕ → Event → List ℕ → Side → Deed
-ownDeed w (Card home) octets s = deed.Fresh
+ownDeed w (Card edition home) octets s = deed.Fresh
 ownDeed w (Start b manual net code) octets s = deed.Nothing
 ownDeed w (Message b protected draw) octets s = readDeed w protected (readingOf octets) s
 ownDeed w (Timer number b) octets s = cond (eqb number 4) deed.Sweep deed.Nothing
@@ -142,7 +142,7 @@ module _ (r : Record) (octets : List ℕ) where
 
   pub own-deed : (e : Event) → isTaken (answeredBy r e octets) ≡ true → (w : ℕ) → concerns w e ≡ true → deedIn r e octets w ≡ ownDeed w e octets (sideIn r w)
   unfolding concerns accessIn effectOf cardEffect startEffect updateEffect keyEffect powerEffect importEffect
-  own-deed (Card home) t w q = both-is (eqb 0 w) deed.Fresh deed.Fresh _ refl refl
+  own-deed (Card edition home) t w q = both-is (eqb 0 w) deed.Fresh deed.Fresh _ refl refl
   own-deed (Start b manual net code) t w q = both-is (eqb b w) deed.Nothing deed.Nothing _ refl refl
   own-deed (Message b protected draws) t w q = rw (q, ← eqb-true b w q) (read-is b protected draws (small r (Message b protected draws) octets t) (readingOf octets))
   own-deed (Timer number b) t w q = both-is (eqb b w) _ _ _ (timer-deeds r number b .0) (timer-deeds r number b .1)

@@ -54,7 +54,7 @@ filedIn r octets = heldWith (r .hot .a0 .entries) octets (r .e0 .nets)
 -- the access of a taken event is 0 or 1
 pub small : (r : Record) (e : Event) (octets : List ℕ) → isTaken (answeredBy r e octets) ≡ true → accessIn e < 2
 unfolding accessIn answeredBy answerOf
-small r (Card home) octets t = omega arith
+small r (Card edition home) octets t = omega arith
 small r (Start w manual net code) octets t = flag-small w (start-passed (r .hot) w manual net code _ _ t .0)
 small r (Message w protected draws) octets t = flag-small w (message-passed (r .hot) w protected draws _ _ t .0)
 small r (Timer number w) octets t = flag-small w (timer-passed (r .hot) number w t .0)
@@ -200,7 +200,7 @@ module _ (r : Record) where
 
   pub event-counts : (e : Event) (octets : List ℕ) → isTaken (answeredBy r e octets) ≡ true → Counts (filedIn r octets) h (accessIn e) (effectIn r e octets)
   unfolding answeredBy answerOf accessIn effectOf cardEffect renewed newAccess startEffect started updateEffect updated pending inState keyEffect keySet keyed powerEffect turns.cycled importEffect withEntries askOf seenOf seenBy fileSeen withAttempts accessOf otherOf
-  event-counts (Card home) octets t = record { mine = refl; theirs = refl }
+  event-counts (Card edition home) octets t = record { mine = refl; theirs = refl }
   event-counts (Start b manual net code) octets t = record { mine = refl; theirs = refl }
   event-counts (Message b protected draws) octets t = message-counts (filedIn r octets) octets b protected draws (readingOf octets)
   event-counts (Timer number b) octets t = timer-stays (filedIn r octets) number b .1

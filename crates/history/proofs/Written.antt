@@ -287,13 +287,13 @@ module _ (r : Record) (file : List ℕ) (t : isTaken (writeAnswer r (length file
         ∙ rw read-back (put-or-not (limitsOf g) (isFiled net ms) (cellOf g 0 net) (unmarked net)) ∙ sym (was net))
 
   -- "reading what was written into a record just given that card gives the same forbidden marks"
-  module _ (q : Record) (z : Sized q) (home : ℕ) (suci : List ℕ) (o : Octets suci) (k : isTaken (stepOf q (Card home) suci .reply .answer) ≡ true) where
+  module _ (q : Record) (z : Sized q) (edition home : ℕ) (suci : List ℕ) (o : Octets suci) (k : isTaken (stepOf q (Card edition home) suci .reply .answer) ≡ true) where
     -- the record just given that card
     abbrev given : Record
-    given = stepOf q (Card home) suci .next
+    given = stepOf q (Card edition home) suci .next
 
-    given-is : given ≡ advanceOf q (Card home) suci .next
-    given-is = ap (λ (x : Outcome). x .next) (step-taken q (Card home) suci k .0)
+    given-is : given ≡ advanceOf q (Card edition home) suci .next
+    given-is = ap (λ (x : Outcome). x .next) (step-taken q (Card edition home) suci k .0)
 
     card-valid : validOf q ≡ true
     unfolding stepOf refusedReply isTaken
@@ -304,14 +304,14 @@ module _ (r : Record) (file : List ℕ) (t : isTaken (writeAnswer r (length file
         go false e = absurd (false≢true (rw e at k))
 
     given-valid : validOf given ≡ true
-    given-valid = rw given-is (valid-kept q (Card home) suci z o card-valid)
+    given-valid = rw given-is (valid-kept q (Card edition home) suci z o card-valid)
 
     given-sized : Sized given
-    given-sized = rw given-is (advance-sized q (Card home) suci z)
+    given-sized = rw given-is (advance-sized q (Card edition home) suci z)
 
     no-entries : given .hot .a0 .entries ≡ 0
     unfolding cardRecord emptyRecord newAccess
-    no-entries = ap (λ (x : Record). x .hot .a0 .entries) (given-is ∙ card-is-new q home suci (step-taken q (Card home) suci k .1))
+    no-entries = ap (λ (x : Record). x .hot .a0 .entries) (given-is ∙ card-is-new q edition home suci (step-taken q (Card edition home) suci k .1))
 
     pub written-taken : stepOf given Import written .reply .answer ≡ Taken
     written-taken = is-taken given given-valid given-sized no-entries

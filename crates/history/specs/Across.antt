@@ -14,7 +14,7 @@ use Rattle.history.specs.Apart.{Half}
 
 -- an event of one access: a start or an update, a message, T3510, T3511, T3502 or T3346 out, a key set; and T3512 out and an import, which go as access 0's
 unfoldable pub isOwn : Event → Bool
-isOwn (Card home) = false
+isOwn (Card edition home) = false
 isOwn (Start w manual net code) = true
 isOwn (Message w protected draw) = true
 isOwn (Timer number w) = flip (eqb number 4)
@@ -37,7 +37,7 @@ reachOf (reading.Reject k) =
 reachOf (reading.Bad f at) = untouched
 
 unfoldable pub crosses : Event → Reading → Reach
-crosses (Card home) m = untouched
+crosses (Card edition home) m = untouched
 crosses (Start w manual net code) m = untouched
 crosses (Message w protected draw) m = cond (eqb protected 0) untouched (reachOf m)
 crosses (Timer number w) m = untouched

@@ -18,7 +18,7 @@ pub data Concern : Type 0 where
 
 -- "the taken events of one access, imports included, and the taken card, power and T3247 events": an import is access 0's, T3247 is timer 4
 unfoldable pub concerns : ℕ → Event → Bool
-concerns w (Card home) = true
+concerns w (Card edition home) = true
 concerns w (Start b manual net code) = eqb b w
 concerns w (Message b protected draw) = eqb b w
 concerns w (Timer number b) = eqb number 4 || eqb b w
@@ -30,7 +30,7 @@ concerns w Unknown = false
 
 -- of an event that is not: a protected 27, by the network that its access registers with, if it counts
 unfoldable pub acrossIn : (ℕ → ℕ) → (ℕ → Bool) → Event → List ℕ → List Concern
-acrossIn pending counts (Card home) octets = []
+acrossIn pending counts (Card edition home) octets = []
 acrossIn pending counts (Start b manual net code) octets = []
 acrossIn pending counts (Message b protected draw) octets =
     cond (not (eqb protected 0) && byType false (λ cause. eqb cause 27) octets && counts (pending b)) (protected27 (pending b) ∷ []) []

@@ -1,4 +1,4 @@
-// The identity that a request opens with, handed back as a part of what held it.
+// The identity that a request opens with: a GUTI or the SUCI, handed back as a part of what held it, or a GUTI mapped from a 4G-GUTI, by value.
 use networks::triple;
 use record::and;
 ghost use mathlib.Core.Path.{_≡_};
@@ -7,7 +7,25 @@ ghost use lib.ListN.{length};
 ghost use lib.Dec.{eqb};
 ghost use denote.Ref.{ptr};
 ghost use Rattle.laws.specs.Upto.{seekTo};
-ghost use Rattle.identity.specs.Identity.{gutiNet, isPending, equivalentsHeld, isAmong, isEquivalent, ownFirst, orderOf, slotOf, partAt, identityOf};
+ghost use Rattle.identity.specs.Identity.{gutiNet, equivalentsHeld, isAmong};
+ghost use Rattle.identity.specs.Choice.{isPending, isEquivalent, ownFirst, slotBy, slotOf, partAt, chosenOf};
+
+mod mapping;
+
+pub use mapping::is_mapped;
+pub use mapping::map;
+
+// What is lent from S1 mode at the write of a request, each fact 0 for no or any other number for yes: was registered there, was told that interworking without N26
+// is not supported, holds an EPS security context, a valid 4G-GUTI, a native one; and the 4G-GUTI: network, MME group, MME code and M-TMSI.
+#[repr(C)]
+pub struct S1 {
+    pub registered: u8,
+    pub n26: u8,
+    pub context: u8,
+    pub valid: u8,
+    pub native: u8,
+    pub guti: [u8; 10],
+}
 
 // The network of the GUTI of an access: three octets behind its F2.
 fn net(gutis: &[u8], slot: usize) -> u32
@@ -87,7 +105,7 @@ fn order(
     count: u8,
 ) -> usize
     requires { ⌜ (length (now gutis) ≡ 22) × (own ≤ 1) ⌝ }
-    ensures { λ r. ⌜ r ≡ orderOf (now (gutis .entry)) own here there net (now (nets .entry)) count ⌝ }
+    ensures { λ r. ⌜ r ≡ slotBy (now (gutis .entry)) own here there net (now (nets .entry)) count ⌝ }
 {
     let other = 1 - own;
     let any = first(here != 0, there != 0, own, 2);
@@ -130,7 +148,7 @@ pub fn choose<'a>(
     equivalents: &[u32; 15],
     count: u8,
 ) -> &'a [u8]
-    ensures octets { λ r. ⌜ now r ≡ identityOf (now (gutis .entry)) (now (suci .entry)) access held0 held1 net (now (equivalents .entry)) count ⌝ }
+    ensures octets { λ r. ⌜ now r ≡ chosenOf (now (gutis .entry)) (now (suci .entry)) access held0 held1 net (now (equivalents .entry)) count ⌝ }
     ensures place { λ r. ⌜ ptr r ≡ partAt (ptr (gutis .entry)) (ptr (suci .entry)) (slotOf (now (gutis .entry)) access held0 held1 net (now (equivalents .entry)) count) ⌝ }
 {
     let slot = slot(gutis, access, held0, held1, net, equivalents, count);

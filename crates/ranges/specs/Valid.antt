@@ -6,7 +6,7 @@ use lib.ListN.{getD}
 use lib.Dec.{ltb, eqb}
 use Rattle.laws.specs.Upto.{allTo, distinctTo}
 use Rattle.entries.specs.declared.Entries.{Entries}
-use Rattle.record.specs.Tests.{both, either, within, upTo, isFlag, isShort, isClear0}
+use Rattle.record.specs.Tests.{both, either, within, upTo, isFlag, isShort, isClear0, isEdition}
 use Rattle.record.specs.Network.{isNetwork}
 use Rattle.record.specs.declared.Device.{Device}
 use Rattle.record.specs.declared.Access.{Access}
@@ -30,9 +30,9 @@ deviceRanges d =
 unfoldable pub periodicRanges : Device → Bool
 periodicRanges d = both (isFlag (d .t3512)) (both (upTo 35712000 (d .t3512length)) (isFlag (d .due)))
 
--- both, in this order
+-- both, in this order, and the edition of the identity order (document 02, R-7)
 unfoldable pub deviceNumbers : Device → Bool
-deviceNumbers d = both (deviceRanges d) (periodicRanges d)
+deviceNumbers d = both (deviceRanges d) (both (periodicRanges d) (isEdition (d .edition)))
 
 -- an access's state, status, counters and timers; T3346 is document 02's (R-6)
 unfoldable pub modeRanges : Access → Bool

@@ -54,7 +54,10 @@ fn periodic_ranges(d: Device) -> bool
 fn device_numbers(d: Device) -> bool
     ensures { λ r. ⌜ r ≡ deviceNumbers d ⌝ }
 {
-    and(device_ranges(d), periodic_ranges(d))
+    and(
+        device_ranges(d),
+        and(periodic_ranges(d), ranged(1, 3, d.edition)),
+    )
 }
 
 fn mode_ranges(a: Access) -> bool

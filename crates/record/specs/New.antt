@@ -23,7 +23,7 @@ u2 = 2
 abbrev pub u3 : ℕ
 u3 = 3
 
--- "no card, .., no timer, empty lists, zeros elsewhere"; T3512's time is "at first 3,240 s"
+-- "no card, .., no timer, empty lists, zeros elsewhere"; T3512's time is "at first 3,240 s"; the edition is "document 01's" (document 02, R-7)
 unfoldable pub newDevice : ℕ → ℕ → ℕ → ℕ → ℕ → Device
 newDevice cardlimit banlimit n1limit capability security = record {
   card = 0;
@@ -40,6 +40,7 @@ newDevice cardlimit banlimit n1limit capability security = record {
   security = security;
   roaming = 0;
   regional = 0;
+  edition = 1;
 }
 
 -- ".. state 0, 5U2, T3502 length 720 s, ngKSI 7, no timer, empty lists, zeros elsewhere"; an initial registration's type; a card change has state 1

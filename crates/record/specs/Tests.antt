@@ -29,3 +29,7 @@ isShort n = ltb n 16777216
 -- "session 0 clear": of two octets of 40 or 50, the first one low, session i is bit i
 abbrev pub isClear0 : ℕ → Bool
 isClear0 n = eqb (n % 2) 0
+
+-- "an edition .. (1 to 3, document 01's is 1)" of the identity order (document 02, R-7)
+abbrev pub isEdition : ℕ → Bool
+isEdition n = within 1 3 n

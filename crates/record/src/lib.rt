@@ -35,7 +35,8 @@ pub use sides::access_of;
 pub use sides::other_of;
 
 // The device's numbers. A flag is 0 or 1; lengths and counts say how much of an array is in use; due says whether a periodic
-// update is. Here and below the widest fields come first: no gaps between them, so that a copy is a few wide moves.
+// update is; edition, 1 to 3, by which text a request's identity is chosen. Here and below the widest fields come first: no gaps
+// between them, so that a copy is a few wide moves.
 #[repr(C)]
 pub struct Device {
     pub home: u32,
@@ -52,6 +53,7 @@ pub struct Device {
     pub security: u8,
     pub roaming: u8,
     pub regional: u8,
+    pub edition: u8,
 }
 
 // Update status 5U1, 5U2 and 5U3.

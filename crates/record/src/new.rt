@@ -64,6 +64,7 @@ fn device(cardlimit: u8, banlimit: u8, n1limit: u8, capability: u8, security: u8
         security,
         roaming: 0,
         regional: 0,
+        edition: 1,
     }
 }
 

@@ -10,16 +10,14 @@ use Rattle.laws.specs.Upto.{over}
 use Rattle.record.specs.declared.Access.{Access}
 use Rattle.record.specs.declared.Record.{Record}
 use Rattle.record.specs.declared.Answer.the-variants.{Taken, Range, State, Short}
-use Rattle.record.specs.Tests.{both}
-use Rattle.ranges.specs.Valid.{validOf}
 use Rattle.record.specs.Answers.{isTaken}
 use Rattle.record.specs.Sides.{accessOf}
-use Rattle.record.proofs.Bounds.{rest}
+use Rattle.identity.specs.declared.S1.{S1}
 use Rattle.request.specs.declared.Written.{Written}
 use Rattle.request.specs.Layout.{layout}
-use Rattle.request.specs.Writing.{saysOf, fieldsOf, requestOf, writingAnswer, writtenOf, bufferOf}
+use Rattle.request.specs.Writing.{saysOf, fieldsOf, requestOf, mayRequest, writingAnswer, writtenOf, bufferOf}
 use Rattle.request.specs.Steps.{sentOf, sentOver}
-use Rattle.request.proofs.Ranges.{ready}
+use Rattle.request.proofs.Ranges.{ready, may-facts}
 
 -- an answer and a length picked at once, or each for itself
 told : (x : Bool) (k : ℕ) → _≡_ {A = Written} (cond x (record { answer = Taken; len = k }) (record { answer = Short; len = 0 })) (record { answer = cond x Taken Short; len = cond (isTaken (cond x Taken Short)) k 0 })
@@ -32,44 +30,42 @@ unfolding isTaken
 left true o b = refl
 left false o b = refl
 
-abbrev tested : Record → ℕ → Bool
-tested r access = both (leb access 1) (validOf r)
-
-pub out-of-range : (r : Record) (access : ℕ) (t : Bool) (b : List ℕ) → t ≡ tested r access → not t ≡ true
-    → (record { answer = Range; len = 0 } ≡ writtenOf r access (length b)) × (b ≡ bufferOf r access b)
-unfolding writtenOf bufferOf writingAnswer isTaken
-out-of-range r access t b e h =
-    let fails : tested r access ≡ false = sym e ∙ not-true t h in
-    (rw fails, rw fails)
-
-module _ (r : Record) (access : ℕ) (t : Bool) (own : Access) (e : t ≡ tested r access) (h : not t ≡ false) (same : own ≡ accessOf (r .hot) access) where
-  holds : tested r access ≡ true
-  holds = sym e ∙ not-false t h
-
-  pub out-of-state : (b : List ℕ) → (own .state ≡ 4 → ⊥) → (record { answer = State; len = 0 } ≡ writtenOf r access (length b)) × (b ≡ bufferOf r access b)
+module _ (r : Record) (access : ℕ) (s1 : S1) (attach : List ℕ) (t : Bool) (e : t ≡ mayRequest r access (length attach)) where
+  pub out-of-range : (b : List ℕ) → not t ≡ true → (record { answer = Range; len = 0 } ≡ writtenOf r access s1 attach (length b)) × (b ≡ bufferOf r access s1 attach b)
   unfolding writtenOf bufferOf writingAnswer isTaken
-  out-of-state b z =
-      let fails : eqb (accessOf (r .hot) access .state) 4 ≡ false = rw (← same) (ne-eqb (own .state) 4 z) in
-      (rw (holds, fails), rw (holds, fails))
+  out-of-range b h =
+      let fails : mayRequest r access (length attach) ≡ false = sym e ∙ not-true t h in
+      (rw fails, rw fails)
 
-  module _ (s : own .state ≡ 4) where
-    four : accessOf (r .hot) access .state ≡ 4
-    four = rw (← same) s
+  module _ (h : not t ≡ false) (own : Access) (same : own ≡ accessOf (r .hot) access) where
+    holds : mayRequest r access (length attach) ≡ true
+    holds = sym e ∙ not-false t h
 
-    pub allowed : (r .hot .dev .suci ≤ 64) × ((r .hot .dev .capability ≤ 13) × ((r .hot .dev .security ≤ 8) × ((own .ksi ≤ 7) × (own .regtype ≤ 3))))
-    allowed =
-        let all = ready r access (rest (leb access 1) _ holds) four in
-        (all .suci .1, (all .capability .1, (all .security .1, (rw same (all .ksi), rw same (all .regtype .1)))))
+    pub out-of-state : (b : List ℕ) → (own .state ≡ 4 → ⊥) → (record { answer = State; len = 0 } ≡ writtenOf r access s1 attach (length b)) × (b ≡ bufferOf r access s1 attach b)
+    unfolding writtenOf bufferOf writingAnswer isTaken
+    out-of-state b z =
+        let fails : eqb (accessOf (r .hot) access .state) 4 ≡ false = rw (← same) (ne-eqb (own .state) 4 z) in
+        (rw (holds, fails), rw (holds, fails))
 
-    answered : (n : ℕ) → writingAnswer r access n ≡ cond (leb (length (requestOf r access)) n) Taken Short
-    unfolding writingAnswer
-    answered n = rw (holds, eq-eqb _ _ four)
+    module _ (s : own .state ≡ 4) where
+      four : accessOf (r .hot) access .state ≡ 4
+      four = rw (← same) s
 
-    pub written : (nets b d : List ℕ) (w : Written) → nets ≡ cond (eqb access 0) (r .equivalents0) (r .equivalents1)
-        → w ≡ sentOf (layout (saysOf r access own nets)) (length b) → d ≡ sentOver (layout (saysOf r access own nets)) b
-        → (w ≡ writtenOf r access (length b)) × (d ≡ bufferOf r access b)
-    unfolding writtenOf bufferOf sentOf sentOver requestOf fieldsOf
-    written nets b d w f g k = (
-      g ∙ rw (answered (length b), same, f) (told (leb (length (requestOf r access)) (length b)) (length (requestOf r access))),
-      k ∙ rw (answered (length b), same, f) (left (leb (length (requestOf r access)) (length b)) (over (requestOf r access) b) b),
-    )
+      pub allowed : (r .hot .dev .suci ≤ 64) × ((r .hot .dev .capability ≤ 13) × ((r .hot .dev .security ≤ 8) × ((own .ksi ≤ 7) × ((own .regtype ≤ 3) × (length attach ≤ 65000)))))
+      allowed =
+          let may = may-facts r access (length attach) holds in
+          let all = ready r access (may .valid) four in
+          (all .suci .1, (all .capability .1, (all .security .1, (rw same (all .ksi), (rw same (all .regtype .1), may .attach)))))
+
+      answered : (n : ℕ) → writingAnswer r access s1 attach n ≡ cond (leb (length (requestOf r access s1 attach)) n) Taken Short
+      unfolding writingAnswer
+      answered n = rw (holds, eq-eqb _ _ four)
+
+      pub written : (nets b d : List ℕ) (w : Written) → nets ≡ cond (eqb access 0) (r .equivalents0) (r .equivalents1)
+          → w ≡ sentOf (layout (saysOf r access own nets s1 attach)) (length b) → d ≡ sentOver (layout (saysOf r access own nets s1 attach)) b
+          → (w ≡ writtenOf r access s1 attach (length b)) × (d ≡ bufferOf r access s1 attach b)
+      unfolding writtenOf bufferOf sentOf sentOver requestOf fieldsOf
+      written nets b d w f g k = (
+        g ∙ rw (answered (length b), same, f) (told (leb (length (requestOf r access s1 attach)) (length b)) (length (requestOf r access s1 attach))),
+        k ∙ rw (answered (length b), same, f) (left (leb (length (requestOf r access s1 attach)) (length b)) (over (requestOf r access s1 attach) b) b),
+      )

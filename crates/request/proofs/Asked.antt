@@ -5,6 +5,7 @@ use mathlib.Core.Bool.{Bool, true, false, cond, false≢true}
 use mathlib.Core.Logic.{_⊎_, inl, inr, _≢_}
 use mathlib.Core.List.{List, []}
 use native.Mathlib.Omega.{arith}
+use native.Mathlib.Nat.{add-zero}
 use lib.ListN.{length, getD, take, drop, length-drop}
 use lib.Seq.{length-take-le, getD-take, getD-drop}
 use lib.Dec.{ltb, leb, eqb}
@@ -15,7 +16,7 @@ use Rattle.octets.proofs.Inside.{Sound, from-place, found-inside}
 use Rattle.record.specs.Tests.{both, either, within}
 use Rattle.record.proofs.Bounds.{one, rest, least, most}
 use Rattle.request.specs.Layout.{Fields, Fit}
-use Rattle.request.specs.Reading.{identityIn, isFourth, isIdentity, isSecurity, isCapability, isRequest, filledOf, pairOf, requestIn, cutOf}
+use Rattle.request.specs.Reading.{identityIn, isFourth, isIdentity, isSecurity, isCapability, isRequest, filledOf, leadingOf, gutiIn, requestIn, cutOf}
 use Rattle.request.specs.Reader.{elementsIn}
 use Rattle.request.specs.declared.Request.{Request}
 use Rattle.request.proofs.Below.{Headed, cut-length}
@@ -38,6 +39,9 @@ pub record Asked (s : List ℕ) (q : Request) : Type 0 where
   pub last : q .last .held ≡ true → (q .last .len ≡ 6) × (q .last .start + q .last .len ≤ length s)
   pub uplink : q .uplink .held ≡ true → (q .uplink .len ≡ 2) × (q .uplink .start + q .uplink .len ≤ length s)
   pub sessions : q .sessions .held ≡ true → (q .sessions .len ≡ 2) × (q .sessions .start + q .sessions .len ≤ length s)
+  pub additional : q .additional .held ≡ true → (getD s (q .additional .start) 0 ≡ 0xF2) × ((q .additional .len ≡ 11) × (q .additional .start + q .additional .len ≤ length s))
+  pub status : q .status .held ≡ true → (q .status .len ≡ 1) × (q .status .start + q .status .len ≤ length s)
+  pub attach : q .attach .held ≡ true → (1 ≤ q .attach .len) × (q .attach .start + q .attach .len ≤ length s)
 
 -- the tests as facts
 
@@ -77,19 +81,48 @@ security-facts n p w e =
     let r : within 2 8 (p .len) ≡ true = rest (p .held) _ e in
     (h, ((least 2 8 (p .len) r, most 2 8 (p .len) r), w h))
 
-pair-facts : (n : ℕ) (p : Part) → (p .held ≡ true → p .start + p .len ≤ n) → pairOf p .held ≡ true → (pairOf p .len ≡ 2) × (pairOf p .start + pairOf p .len ≤ n)
-unfolding pairOf
-pair-facts n p w t = go (ltb (p .len) 2) refl t
+leading-facts : (n k : ℕ) (p : Part) → (p .held ≡ true → p .start + p .len ≤ n) → leadingOf k p .held ≡ true → (leadingOf k p .len ≡ k) × (leadingOf k p .start + leadingOf k p .len ≤ n)
+unfolding leadingOf
+leading-facts n k p w t = go (ltb (p .len) k) refl t
   where
     part : Bool → Part
-    part b = cond b absent (record { held = p .held; start = p .start; len = 2 })
+    part b = cond b absent (record { held = p .held; start = p .start; len = k })
 
-    go : (b : Bool) → ltb (p .len) 2 ≡ b → part b .held ≡ true → (part b .len ≡ 2) × (part b .start + part b .len ≤ n)
+    go : (b : Bool) → ltb (p .len) k ≡ b → part b .held ≡ true → (part b .len ≡ k) × (part b .start + part b .len ≤ n)
     go true e u = absurd (false≢true u)
     go false e u =
-        let h : 2 ≤ p .len = ltb-false (p .len) 2 e in
-        let k : p .start + p .len ≤ n = w u in
+        let h : k ≤ p .len = ltb-false (p .len) k e in
+        let i : p .start + p .len ≤ n = w u in
         (refl, omega arith)
+
+-- the leading octets lie where the part does
+leading-start : (k : ℕ) (p : Part) → leadingOf k p .held ≡ true → leadingOf k p .start ≡ p .start
+unfolding leadingOf
+leading-start k p t = go (ltb (p .len) k) t
+  where
+    go : (b : Bool) → cond b absent (record { held = p .held; start = p .start; len = k }) .held ≡ true → cond b absent (record { held = p .held; start = p .start; len = k }) .start ≡ p .start
+    go true u = absurd (false≢true u)
+    go false u = refl
+
+guti-facts : (s : List ℕ) (p : Part) → (p .held ≡ true → p .start + p .len ≤ length s) → gutiIn s p .held ≡ true
+    → (getD s (gutiIn s p .start) 0 ≡ 0xF2) × ((gutiIn s p .len ≡ 11) × (gutiIn s p .start + gutiIn s p .len ≤ length s))
+unfolding gutiIn
+guti-facts s p w t = go (eqb (getD s (p .start) 0) 0xF2) refl t
+  where
+    part : Bool → Part
+    part b = cond b (leadingOf 11 p) absent
+
+    go : (b : Bool) → eqb (getD s (p .start) 0) 0xF2 ≡ b → part b .held ≡ true → (getD s (part b .start) 0 ≡ 0xF2) × ((part b .len ≡ 11) × (part b .start + part b .len ≤ length s))
+    go true e u = (rw (leading-start 11 p u) (eqb-true _ _ e), leading-facts (length s) 11 p w u)
+    go false e u = absurd (false≢true u)
+
+filled-facts : (n : ℕ) (p : Part) → (p .held ≡ true → p .start + p .len ≤ n) → filledOf p .held ≡ true → (1 ≤ filledOf p .len) × (filledOf p .start + filledOf p .len ≤ n)
+unfolding filledOf
+filled-facts n p w t = go (eqb (p .len) 0) refl t
+  where
+    go : (b : Bool) → eqb (p .len) 0 ≡ b → cond b absent p .held ≡ true → (1 ≤ cond b absent p .len) × (cond b absent p .start + cond b absent p .len ≤ n)
+    go true e u = absurd (false≢true u)
+    go false e u = let z : p .len ≢ 0 = eqb-false (p .len) 0 e in (omega arith, w u)
 
 module _ (s : List ℕ) (head : Headed s) where
   abbrev n : ℕ
@@ -120,8 +153,11 @@ module _ (s : List ℕ) (head : Headed s) where
         capability = capability-facts (length s) (firstOf 0x10 l) (λ h. found-inside true (length s) 0x10 l sound h .0) able;
         security = security-facts (length s) (firstOf 0x2E l) (λ h. found-inside true (length s) 0x2E l sound h .0) safe;
         last = λ h. (found-inside true (length s) 0x52 l sound h .1 refl refl, found-inside true (length s) 0x52 l sound h .0);
-        uplink = pair-facts (length s) (firstOf 0x40 l) (λ h. found-inside true (length s) 0x40 l sound h .0);
-        sessions = pair-facts (length s) (firstOf 0x50 l) (λ h. found-inside true (length s) 0x50 l sound h .0);
+        uplink = leading-facts (length s) 2 (firstOf 0x40 l) (λ h. found-inside true (length s) 0x40 l sound h .0);
+        sessions = leading-facts (length s) 2 (firstOf 0x50 l) (λ h. found-inside true (length s) 0x50 l sound h .0);
+        additional = guti-facts s (firstOf 0x77 l) (λ h. found-inside true (length s) 0x77 l sound h .0);
+        status = leading-facts (length s) 1 (firstOf 0x2B l) (λ h. found-inside true (length s) 0x2B l sound h .0);
+        attach = filled-facts (length s) (firstOf 0x70 l) (λ h. found-inside true (length s) 0x70 l sound h .0);
       }
 
 -- a part that is not held has none
@@ -142,6 +178,18 @@ cut-or-none s p k f = go (p .held) refl
     go true e = inr (cut-length s p e (f e .1) ∙ f e .0)
     go false e = inl (rw e)
 
+-- a GUTI with its F2, or none
+cut-guti : (s : List ℕ) (p : Part) → (p .held ≡ true → (getD s (p .start) 0 ≡ 0xF2) × ((p .len ≡ 11) × (p .start + p .len ≤ length s)))
+    → (cutOf s p ≡ []) ⊎ ((getD (cutOf s p) 0 0 ≡ 0xF2) × (length (cutOf s p) ≡ 11))
+unfolding cutOf
+cut-guti s p f = go (p .held) refl
+  where
+    go : (b : Bool) → p .held ≡ b → (cutOf s p ≡ []) ⊎ ((getD (cutOf s p) 0 0 ≡ 0xF2) × (length (cutOf s p) ≡ 11))
+    go true e =
+        let first : getD (take (p .len) (drop (p .start) s)) 0 0 ≡ getD s (p .start + 0) 0 = getD-take (p .len) (drop (p .start) s) 0 0 (omega (arith, f e .1 .0)) ∙ getD-drop (p .start) s 0 0 in
+        inr (rw (e, first, add-zero) (f e .0), cut-length s p e (f e .1 .1) ∙ f e .1 .0)
+    go false e = inl (rw e)
+
 -- what is read, by its octets
 abbrev pub told : List ℕ → Request → Fields
 told s q = record {
@@ -153,6 +201,9 @@ told s q = record {
   last = cutOf s (q .last);
   uplink = cutOf s (q .uplink);
   sessions = cutOf s (q .sessions);
+  additional = cutOf s (q .additional);
+  status = cutOf s (q .status);
+  attach = cutOf s (q .attach);
 }
 
 -- So it is what the layout may say
@@ -168,6 +219,8 @@ module _ (s : List ℕ) (q : Request) (a : Asked s q) where
     last = cut-or-none s (q .last) 6 (a .last);
     uplink = cut-or-none s (q .uplink) 2 (a .uplink);
     sessions = cut-or-none s (q .sessions) 2 (a .sessions);
+    additional = cut-guti s (q .additional) (a .additional);
+    status = cut-or-none s (q .status) 1 (a .status);
   }
     where
       some : (n : ℕ) → Known (getD s 6 0) n → 0 < n

@@ -19,7 +19,7 @@ use Rattle.octets.specs.Element.Elements.{over, broken, element}
 use Rattle.octets.proofs.Inside.{Sound, from-place, found-inside}
 use Rattle.messages.specs.Message.{openedBy, endedBy}
 use Rattle.messages.proofs.Readings.{choice, opened-so}
-use Rattle.request.specs.Reading.{identityIn, headOf, isRequest, filledOf, pairOf, requestIn, judgedOf, cutOf}
+use Rattle.request.specs.Reading.{identityIn, headOf, isRequest, filledOf, leadingOf, gutiIn, requestIn, judgedOf, cutOf}
 use Rattle.request.specs.Levels.{shiftedPart, shiftedRequest, shifted, aroundOf, containerOf, askedBy, messageBy, tooDeep, followed, readTo}
 use Rattle.request.specs.Reader.{elementsIn, PartBelow, RequestBelow, Below}
 use Rattle.request.specs.declared.Request.{Request}
@@ -91,11 +91,15 @@ module _ (n : ℕ) (p : Part) (inside : PartBelow n p) where
   unfolding filledOf
   filled-below = choice (PartBelow n) absent p (eqb (p .len) 0) (λ e t. absurd (false≢true t)) (λ e. inside)
 
-  pair-below : PartBelow n (pairOf p)
-  unfolding pairOf
-  pair-below =
-      choice (PartBelow n) absent (record { held = p .held; start = p .start; len = 2 }) (ltb (p .len) 2) (λ e t. absurd (false≢true t))
-      (λ e t. let h : 2 ≤ p .len = ltb-false (p .len) 2 e in omega (arith, inside t))
+  leading-below : (k : ℕ) → PartBelow n (leadingOf k p)
+  unfolding leadingOf
+  leading-below k =
+      choice (PartBelow n) absent (record { held = p .held; start = p .start; len = k }) (ltb (p .len) k) (λ e t. absurd (false≢true t))
+      (λ e t. let h : k ≤ p .len = ltb-false (p .len) k e in omega (arith, inside t))
+
+  guti-below : (s : List ℕ) → PartBelow n (gutiIn s p)
+  unfolding gutiIn
+  guti-below s = choice (PartBelow n) (leadingOf 11 p) absent (eqb (getD s (p .start) 0) 0xF2) (λ e. leading-below 11) (λ e t. absurd (false≢true t))
 
 -- what is moved by k lies as much higher
 module _ (k n m : ℕ) (room : k + n ≤ m) where
@@ -105,8 +109,17 @@ module _ (k n m : ℕ) (room : k + n ≤ m) where
 
   pub moved-below : (a : Asking) → Below n a → Below m (shifted k a)
   unfolding Below shifted shiftedRequest
-  moved-below (asking.Request q) x =
-      (part-moved (q .identity) (x .0), (part-moved (q .capability) (x .1 .0), (part-moved (q .security) (x .1 .1 .0), (part-moved (q .last) (x .1 .1 .1 .0), (part-moved (q .uplink) (x .1 .1 .1 .1 .0), part-moved (q .sessions) (x .1 .1 .1 .1 .1))))))
+  moved-below (asking.Request q) x = record {
+    identity = part-moved (q .identity) (x .identity);
+    capability = part-moved (q .capability) (x .capability);
+    security = part-moved (q .security) (x .security);
+    last = part-moved (q .last) (x .last);
+    uplink = part-moved (q .uplink) (x .uplink);
+    sessions = part-moved (q .sessions) (x .sessions);
+    additional = part-moved (q .additional) (x .additional);
+    status = part-moved (q .status) (x .status);
+    attach = part-moved (q .attach) (x .attach);
+  }
   moved-below (asking.Bad f at) x = omega arith
   moved-below (asking.Deep at) x = omega arith
   moved-below asking.Unfit x = tt
@@ -135,8 +148,17 @@ module _ (s : List ℕ) (inside : 6 + identityIn s ≤ length s) where
 
   request-below : RequestBelow (length s) (requestIn s n l)
   unfolding requestIn
-  request-below =
-      (λ t. inside, (filled-below (length s) (firstOf 0x10 l) (found-below 0x10), (found-below 0x2E, (found-below 0x52, (pair-below (length s) (firstOf 0x40 l) (found-below 0x40), pair-below (length s) (firstOf 0x50 l) (found-below 0x50))))))
+  request-below = record {
+    identity = λ t. inside;
+    capability = filled-below (length s) (firstOf 0x10 l) (found-below 0x10);
+    security = found-below 0x2E;
+    last = found-below 0x52;
+    uplink = leading-below (length s) (firstOf 0x40 l) (found-below 0x40) 2;
+    sessions = leading-below (length s) (firstOf 0x50 l) (found-below 0x50) 2;
+    additional = guti-below (length s) (firstOf 0x77 l) (found-below 0x77) s;
+    status = leading-below (length s) (firstOf 0x2B l) (found-below 0x2B) 1;
+    attach = filled-below (length s) (firstOf 0x70 l) (found-below 0x70);
+  }
 
   judged-below : Below (length s) (judgedOf s n l)
   unfolding judgedOf Below
@@ -174,7 +196,17 @@ reads-below (suc d) s =
 -- a bound may be raised
 pub raised : (n m : ℕ) → n ≤ m → (a : Asking) → Below n a → Below m a
 unfolding Below
-raised n m h (asking.Request q) x = ((λ t. omega (arith, x .0 t)), ((λ t. omega (arith, x .1 .0 t)), ((λ t. omega (arith, x .1 .1 .0 t)), ((λ t. omega (arith, x .1 .1 .1 .0 t)), ((λ t. omega (arith, x .1 .1 .1 .1 .0 t)), (λ t. omega (arith, x .1 .1 .1 .1 .1 t)))))))
+raised n m h (asking.Request q) x = record {
+  identity = λ t. omega (arith, x .identity t);
+  capability = λ t. omega (arith, x .capability t);
+  security = λ t. omega (arith, x .security t);
+  last = λ t. omega (arith, x .last t);
+  uplink = λ t. omega (arith, x .uplink t);
+  sessions = λ t. omega (arith, x .sessions t);
+  additional = λ t. omega (arith, x .additional t);
+  status = λ t. omega (arith, x .status t);
+  attach = λ t. omega (arith, x .attach t);
+}
 raised n m h (asking.Bad f at) x = omega arith
 raised n m h (asking.Deep at) x = omega arith
 raised n m h asking.Unfit x = tt

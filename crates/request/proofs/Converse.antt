@@ -138,12 +138,15 @@ moved s q a =
     let p = a .inner in
     rw (
       a .is,
-      cut-shifted s c (a .held) (p .identity) (a .below .0),
-      cut-shifted s c (a .held) (p .capability) (a .below .1 .0),
-      cut-shifted s c (a .held) (p .security) (a .below .1 .1 .0),
-      cut-shifted s c (a .held) (p .last) (a .below .1 .1 .1 .0),
-      cut-shifted s c (a .held) (p .uplink) (a .below .1 .1 .1 .1 .0),
-      cut-shifted s c (a .held) (p .sessions) (a .below .1 .1 .1 .1 .1),
+      cut-shifted s c (a .held) (p .identity) (a .below .identity),
+      cut-shifted s c (a .held) (p .capability) (a .below .capability),
+      cut-shifted s c (a .held) (p .security) (a .below .security),
+      cut-shifted s c (a .held) (p .last) (a .below .last),
+      cut-shifted s c (a .held) (p .uplink) (a .below .uplink),
+      cut-shifted s c (a .held) (p .sessions) (a .below .sessions),
+      cut-shifted s c (a .held) (p .additional) (a .below .additional),
+      cut-shifted s c (a .held) (p .status) (a .below .status),
+      cut-shifted s c (a .held) (p .attach) (a .below .attach),
     )
 
 -- so what is read fits

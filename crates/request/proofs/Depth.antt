@@ -17,7 +17,7 @@ use Rattle.request.specs.Levels.{shifted, readTo, askingOf}
 use Rattle.request.specs.declared.Asking.{Asking}
 use Rattle.request.specs.declared.Asking.the-variants as asking
 use Rattle.request.proofs.Back.{AllRead, short-reads, long-reads, orElse, saysIn}
-use Rattle.request.proofs.RoundTrip.{all-read, alone, Tells, any-order, inner, inner-told, too-deep}
+use Rattle.request.proofs.RoundTrip.{rear-read, all-read, alone, Tells, any-order, inner, inner-told, too-deep}
 
 -- a list of elements and one more
 laid-behind : (i : List Item) (x : Item) → laid (i ++ (x ∷ [])) ≡ laid i ++ laid (x ∷ [])
@@ -27,7 +27,18 @@ laid-behind (item f id c ∷ i) x = ap (λ (t : List ℕ). itemOctets f id c ++ 
 
 clear-fit : (f : Fields) → Fit f → Fit (clear f)
 unfolding clear
-clear-fit f fit = record { regtype = fit .regtype; ksi = fit .ksi; identity = fit .identity; capability = omega arith; security = fit .security; last = inl refl; uplink = inl refl; sessions = inl refl }
+clear-fit f fit = record {
+  regtype = fit .regtype;
+  ksi = fit .ksi;
+  identity = fit .identity;
+  capability = omega arith;
+  security = fit .security;
+  last = inl refl;
+  uplink = inl refl;
+  sessions = inl refl;
+  additional = fit .additional;
+  status = fit .status;
+}
 
 -- a level too many, wherever its 71 stands
 abbrev pub TooDeep : Asking → Type 0
@@ -40,7 +51,17 @@ moved-deep k a (at, e) = (k + at, rw e)
 module _ (f : Fields) (fit : Fit f) where
   flat : Tells (itemsOf f) f
   unfolding saysIn itemsOf
-  flat = record { read = all-read f fit; capability = alone (f .capability); security = alone (f .security); last = alone (f .last); uplink = alone (f .uplink); sessions = alone (f .sessions) }
+  flat = record {
+    read = all-read f fit;
+    capability = alone (f .capability);
+    security = alone (f .security);
+    last = alone (f .last);
+    uplink = alone (f .uplink);
+    sessions = alone (f .sessions);
+    additional = alone (f .additional);
+    status = alone (f .status);
+    attach = alone (f .attach);
+  }
 
   unheld : saysIn 0x71 (itemsOf f) ≡ []
   unfolding saysIn itemsOf
@@ -53,12 +74,17 @@ module _ (f : Fields) (fit : Fit f) where
   clear-tells : (c : List ℕ) → Tells (enclosing c) (clear f)
   unfolding saysIn itemsOf clear AllRead orElse formatOf
   clear-tells c = record {
-    read = (inl refl, (inr (short-reads 0x2E (f .security) refl), (inl refl, (inl refl, (inl refl, (inr (long-reads 0x71 c refl), tt))))));
+    read =
+        let r = rear-read f in
+        (inl refl, (inr (short-reads 0x2E (f .security) refl), (inl refl, (inl refl, (inl refl, (r .0, (r .1 .0, (r .1 .1 .0, (inr (long-reads 0x71 c refl), tt)))))))));
     capability = refl;
     security = alone (f .security);
     last = refl;
     uplink = refl;
     sessions = refl;
+    additional = alone (f .additional);
+    status = alone (f .status);
+    attach = alone (f .attach);
   }
 
   clear-holds : (c : List ℕ) → saysIn 0x71 (enclosing c) ≡ c

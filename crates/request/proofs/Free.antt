@@ -1,5 +1,5 @@
 -- What a request says does not hang on the order of its elements, nor on unknown ones among them: it is made of its opening and of what the elements say of
--- 10, 2E, 52, 40, 50 and 71, by their contents alone. Assumes nothing.
+-- 10, 2E, 52, 40, 50, 77, 2B, 70 and 71, by their contents alone. Assumes nothing.
 use Prim.Native.Nat.{ℕ, zero, suc, _+_, _/_, _%_, _<_, _≤_}
 use mathlib.Core.Path.{_≡_, refl, sym, _∙_, ap, subst}
 use mathlib.Core.Bool.{Bool, true, false, cond}
@@ -7,7 +7,8 @@ use mathlib.Core.Logic.{_≢_}
 use mathlib.Core.List.{List, [], _∷_, _++_}
 use native.Mathlib.Omega.{arith}
 use lib.ListN.{length, getD, take, drop, length-append, length-drop, List·getD-append}
-use lib.Seq.{length-take-le, take-at, take-take, drop-append-le}
+use native.Mathlib.Nat.{add-zero}
+use lib.Seq.{length-take-le, take-at, take-take, drop-append-le, getD-take, getD-drop}
 use lib.Dec.{ltb, leb, eqb}
 use borrow.Author.Tests.{lt-ltb, le-ltb, ltb-false, eqb-true, eqb-false}
 use Rattle.octets.specs.declared.Part.{Part}
@@ -19,7 +20,7 @@ use Rattle.octets.proofs.Order.{Says, saidIn, isWhole, said, formed, Same, Alon
 use Rattle.octets.proofs.Order.Says.{contents, nothing as missing}
 use Rattle.messages.specs.Message.{openedBy, endedBy}
 use Rattle.record.specs.Tests.{both, within}
-use Rattle.request.specs.Reading.{identityIn, headOf, isFourth, isIdentity, isSecurity, isCapability, isRequest, filledOf, pairOf, requestIn, judgedOf, Said, cutOf, toldBy}
+use Rattle.request.specs.Reading.{identityIn, headOf, isFourth, isIdentity, isSecurity, isCapability, isRequest, filledOf, leadingOf, gutiIn, requestIn, judgedOf, Said, cutOf, toldBy}
 use Rattle.request.specs.Reading.Said.{says, nothing}
 use Rattle.request.specs.Levels.{aroundOf, askedBy, readTo, askingOf}
 use Rattle.request.specs.Reader.{insideOf, elementsReading, Below}
@@ -43,10 +44,14 @@ unfoldable secureIn : Says → Bool
 secureIn missing = false
 secureIn (contents c) = within 2 8 (length c)
 
--- the two octets of a 40 or a 50
-unfoldable pairIn : Says → List ℕ
-pairIn missing = []
-pairIn (contents c) = cond (ltb (length c) 2) [] (take 2 c)
+-- the first octets of one, as many as its kind has, and a GUTI
+unfoldable leadingIn : ℕ → Says → List ℕ
+leadingIn k missing = []
+leadingIn k (contents c) = cond (ltb (length c) k) [] (take k c)
+
+unfoldable gutiSaid : Says → List ℕ
+gutiSaid missing = []
+gutiSaid (contents c) = cond (eqb (getD c 0 0) 0xF2) (cond (ltb (length c) 11) [] (take 11 c)) []
 
 module _ (s : List ℕ) (p : Part) where
   abbrev at : List ℕ
@@ -83,15 +88,39 @@ module _ (s : List ℕ) (p : Part) where
         go true e = rw (long e)
         go false e = refl
 
-    pair-said : cutOf s (pairOf p) ≡ pairIn (saidIn s p)
-    unfolding pairOf cutOf pairIn saidIn
-    pair-said = go (ltb (p .len) 2) (p .held) refl refl
+    leading-said : (k : ℕ) → cutOf s (leadingOf k p) ≡ leadingIn k (saidIn s p)
+    unfolding leadingOf cutOf leadingIn saidIn
+    leading-said k = go (ltb (p .len) k) (p .held) refl refl
       where
-        go : (b h : Bool) → ltb (p .len) 2 ≡ b → p .held ≡ h → cutOf s (cond b absent (record { held = h; start = p .start; len = 2 })) ≡ pairIn (cond h (contents at) missing)
+        go : (b h : Bool) → ltb (p .len) k ≡ b → p .held ≡ h → cutOf s (cond b absent (record { held = h; start = p .start; len = k })) ≡ leadingIn k (cond h (contents at) missing)
         go true true e f = rw (long f, e)
         go true false e f = refl
-        go false true e f = rw (long f, e) (sym (take-take 2 (p .len) (drop (p .start) s) (ltb-false (p .len) 2 e)))
+        go false true e f = rw (long f, e) (sym (take-take k (p .len) (drop (p .start) s) (ltb-false (p .len) k e)))
         go false false e f = refl
+
+    guti-said : cutOf s (gutiIn s p) ≡ gutiSaid (saidIn s p)
+    unfolding gutiIn leadingOf cutOf gutiSaid saidIn
+    guti-said = go (eqb (getD s (p .start) 0) 0xF2) (ltb (p .len) 11) (p .held) refl refl refl
+      where
+        none : (x : Bool) → cond {A = List ℕ} x [] [] ≡ []
+        none true = refl
+        none false = refl
+
+        first : ltb (p .len) 11 ≡ false → getD at 0 0 ≡ getD s (p .start) 0
+        first e =
+            let h : 11 ≤ p .len = ltb-false (p .len) 11 e in
+            getD-take (p .len) (drop (p .start) s) 0 0 (omega arith) ∙ getD-drop (p .start) s 0 0 ∙ ap (λ (k : ℕ). getD s k 0) (add-zero (p .start))
+
+        go : (x b h : Bool) → eqb (getD s (p .start) 0) 0xF2 ≡ x → ltb (p .len) 11 ≡ b → p .held ≡ h
+            → cutOf s (cond x (cond b absent (record { held = h; start = p .start; len = 11 })) absent) ≡ gutiSaid (cond h (contents at) missing)
+        go true true true d e f = rw (long f, e) (sym (none (eqb (getD at 0 0) 0xF2)))
+        go false true true d e f = rw (long f, e) (sym (none (eqb (getD at 0 0) 0xF2)))
+        go true false true d e f = rw (first e, d, long f, e) (sym (take-take 11 (p .len) (drop (p .start) s) (ltb-false (p .len) 11 e)))
+        go false false true d e f = rw (first e, d)
+        go true true false d e f = refl
+        go true false false d e f = refl
+        go false true false d e f = refl
+        go false false false d e f = refl
 
     secure-said : isSecurity p ≡ secureIn (saidIn s p)
     unfolding isSecurity secureIn saidIn
@@ -106,10 +135,22 @@ unfoldable keeping : ℕ → Bool → Says → Says → Bool
 keeping o known x y = both (isFourth o) (both known (both (capableIn x) (secureIn y)))
 
 -- and what it says
-unfoldable saying : ℕ → Bool → List ℕ → Says → Says → Says → Says → Says → Said
-saying o known identity x y z u v =
-    cond (keeping o known x y)
-    (says (record { regtype = o % 16; ksi = o / 16; identity = identity; capability = octetsIn x; security = octetsIn y; last = octetsIn z; uplink = pairIn u; sessions = pairIn v }))
+unfoldable saying : ℕ → Bool → List ℕ → (ℕ → Says) → Said
+saying o known identity f =
+    cond (keeping o known (f 0x10) (f 0x2E))
+    (says (record {
+      regtype = o % 16;
+      ksi = o / 16;
+      identity = identity;
+      capability = octetsIn (f 0x10);
+      security = octetsIn (f 0x2E);
+      last = octetsIn (f 0x52);
+      uplink = leadingIn 2 (f 0x40);
+      sessions = leadingIn 2 (f 0x50);
+      additional = gutiSaid (f 0x77);
+      status = leadingIn 1 (f 0x2B);
+      attach = octetsIn (f 0x70);
+    }))
     nothing
 
 -- each choice of the reading, told
@@ -123,7 +164,7 @@ module _ (s : List ℕ) (n : ℕ) (l : Elements) (sound : Sound true (length s) 
   kept-told = rw (← capable-said s (firstOf 0x10 l) (found 0x10), ← secure-said s (firstOf 0x2E l) (found 0x2E))
 
   judged-told : toldBy s (judgedOf s n l)
-      ≡ saying (getD s 3 0) (isIdentity (getD s 6 0) n) (cutOf s (record { held = true; start = 6; len = n })) (saidIn s (firstOf 0x10 l)) (saidIn s (firstOf 0x2E l)) (saidIn s (firstOf 0x52 l)) (saidIn s (firstOf 0x40 l)) (saidIn s (firstOf 0x50 l))
+      ≡ saying (getD s 3 0) (isIdentity (getD s 6 0) n) (cutOf s (record { held = true; start = 6; len = n })) (λ x. saidIn s (firstOf x l))
   unfolding judgedOf requestIn toldBy saying
   judged-told =
       rw (
@@ -131,8 +172,11 @@ module _ (s : List ℕ) (n : ℕ) (l : Elements) (sound : Sound true (length s) 
         ← able-said s (firstOf 0x10 l),
         ← cut-said s (firstOf 0x2E l),
         ← cut-said s (firstOf 0x52 l),
-        ← pair-said s (firstOf 0x40 l) (found 0x40),
-        ← pair-said s (firstOf 0x50 l) (found 0x50),
+        ← leading-said s (firstOf 0x40 l) (found 0x40) 2,
+        ← leading-said s (firstOf 0x50 l) (found 0x50) 2,
+        ← guti-said s (firstOf 0x77 l) (found 0x77),
+        ← leading-said s (firstOf 0x2B l) (found 0x2B) 1,
+        ← able-said s (firstOf 0x70 l),
       )
       (go (isRequest s n l))
     where
@@ -281,17 +325,18 @@ module _ (p : List ℕ) (long : length p ≡ 6 + identityIn p) (s : List ℕ) wh
   told-of : (d : ℕ) → toldBy all (readTo d all)
       ≡ cond (isWhole (headOf p)) (cond (formed true p s)
       (levelSays d (said true p 0x71 s) (keeping (getD p 3 0) (isIdentity (getD p 6 0) n) (said true p 0x10 s) (said true p 0x2E s))
-      (saying (getD p 3 0) (isIdentity (getD p 6 0) n) (drop 6 p) (said true p 0x10 s) (said true p 0x2E s) (said true p 0x52 s) (said true p 0x40 s) (said true p 0x50 s))) nothing) nothing
+      (saying (getD p 3 0) (isIdentity (getD p 6 0) n) (drop 6 p) (λ x. said true p x s))) nothing) nothing
   unfolding elementsReading
   told-of d =
       rw (by-head d all, ended-told all (headOf all) (elementsReading d all), head-same, ahead 4 (omega arith), ahead 5 (omega arith), ← long)
       (rw (asked-told d all n l sound, kept-told all n l sound, judged-told all n l sound, ahead 3 (omega arith), known-same, identity-same))
 
--- Elements that say the same of 10, 2E, 52, 40, 50 and 71 make the same request
+-- Elements that say the same of 10, 2E, 52, 40, 50, 77, 2B, 70 and 71 make the same request
 module _ (p : List ℕ) (long : length p ≡ 6 + identityIn p) where
-  same-request : (s t : List ℕ) → Same true p 0x10 s t → Same true p 0x2E s t → Same true p 0x52 s t → Same true p 0x40 s t → Same true p 0x50 s t → Same true p 0x71 s t → toldBy (p ++ s) (askingOf (p ++ s)) ≡ toldBy (p ++ t) (askingOf (p ++ t))
-  unfolding askingOf
-  same-request s t x y z u v w = rw (told-of p long s 1, told-of p long t 1, x .1, x .0, y .0, z .0, u .0, v .0, w .0)
+  same-request : (s t : List ℕ) → Same true p 0x10 s t → Same true p 0x2E s t → Same true p 0x52 s t → Same true p 0x40 s t → Same true p 0x50 s t → Same true p 0x77 s t → Same true p 0x2B s t → Same true p 0x70 s t → Same true p 0x71 s t
+      → toldBy (p ++ s) (askingOf (p ++ s)) ≡ toldBy (p ++ t) (askingOf (p ++ t))
+  unfolding askingOf saying
+  same-request s t x y z u v g k m w = rw (told-of p long s 1, told-of p long t 1, x .1, x .0, y .0, z .0, u .0, v .0, g .0, k .0, m .0, w .0)
 
   module _ (ps : List Piece) (all : AllAlone true ps) (a : Piece) (h : Alone true (a .id) (a .rest)) (s : List ℕ) where
     -- "Reading a request back accepts, elements in any order"
@@ -299,16 +344,16 @@ module _ (p : List ℕ) (long : length p ≡ 6 + identityIn p) where
         → toldBy (p ++ (piecesOctets ps ++ (pieceOctets a ++ (pieceOctets b ++ s)))) (askingOf (p ++ (piecesOctets ps ++ (pieceOctets a ++ (pieceOctets b ++ s)))))
         ≡ toldBy (p ++ (piecesOctets ps ++ (pieceOctets b ++ (pieceOctets a ++ s)))) (askingOf (p ++ (piecesOctets ps ++ (pieceOctets b ++ (pieceOctets a ++ s)))))
     request-order-free b k n =
-        same-request _ _ (free 0x10) (free 0x2E) (free 0x52) (free 0x40) (free 0x50) (free 0x71)
+        same-request _ _ (free 0x10) (free 0x2E) (free 0x52) (free 0x40) (free 0x50) (free 0x77) (free 0x2B) (free 0x70) (free 0x71)
       where
         free : (x : ℕ) → Same true p x (piecesOctets ps ++ (pieceOctets a ++ (pieceOctets b ++ s))) (piecesOctets ps ++ (pieceOctets b ++ (pieceOctets a ++ s)))
         free x = order-free true x p ps all a h s b k n
 
     -- "Unknown ones are skipped"
-    pub request-unknown-skipped : a .id ≢ 0x10 → a .id ≢ 0x2E → a .id ≢ 0x52 → a .id ≢ 0x40 → a .id ≢ 0x50 → a .id ≢ 0x71
+    pub request-unknown-skipped : a .id ≢ 0x10 → a .id ≢ 0x2E → a .id ≢ 0x52 → a .id ≢ 0x40 → a .id ≢ 0x50 → a .id ≢ 0x77 → a .id ≢ 0x2B → a .id ≢ 0x70 → a .id ≢ 0x71
         → toldBy (p ++ (piecesOctets ps ++ (pieceOctets a ++ s))) (askingOf (p ++ (piecesOctets ps ++ (pieceOctets a ++ s)))) ≡ toldBy (p ++ (piecesOctets ps ++ s)) (askingOf (p ++ (piecesOctets ps ++ s)))
-    request-unknown-skipped x y z u v w =
-        same-request _ _ (skipped 0x10 x) (skipped 0x2E y) (skipped 0x52 z) (skipped 0x40 u) (skipped 0x50 v) (skipped 0x71 w)
+    request-unknown-skipped x y z u v g k m w =
+        same-request _ _ (skipped 0x10 x) (skipped 0x2E y) (skipped 0x52 z) (skipped 0x40 u) (skipped 0x50 v) (skipped 0x77 g) (skipped 0x2B k) (skipped 0x70 m) (skipped 0x71 w)
       where
         skipped : (id : ℕ) → a .id ≢ id → Same true p id (piecesOctets ps ++ (pieceOctets a ++ s)) (piecesOctets ps ++ s)
         skipped id = unknown-skipped true id p ps all a h s

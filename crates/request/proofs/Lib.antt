@@ -10,7 +10,9 @@ pub mod Free
 pub mod Gathers
 pub mod Holds
 pub mod Lowest
+pub mod MappedRows
 pub mod Own
+pub mod Picked
 pub mod Pieces
 pub mod Ranges
 pub mod Recorded

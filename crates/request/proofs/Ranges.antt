@@ -5,7 +5,7 @@ use mathlib.Core.Bool.{Bool, true, false, cond, true≢false}
 use mathlib.Core.Logic.{_⊎_, inl, inr}
 use native.Mathlib.Omega.{arith}
 use lib.ListN.{getD}
-use lib.Dec.{eqb}
+use lib.Dec.{leb, eqb}
 use borrow.Author.Tests.{leb-true, eqb-true}
 use Rattle.record.specs.declared.Device.{Device}
 use Rattle.record.specs.declared.Access.{Access}
@@ -15,6 +15,7 @@ use Rattle.record.specs.Tests.{both, either, within, upTo, isFlag, isShort}
 use Rattle.ranges.specs.Valid.{deviceRanges, deviceNumbers, modeRanges, pendingRanges, identityRanges, accessRanges, rangesOf, countersOf, cardOf, suciOf, validOf}
 use Rattle.record.proofs.Bounds.{one, rest, least, most}
 use Rattle.record.specs.Sides.{accessOf}
+use Rattle.request.specs.Writing.{mayRequest}
 
 choice : (x y z : Bool) → either x (both y z) ≡ true → (x ≡ true) ⊎ ((y ≡ true) × (z ≡ true))
 choice true y z e = inl refl
@@ -130,3 +131,15 @@ module _ (r : Record) (access : ℕ) (valid : validOf r ≡ true) (state : acces
   ready =
       let sizes = lengths (r .hot .dev) carded (device r valid) in
       record { suci = sizes .0; opens = opened; capability = sizes .1 .0; security = sizes .1 .1; ksi = own-marked .0; regtype = own-marked .1 }
+
+-- what a request that may be written has
+pub record May (r : Record) (w n : ℕ) : Type 0 where
+  pub attach : n ≤ 65000
+  pub access : w ≤ 1
+  pub valid : validOf r ≡ true
+
+pub may-facts : (r : Record) (access attach : ℕ) → mayRequest r access attach ≡ true → May r access attach
+unfolding mayRequest
+may-facts r access attach e =
+    let inner : both (leb access 1) (validOf r) ≡ true = rest (leb attach 65000) _ e in
+    record { attach = leb-true attach 65000 (one (leb attach 65000) _ e); access = leb-true access 1 (one (leb access 1) _ inner); valid = rest (leb access 1) _ inner }

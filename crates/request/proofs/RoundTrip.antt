@@ -1,27 +1,29 @@
 -- A level of a request reads as it is laid out, for any fields that fit: the opening as it stands, each element by its identifier, in any order and with
 -- others among them; and what lies in its 71 reads as a message of its own. Assumes nothing.
 use Prim.Native.Nat.{ℕ, suc, _+_, _-_, _*_, _/_, _%_, _≤_}
-use mathlib.Core.Path.{_≡_, refl, _∙_, ap}
+use mathlib.Core.Path.{_≡_, refl, sym, _∙_, ap}
 use mathlib.Core.Bool.{Bool, true, false, cond}
 use mathlib.Core.Logic.{_⊎_, inl, inr}
 use mathlib.Core.List.{List, [], _∷_, _++_}
 use native.Mathlib.Omega.{arith}
-use lib.ListN.{length, getD, length-append}
-use lib.Seq.{take-at}
+use native.Mathlib.Nat.{add-zero}
+use lib.ListN.{length, getD, take, drop, length-append}
+use lib.Seq.{take-at, getD-take, getD-drop}
+use lib.Dec.{eqb}
 use borrow.Author.Tests.{lt-ltb, le-ltb, le-leb, ne-eqb}
 use Rattle.octets.specs.declared.Part.{Part}
 use Rattle.octets.specs.declared.Ending.the-variants.{Whole}
-use Rattle.octets.specs.Element.{Elements, formatOf, elementsFrom, firstOf, endOf}
+use Rattle.octets.specs.Element.{Elements, formatOf, elementsFrom, absent, firstOf, endOf}
 use Rattle.messages.specs.Message.{openedBy, endedBy}
 use Rattle.request.specs.Layout.{Fields, Fit, Item, lengthIn, laid, openingHead, opening, itemsOf}
-use Rattle.request.specs.Layout.Form.{plainForm}
-use Rattle.request.specs.Reading.{identityIn, headOf, isFourth, isIdentity, isSecurity, isCapability, isRequest, filledOf, pairOf, requestIn, judgedOf, cutOf, toldBy}
+use Rattle.request.specs.Layout.Form.{shortForm, longForm, plainForm}
+use Rattle.request.specs.Layout.Item.{item}
+use Rattle.request.specs.Reading.{identityIn, headOf, isFourth, isIdentity, isSecurity, isCapability, isRequest, filledOf, leadingOf, gutiIn, requestIn, judgedOf, cutOf, toldBy}
 use Rattle.request.specs.Reading.Said.{says}
 use Rattle.request.specs.Levels.{shifted, askedBy, readTo}
 use Rattle.request.specs.Reader.{insideOf, elementsReading}
-use Rattle.request.specs.declared.Asking.{Asking}
 use Rattle.request.specs.declared.Asking.the-variants as asking
-use Rattle.request.proofs.Back.{Reads, AllRead, short-reads, plain-reads, orElse, saysIn, some, Found, back, ends}
+use Rattle.request.proofs.Back.{Reads, AllRead, short-reads, long-reads, plain-reads, orElse, saysIn, some, Found, back, ends}
 use Rattle.request.proofs.Below.{reads-below}
 use Rattle.request.proofs.Shifts.{told-shifted, chosen, kept-around}
 use Rattle.request.proofs.Ways.{by-head}
@@ -55,11 +57,15 @@ unfolding formatOf
 area-read c (inl e) = inl e
 area-read c (inr e) = inr (plain-reads 0x52 c refl e)
 
+pub rear-read : (f : Fields) → AllRead (item longForm 0x77 (f .additional) ∷ item shortForm 0x2B (f .status) ∷ item longForm 0x70 (f .attach) ∷ [])
+unfolding AllRead formatOf
+rear-read f = (inr (long-reads 0x77 (f .additional) refl), (inr (short-reads 0x2B (f .status) refl), (inr (long-reads 0x70 (f .attach) refl), tt)))
+
 pub all-read : (f : Fields) → Fit f → AllRead (itemsOf f)
 unfolding AllRead itemsOf formatOf
 all-read f fit = (
   inr (short-reads 0x10 (f .capability) refl),
-  (inr (short-reads 0x2E (f .security) refl), (area-read (f .last) (fit .last), (inr (short-reads 0x40 (f .uplink) refl), (inr (short-reads 0x50 (f .sessions) refl), tt)))),
+  (inr (short-reads 0x2E (f .security) refl), (area-read (f .last) (fit .last), (inr (short-reads 0x40 (f .uplink) refl), (inr (short-reads 0x50 (f .sessions) refl), rear-read f)))),
 )
 
 pub alone : (c : List ℕ) → orElse c [] ≡ c
@@ -86,11 +92,30 @@ module _ {s : List ℕ} {q : Part} where
   stays [] h = rw (h .len)
   stays (o ∷ c) h = rw (ne-eqb (q .len) 0 (λ e. omega (arith, h .len))) (h .cut)
 
-  -- a status of two octets or none is all of it
-  paired : (c : List ℕ) → Found s q c → (c ≡ []) ⊎ (length c ≡ 2) → cutOf s (pairOf q) ≡ c
-  unfolding pairOf cutOf
-  paired c h (inl e) = let z : q .len ≡ 0 = h .len ∙ ap length e in rw (z, e)
-  paired c h (inr e) = let z : q .len ≡ 2 = h .len ∙ e in rw z (rw z at (h .cut))
+  -- one of as many octets as its kind has, or none, is all of it
+  led : (k : ℕ) (c : List ℕ) → Found s q c → (c ≡ []) ⊎ (length c ≡ suc k) → cutOf s (leadingOf (suc k) q) ≡ c
+  unfolding leadingOf cutOf
+  led k c h (inl e) = let z : q .len ≡ 0 = h .len ∙ ap length e in rw (z, e, lt-ltb 0 (suc k) (omega arith))
+  led k c h (inr e) = let z : q .len ≡ suc k = h .len ∙ e in rw (z, le-ltb (suc k) (suc k) (omega arith)) (rw z at (h .cut))
+
+  -- a GUTI begins with its F2
+  opening-octet : (o : ℕ) (c : List ℕ) → Found s q (o ∷ c) → getD s (q .start) 0 ≡ o
+  unfolding some cutOf
+  opening-octet o c h =
+      let cut : take (q .len) (drop (q .start) s) ≡ o ∷ c = rw (h .held) at (h .cut) in
+      ap (λ (k : ℕ). getD s k 0) (sym (add-zero (q .start)))
+      ∙ sym (getD-take (q .len) (drop (q .start) s) 0 0 (omega (arith, h .len)) ∙ getD-drop (q .start) s 0 0)
+      ∙ ap (λ (l : List ℕ). getD l 0 0) cut
+
+  identified-back : (c : List ℕ) → Found s q c → (c ≡ []) ⊎ ((getD c 0 0 ≡ 0xF2) × (length c ≡ 11)) → cutOf s (gutiIn s q) ≡ c
+  unfolding gutiIn cutOf
+  identified-back [] h x = go (eqb (getD s (q .start) 0) 0xF2)
+    where
+      go : (b : Bool) → cutOf s (cond b (leadingOf 11 q) absent) ≡ []
+      go true = led 10 [] h (inl refl)
+      go false = refl
+  identified-back (o ∷ c) h (inl e) = let z : _≡_ {A = ℕ} 0 1 = cc in absurd (omega arith)
+  identified-back (o ∷ c) h (inr (e, l)) = let z : getD s (q .start) 0 ≡ 0xF2 = opening-octet o c h ∙ e in rw z (led 10 (o ∷ c) h (inr l))
 
 -- elements that say what the fields say, in any order, others among them
 pub record Tells (i : List Item) (f : Fields) : Type 0 where
@@ -100,6 +125,9 @@ pub record Tells (i : List Item) (f : Fields) : Type 0 where
   pub last : saysIn 0x52 i ≡ f .last
   pub uplink : saysIn 0x40 i ≡ f .uplink
   pub sessions : saysIn 0x50 i ≡ f .sessions
+  pub additional : saysIn 0x77 i ≡ f .additional
+  pub status : saysIn 0x2B i ≡ f .status
+  pub attach : saysIn 0x70 i ≡ f .attach
 
 module _ (f : Fields) (fit : Fit f) (i : List Item) (tells : Tells i f) where
   abbrev s : List ℕ
@@ -135,6 +163,15 @@ module _ (f : Fields) (fit : Fit f) (i : List Item) (tells : Tells i f) where
 
   found-sessions : Found s (firstOf 0x50 l) (f .sessions)
   found-sessions = rw (tells .sessions) at (finds 0x50)
+
+  found-additional : Found s (firstOf 0x77 l) (f .additional)
+  found-additional = rw (tells .additional) at (finds 0x77)
+
+  found-status : Found s (firstOf 0x2B l) (f .status)
+  found-status = rw (tells .status) at (finds 0x2B)
+
+  found-attach : Found s (firstOf 0x70 l) (f .attach)
+  found-attach = rw (tells .attach) at (finds 0x70)
 
   long : identityIn s ≡ n
   unfolding opening openingHead lengthIn
@@ -178,8 +215,11 @@ module _ (f : Fields) (fit : Fit f) (i : List Item) (tells : Tells i f) where
         stays (f .capability) found-capability,
         found-security .cut,
         found-last .cut,
-        paired (f .uplink) found-uplink (fit .uplink),
-        paired (f .sessions) found-sessions (fit .sessions),
+        led 1 (f .uplink) found-uplink (fit .uplink),
+        led 1 (f .sessions) found-sessions (fit .sessions),
+        identified-back (f .additional) found-additional (fit .additional),
+        led 0 (f .status) found-status (fit .status),
+        stays (f .attach) found-attach,
       )
 
   -- "Reading a request back accepts, elements in any order": others among them change nothing of what is said

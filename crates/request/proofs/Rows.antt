@@ -9,7 +9,7 @@ use Rattle.octets.specs.declared.Part.{Part}
 use Rattle.octets.specs.Element as octets
 use Rattle.messages.specs.Message as messages
 use Rattle.request.specs.Layout.{Fields, lengthIn, withLead, itemOctets, laid, openingHead, opening, itemsOf, octetsOf, clear, nested, shown, levelsOf, layout}
-use Rattle.request.specs.Reading.{headOf, isFourth, isIdentity, isSecurity, isCapability, isRequest, filledOf, pairOf, requestIn, judgedOf, cutOf}
+use Rattle.request.specs.Reading.{headOf, isFourth, isIdentity, isSecurity, isCapability, isRequest, filledOf, leadingOf, gutiIn, requestIn, judgedOf, cutOf}
 use Rattle.request.specs.Levels.{shiftedPart, shiftedRequest, shifted, aroundOf, askedBy, messageBy, readTo, askingOf}
 use Rattle.request.specs.declared.Asking.the-variants as asking
 
@@ -24,6 +24,9 @@ saying regtype ksi identity uplink sessions = record {
   last = 0x00 ∷ 0xF2 ∷ 0x20 ∷ 0x00 ∷ 0x00 ∷ 0x2A ∷ [];
   uplink = uplink;
   sessions = sessions;
+  additional = [];
+  status = [];
+  attach = [];
 }
 
 abbrev suci : List ℕ
@@ -84,26 +87,26 @@ fourth-laid = refl
 abbrev part : ℕ → ℕ → Part
 part start len = record { held = true; start = start; len = len }
 
-pub first-read : askingOf first ≡ asking.Request (record { regtype = 1; ksi = 7; identity = part 6 9; capability = octets.absent; security = part 17 2; last = octets.absent; uplink = octets.absent; sessions = octets.absent })
-unfolding askingOf readTo messageBy headOf askedBy aroundOf judgedOf requestIn filledOf pairOf cutOf shifted shiftedRequest shiftedPart isRequest isFourth isIdentity isCapability isSecurity messages.openedBy messages.endedBy octets.elementsFrom octets.elementsOf octets.joined octets.elementOf octets.readAs octets.sizeOf octets.contentsOf octets.contentsBy octets.leadOf octets.leadBy octets.formatOf octets.firstOf octets.endOf
+pub first-read : askingOf first ≡ asking.Request (record { regtype = 1; ksi = 7; identity = part 6 9; capability = octets.absent; security = part 17 2; last = octets.absent; uplink = octets.absent; sessions = octets.absent; additional = octets.absent; status = octets.absent; attach = octets.absent })
+unfolding askingOf readTo messageBy headOf askedBy aroundOf judgedOf requestIn filledOf leadingOf gutiIn cutOf shifted shiftedRequest shiftedPart isRequest isFourth isIdentity isCapability isSecurity messages.openedBy messages.endedBy octets.elementsFrom octets.elementsOf octets.joined octets.elementOf octets.readAs octets.sizeOf octets.contentsOf octets.contentsBy octets.leadOf octets.leadBy octets.formatOf octets.firstOf octets.endOf
 first-read = refl
 
-pub second-read : askingOf second ≡ asking.Request (record { regtype = 1; ksi = 3; identity = part 30 11; capability = part 43 1; security = part 46 2; last = part 49 6; uplink = octets.absent; sessions = octets.absent })
-unfolding askingOf readTo messageBy headOf askedBy aroundOf judgedOf requestIn filledOf pairOf cutOf shifted shiftedRequest shiftedPart isRequest isFourth isIdentity isCapability isSecurity messages.openedBy messages.endedBy octets.elementsFrom octets.elementsOf octets.joined octets.elementOf octets.readAs octets.sizeOf octets.contentsOf octets.contentsBy octets.leadOf octets.leadBy octets.formatOf octets.firstOf octets.endOf
+pub second-read : askingOf second ≡ asking.Request (record { regtype = 1; ksi = 3; identity = part 30 11; capability = part 43 1; security = part 46 2; last = part 49 6; uplink = octets.absent; sessions = octets.absent; additional = octets.absent; status = octets.absent; attach = octets.absent })
+unfolding askingOf readTo messageBy headOf askedBy aroundOf judgedOf requestIn filledOf leadingOf gutiIn cutOf shifted shiftedRequest shiftedPart isRequest isFourth isIdentity isCapability isSecurity messages.openedBy messages.endedBy octets.elementsFrom octets.elementsOf octets.joined octets.elementOf octets.readAs octets.sizeOf octets.contentsOf octets.contentsBy octets.leadOf octets.leadBy octets.formatOf octets.firstOf octets.endOf
 second-read = refl
 
-pub third-read : askingOf third ≡ asking.Request (record { regtype = 2; ksi = 3; identity = part 30 11; capability = part 43 1; security = part 46 2; last = part 49 6; uplink = part 57 2; sessions = part 61 2 })
-unfolding askingOf readTo messageBy headOf askedBy aroundOf judgedOf requestIn filledOf pairOf cutOf shifted shiftedRequest shiftedPart isRequest isFourth isIdentity isCapability isSecurity messages.openedBy messages.endedBy octets.elementsFrom octets.elementsOf octets.joined octets.elementOf octets.readAs octets.sizeOf octets.contentsOf octets.contentsBy octets.leadOf octets.leadBy octets.formatOf octets.firstOf octets.endOf
+pub third-read : askingOf third ≡ asking.Request (record { regtype = 2; ksi = 3; identity = part 30 11; capability = part 43 1; security = part 46 2; last = part 49 6; uplink = part 57 2; sessions = part 61 2; additional = octets.absent; status = octets.absent; attach = octets.absent })
+unfolding askingOf readTo messageBy headOf askedBy aroundOf judgedOf requestIn filledOf leadingOf gutiIn cutOf shifted shiftedRequest shiftedPart isRequest isFourth isIdentity isCapability isSecurity messages.openedBy messages.endedBy octets.elementsFrom octets.elementsOf octets.joined octets.elementOf octets.readAs octets.sizeOf octets.contentsOf octets.contentsBy octets.leadOf octets.leadBy octets.formatOf octets.firstOf octets.endOf
 third-read = refl
 
-pub fourth-read : askingOf fourth ≡ asking.Request (record { regtype = 3; ksi = 7; identity = part 6 11; capability = octets.absent; security = part 19 2; last = octets.absent; uplink = octets.absent; sessions = octets.absent })
-unfolding askingOf readTo messageBy headOf askedBy aroundOf judgedOf requestIn filledOf pairOf cutOf shifted shiftedRequest shiftedPart isRequest isFourth isIdentity isCapability isSecurity messages.openedBy messages.endedBy octets.elementsFrom octets.elementsOf octets.joined octets.elementOf octets.readAs octets.sizeOf octets.contentsOf octets.contentsBy octets.leadOf octets.leadBy octets.formatOf octets.firstOf octets.endOf
+pub fourth-read : askingOf fourth ≡ asking.Request (record { regtype = 3; ksi = 7; identity = part 6 11; capability = octets.absent; security = part 19 2; last = octets.absent; uplink = octets.absent; sessions = octets.absent; additional = octets.absent; status = octets.absent; attach = octets.absent })
+unfolding askingOf readTo messageBy headOf askedBy aroundOf judgedOf requestIn filledOf leadingOf gutiIn cutOf shifted shiftedRequest shiftedPart isRequest isFourth isIdentity isCapability isSecurity messages.openedBy messages.endedBy octets.elementsFrom octets.elementsOf octets.joined octets.elementOf octets.readAs octets.sizeOf octets.contentsOf octets.contentsBy octets.leadOf octets.leadBy octets.formatOf octets.firstOf octets.endOf
 fourth-read = refl
 
 -- with a key set and no 71 it is read as it stands, and so it is behind an empty 71, whatever another one holds
-pub flat-read : (askingOf whole ≡ asking.Request (record { regtype = 1; ksi = 3; identity = part 6 11; capability = part 19 1; security = part 22 2; last = part 25 6; uplink = octets.absent; sessions = octets.absent }))
-    × (askingOf (clearPart ++ (0x71 ∷ 0x00 ∷ 0x00 ∷ 0x71 ∷ 0x00 ∷ 0x1F ∷ whole)) ≡ asking.Request (record { regtype = 1; ksi = 3; identity = part 6 11; capability = octets.absent; security = part 19 2; last = octets.absent; uplink = octets.absent; sessions = octets.absent }))
-unfolding askingOf readTo messageBy headOf askedBy aroundOf judgedOf requestIn filledOf pairOf cutOf shifted shiftedRequest shiftedPart isRequest isFourth isIdentity isCapability isSecurity messages.openedBy messages.endedBy octets.elementsFrom octets.elementsOf octets.joined octets.elementOf octets.readAs octets.sizeOf octets.contentsOf octets.contentsBy octets.leadOf octets.leadBy octets.formatOf octets.firstOf octets.endOf
+pub flat-read : (askingOf whole ≡ asking.Request (record { regtype = 1; ksi = 3; identity = part 6 11; capability = part 19 1; security = part 22 2; last = part 25 6; uplink = octets.absent; sessions = octets.absent; additional = octets.absent; status = octets.absent; attach = octets.absent }))
+    × (askingOf (clearPart ++ (0x71 ∷ 0x00 ∷ 0x00 ∷ 0x71 ∷ 0x00 ∷ 0x1F ∷ whole)) ≡ asking.Request (record { regtype = 1; ksi = 3; identity = part 6 11; capability = octets.absent; security = part 19 2; last = octets.absent; uplink = octets.absent; sessions = octets.absent; additional = octets.absent; status = octets.absent; attach = octets.absent }))
+unfolding askingOf readTo messageBy headOf askedBy aroundOf judgedOf requestIn filledOf leadingOf gutiIn cutOf shifted shiftedRequest shiftedPart isRequest isFourth isIdentity isCapability isSecurity messages.openedBy messages.endedBy octets.elementsFrom octets.elementsOf octets.joined octets.elementOf octets.readAs octets.sizeOf octets.contentsOf octets.contentsBy octets.leadOf octets.leadBy octets.formatOf octets.firstOf octets.endOf
 flat-read = (refl, refl)
 
 -- a request in a 71 in a 71
@@ -114,11 +117,11 @@ threefold = clearPart ++ (0x71 ∷ 0x00 ∷ 0x37 ∷ second)
 pub faults-told : (askingOf (clearPart ++ (0x71 ∷ 0x00 ∷ 0x02 ∷ 0x7E ∷ 0x00 ∷ 0x16 ∷ [])) ≡ asking.Bad Cut 26)
     × (askingOf (clearPart ++ (0x71 ∷ 0x00 ∷ 0x04 ∷ 0x7E ∷ 0x00 ∷ 0x44 ∷ 0x0B ∷ [])) ≡ asking.Bad Kind 26)
     × (askingOf (clearPart ++ (0x71 ∷ 0x00 ∷ 0x20 ∷ whole)) ≡ asking.Bad Past 21)
-unfolding askingOf readTo messageBy headOf askedBy aroundOf judgedOf requestIn filledOf pairOf cutOf shifted shiftedRequest shiftedPart isRequest isFourth isIdentity isCapability isSecurity messages.openedBy messages.endedBy octets.elementsFrom octets.elementsOf octets.joined octets.elementOf octets.readAs octets.sizeOf octets.contentsOf octets.contentsBy octets.leadOf octets.leadBy octets.formatOf octets.firstOf octets.endOf
+unfolding askingOf readTo messageBy headOf askedBy aroundOf judgedOf requestIn filledOf leadingOf gutiIn cutOf shifted shiftedRequest shiftedPart isRequest isFourth isIdentity isCapability isSecurity messages.openedBy messages.endedBy octets.elementsFrom octets.elementsOf octets.joined octets.elementOf octets.readAs octets.sizeOf octets.contentsOf octets.contentsBy octets.leadOf octets.leadBy octets.formatOf octets.firstOf octets.endOf
 faults-told = (refl, refl, refl)
 
 -- a third level, and a fault behind it; what it holds is not looked at
 pub levels-told : (askingOf threefold ≡ asking.Deep 45) × (askingOf (threefold ++ (0x05 ∷ [])) ≡ asking.Bad Past 79)
     × (askingOf (clearPart ++ (0x71 ∷ 0x00 ∷ 0x19 ∷ (clearPart ++ (0x71 ∷ 0x00 ∷ 0x01 ∷ 0xFF ∷ [])))) ≡ asking.Deep 45)
-unfolding askingOf readTo messageBy headOf askedBy aroundOf judgedOf requestIn filledOf pairOf cutOf shifted shiftedRequest shiftedPart isRequest isFourth isIdentity isCapability isSecurity messages.openedBy messages.endedBy octets.elementsFrom octets.elementsOf octets.joined octets.elementOf octets.readAs octets.sizeOf octets.contentsOf octets.contentsBy octets.leadOf octets.leadBy octets.formatOf octets.firstOf octets.endOf
+unfolding askingOf readTo messageBy headOf askedBy aroundOf judgedOf requestIn filledOf leadingOf gutiIn cutOf shifted shiftedRequest shiftedPart isRequest isFourth isIdentity isCapability isSecurity messages.openedBy messages.endedBy octets.elementsFrom octets.elementsOf octets.joined octets.elementOf octets.readAs octets.sizeOf octets.contentsOf octets.contentsBy octets.leadOf octets.leadBy octets.formatOf octets.firstOf octets.endOf
 levels-told = (refl, refl, refl)

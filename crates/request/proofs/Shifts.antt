@@ -35,12 +35,15 @@ module _ (s : List ℕ) (c : Part) (held : c .held ≡ true) where
   unfolding shifted shiftedRequest toldBy Below
   told-shifted (asking.Request q) x =
       rw (
-        cut-shifted (q .identity) (x .0),
-        cut-shifted (q .capability) (x .1 .0),
-        cut-shifted (q .security) (x .1 .1 .0),
-        cut-shifted (q .last) (x .1 .1 .1 .0),
-        cut-shifted (q .uplink) (x .1 .1 .1 .1 .0),
-        cut-shifted (q .sessions) (x .1 .1 .1 .1 .1),
+        cut-shifted (q .identity) (x .identity),
+        cut-shifted (q .capability) (x .capability),
+        cut-shifted (q .security) (x .security),
+        cut-shifted (q .last) (x .last),
+        cut-shifted (q .uplink) (x .uplink),
+        cut-shifted (q .sessions) (x .sessions),
+        cut-shifted (q .additional) (x .additional),
+        cut-shifted (q .status) (x .status),
+        cut-shifted (q .attach) (x .attach),
       )
   told-shifted (asking.Bad f at) x = refl
   told-shifted (asking.Deep at) x = refl

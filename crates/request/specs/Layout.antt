@@ -7,7 +7,8 @@ use mathlib.Core.List.{List, [], _∷_, _++_}
 use lib.ListN.{length, getD}
 use lib.Dec.{eqb}
 
--- What a request says. A capability, a last area, an uplink data status or a PDU session status of no octets is none.
+-- What a request says. A capability, a last area, an uplink data status, a PDU session status, an additional GUTI, a UE status or an attach message of no
+-- octets is none.
 pub record Fields : Type 0 where
   pub regtype : ℕ
   pub ksi : ℕ
@@ -17,6 +18,9 @@ pub record Fields : Type 0 where
   pub last : List ℕ
   pub uplink : List ℕ
   pub sessions : List ℕ
+  pub additional : List ℕ
+  pub status : List ℕ
+  pub attach : List ℕ
 
 -- How long the length of an element is: one octet, two octets, or none
 pub data Form : Type 0 where
@@ -56,7 +60,8 @@ unfoldable pub opening : Fields → List ℕ
 opening f = openingHead (f .regtype) (f .ksi) (length (f .identity)) ++ f .identity
 
 -- "then 10 (5GMM capability), 2E, and 52 if a last area is held": one line an element, in their order; "beside 10 the uplink data status (40, if not
--- empty) and PDU session status (50) .., in this order after 52"
+-- empty) and PDU session status (50) .., in this order after 52"; "its best 5G-GUTI as element 77", "the UE status element (2B)", the attach message "in 70;
+-- 77, 2B and 70 come last"
 unfoldable pub itemsOf : Fields → List Item
 itemsOf f =
     item shortForm 0x10 (f .capability)
@@ -64,14 +69,29 @@ itemsOf f =
     ∷ item plainForm 0x52 (f .last)
     ∷ item shortForm 0x40 (f .uplink)
     ∷ item shortForm 0x50 (f .sessions)
+    ∷ item longForm 0x77 (f .additional)
+    ∷ item shortForm 0x2B (f .status)
+    ∷ item longForm 0x70 (f .attach)
     ∷ []
 
 unfoldable pub octetsOf : Fields → List ℕ
 octetsOf f = opening f ++ laid (itemsOf f)
 
--- "the clear part (identity, 2E)"
+-- "the clear part (identity, 2E)"; 77, 2B and 70 are "in the clear part before 71" too
 unfoldable pub clear : Fields → Fields
-clear f = record { regtype = f .regtype; ksi = f .ksi; identity = f .identity; capability = []; security = f .security; last = []; uplink = []; sessions = [] }
+clear f = record {
+  regtype = f .regtype;
+  ksi = f .ksi;
+  identity = f .identity;
+  capability = [];
+  security = f .security;
+  last = [];
+  uplink = [];
+  sessions = [];
+  additional = f .additional;
+  status = f .status;
+  attach = f .attach;
+}
 
 -- "the request is the clear part (identity, 2E), then 71 with the whole request in it" (document 02, R-3): the whole request, so many levels in
 unfoldable pub nested : ℕ → Fields → List ℕ
@@ -90,7 +110,8 @@ unfoldable pub layout : Fields → List ℕ
 layout f = nested (levelsOf f) (shown f)
 
 -- What a request may say: type 1 to 3; an identity of F2 and 10 octets, or 01 and 9 to 64 octets in all; a capability of at most 13 octets,
--- a security capability of 2 to 8; a last area of six octets or none, each status of two or none
+-- a security capability of 2 to 8; a last area of six octets or none, each status of sessions of two or none; an additional GUTI of F2 and 10 octets or none, a
+-- UE status of one octet or none; any attach message
 pub record Fit (f : Fields) : Type 0 where
   pub regtype : (1 ≤ f .regtype) × (f .regtype ≤ 3)
   pub ksi : f .ksi ≤ 7
@@ -100,3 +121,5 @@ pub record Fit (f : Fields) : Type 0 where
   pub last : (f .last ≡ []) ⊎ (length (f .last) ≡ 6)
   pub uplink : (f .uplink ≡ []) ⊎ (length (f .uplink) ≡ 2)
   pub sessions : (f .sessions ≡ []) ⊎ (length (f .sessions) ≡ 2)
+  pub additional : (f .additional ≡ []) ⊎ ((getD (f .additional) 0 0 ≡ 0xF2) × (length (f .additional) ≡ 11))
+  pub status : (f .status ≡ []) ⊎ (length (f .status) ≡ 1)

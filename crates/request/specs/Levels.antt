@@ -25,6 +25,9 @@ shiftedRequest by q = record {
   last = shiftedPart by (q .last);
   uplink = shiftedPart by (q .uplink);
   sessions = shiftedPart by (q .sessions);
+  additional = shiftedPart by (q .additional);
+  status = shiftedPart by (q .status);
+  attach = shiftedPart by (q .attach);
 }
 
 unfoldable pub shifted : ℕ → Asking → Asking

@@ -48,15 +48,19 @@ isCapability p = cond (p .held) (leb (p .len) 13) true
 unfoldable pub isRequest : List ℕ → ℕ → Elements → Bool
 isRequest s n l = both (isFourth (getD s 3 0)) (both (isIdentity (getD s 6 0) n) (both (isCapability (firstOf 0x10 l)) (isSecurity (firstOf 0x2E l))))
 
--- one of no octets is too short: absent, as 10 is, and "an empty 71 is absent"
+-- one of no octets is too short: absent, as 10 and 70 are, and "an empty 71 is absent"
 unfoldable pub filledOf : Part → Part
 filledOf p = cond (eqb (p .len) 0) absent p
 
--- a status is its first two octets: "Extra octets at an element's end are ignored; a known element too short is absent"
-unfoldable pub pairOf : Part → Part
-pairOf p = cond (ltb (p .len) 2) absent (record { held = p .held; start = p .start; len = 2 })
+-- an element of so many octets is its first ones: "Extra octets at an element's end are ignored; a known element too short is absent"
+unfoldable pub leadingOf : ℕ → Part → Part
+leadingOf n p = cond (ltb (p .len) n) absent (record { held = p .held; start = p .start; len = n })
 
--- 40 and 50 may stand in a request of any type, and neither is a reason to refuse it
+-- "77 GUTI (F2, then 10 octets) .. A 77 not opening with F2 is absent"
+unfoldable pub gutiIn : List ℕ → Part → Part
+gutiIn s p = cond (eqb (getD s (p .start) 0) 0xF2) (leadingOf 11 p) absent
+
+-- 40, 50, 77, 2B and 70 may stand in a request of any type, and none is a reason to refuse it
 unfoldable pub requestIn : List ℕ → ℕ → Elements → Request
 requestIn s n l = record {
   regtype = getD s 3 0 % 16;
@@ -65,8 +69,11 @@ requestIn s n l = record {
   capability = filledOf (firstOf 0x10 l);
   security = firstOf 0x2E l;
   last = firstOf 0x52 l;
-  uplink = pairOf (firstOf 0x40 l);
-  sessions = pairOf (firstOf 0x50 l);
+  uplink = leadingOf 2 (firstOf 0x40 l);
+  sessions = leadingOf 2 (firstOf 0x50 l);
+  additional = gutiIn s (firstOf 0x77 l);
+  status = leadingOf 1 (firstOf 0x2B l);
+  attach = filledOf (firstOf 0x70 l);
 }
 
 unfoldable pub judgedOf : List ℕ → ℕ → Elements → Asking
@@ -91,6 +98,9 @@ toldBy s (asking.Request q) = says (record {
   last = cutOf s (q .last);
   uplink = cutOf s (q .uplink);
   sessions = cutOf s (q .sessions);
+  additional = cutOf s (q .additional);
+  status = cutOf s (q .status);
+  attach = cutOf s (q .attach);
 })
 toldBy s (asking.Bad f at) = nothing
 toldBy s (asking.Deep at) = nothing

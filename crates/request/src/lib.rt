@@ -3,12 +3,15 @@ use octets::Fault;
 use octets::Part;
 use record::Answer;
 
+mod laying;
 mod reading;
+mod sending;
 mod writing;
 
 pub use reading::number;
 pub use reading::offset;
 pub use reading::read;
+pub use writing::no_s1;
 pub use writing::write;
 
 // What a request says, each part as an offset and a length in its octets.
@@ -21,6 +24,9 @@ pub struct Request {
     pub last: Part,
     pub uplink: Part,
     pub sessions: Part,
+    pub additional: Part,
+    pub status: Part,
+    pub attach: Part,
 }
 
 // A refusal is a fault and its offset, a third level and its 71's offset, or a well-formed request that breaks the layout.

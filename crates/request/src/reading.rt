@@ -17,9 +17,9 @@ ghost use Prim.Native.Nat.{_+_, _-_, _<_, _≤_};
 ghost use lib.ListN.{length};
 ghost use Rattle.octets.specs.Element.{Elements, firstOf};
 ghost use Rattle.messages.specs.Message.{endedBy};
-ghost use Rattle.request.specs.Reading.{identityIn, fixedReading, headOf, isFourth, isIdentity, isSecurity, isCapability, isRequest, filledOf, pairOf, requestIn, judgedOf, askingNumber, askingOffset};
+ghost use Rattle.request.specs.Reading.{identityIn, fixedReading, headOf, isFourth, isIdentity, isSecurity, isCapability, isRequest, filledOf, leadingOf, gutiIn, requestIn, judgedOf, askingNumber, askingOffset};
 ghost use Rattle.request.specs.Levels.{shiftedPart, shiftedRequest, shifted, aroundOf, readTo, askingOf};
-ghost use Rattle.request.specs.Reader.{partsOf, aloneOf, enclosedOf, elementsReading, PartBelow, RequestBelow, Below};
+ghost use Rattle.request.specs.Reader.{partsOf, statusesOf, attachesOf, Common, Statuses, aloneOf, enclosedOf, elementsReading, PartBelow, RequestBelow, Below};
 ghost use Rattle.request.specs.declared.Asking.the-variants as asking;
 
 fn fourth(o: u8) -> bool
@@ -71,11 +71,11 @@ fn filled(p: Part) -> Part
     p
 }
 
-// The first two octets, or none.
-fn pair(p: Part) -> Part
-    ensures { λ r. ⌜ r ≡ pairOf p ⌝ }
+// The first n octets, or none.
+fn leading(p: Part, n: usize) -> Part
+    ensures { λ r. ⌜ r ≡ leadingOf n p ⌝ }
 {
-    if p.len < 2 {
+    if p.len < n {
         return Part {
             held: false,
             start: 0,
@@ -85,18 +85,37 @@ fn pair(p: Part) -> Part
     Part {
         held: p.held,
         start: p.start,
-        len: 2,
+        len: n,
     }
 }
 
-// A request, by its first 10, 2E, 52, 40 and 50.
-fn said(msg: &[u8], n: usize, p: Part, q: Part, t: Part, u: Part, v: Part) -> Request
-    ensures { λ r. ⌜ ((l : Elements) → p ≡ firstOf 0x10 l → q ≡ firstOf 0x2E l → t ≡ firstOf 0x52 l → u ≡ firstOf 0x40 l → v ≡ firstOf 0x50 l → r ≡ requestIn (now (msg .entry)) n l) ⌝ }
+// F2 and ten octets, or none.
+fn guti(msg: &[u8], p: Part) -> Part
+    ensures { λ r. ⌜ r ≡ gutiIn (now (msg .entry)) p ⌝ }
+{
+    if octet(msg, p.start) == 0xF2 {
+        return leading(p, 11);
+    }
+    Part {
+        held: false,
+        start: 0,
+        len: 0,
+    }
+}
+
+// A request, by its first 10, 2E and 52, its first 40, 50, 77 and 2B, and its first 70.
+fn said(msg: &[u8], n: usize, g: Gathered, h: Gathered, k: Gathered) -> Request
+    ensures { λ r. ⌜ ((l : Elements) → Common g l → Statuses h l → k .first ≡ firstOf 0x70 l → r ≡ requestIn (now (msg .entry)) n l) ⌝ }
 {
     let o = octet(msg, 3);
-    let capability = filled(p);
-    let uplink = pair(u);
-    let sessions = pair(v);
+    let capability = filled(g.first);
+    let security = g.second;
+    let last = g.third;
+    let uplink = leading(h.first, 2);
+    let sessions = leading(h.second, 2);
+    let additional = guti(msg, h.third);
+    let status = leading(h.fourth, 1);
+    let attach = filled(k.first);
     Request {
         regtype: o % 16,
         ksi: o / 16,
@@ -106,10 +125,13 @@ fn said(msg: &[u8], n: usize, p: Part, q: Part, t: Part, u: Part, v: Part) -> Re
             len: n,
         },
         capability,
-        security: q,
-        last: t,
+        security,
+        last,
         uplink,
         sessions,
+        additional,
+        status,
+        attach,
     }
 }
 
@@ -123,11 +145,11 @@ fn kept(fits: bool, q: Request) -> Asking
     Asking::Unfit
 }
 
-fn judged(msg: &[u8], n: usize, p: Part, q: Part, t: Part, u: Part, v: Part) -> Asking
-    ensures { λ r. ⌜ ((l : Elements) → p ≡ firstOf 0x10 l → q ≡ firstOf 0x2E l → t ≡ firstOf 0x52 l → u ≡ firstOf 0x40 l → v ≡ firstOf 0x50 l → r ≡ judgedOf (now (msg .entry)) n l) ⌝ }
+fn judged(msg: &[u8], n: usize, g: Gathered, h: Gathered, k: Gathered) -> Asking
+    ensures { λ r. ⌜ ((l : Elements) → Common g l → Statuses h l → k .first ≡ firstOf 0x70 l → r ≡ judgedOf (now (msg .entry)) n l) ⌝ }
 {
-    let fits = fits(msg, n, p, q);
-    let said = said(msg, n, p, q, t, u, v);
+    let fits = fits(msg, n, g.first, g.second);
+    let said = said(msg, n, g, h, k);
     kept(fits, said)
 }
 
@@ -192,21 +214,46 @@ fn ended(end: Ending, rest: Asking) -> Asking
     }
 }
 
-// A request with no other one in it. At most four are gathered at once, so 40 and 50 by themselves: both end alike.
-fn alone(msg: &[u8], g: Gathered) -> Asking
-    ensures { λ r. ⌜ (g ≡ partsOf (now (msg .entry)) → r ≡ aloneOf (now (msg .entry))) ⌝ }
+// The first 40, 50, 77 and 2B.
+fn statuses(msg: &[u8]) -> Gathered
+    ensures { λ r. ⌜ r ≡ statusesOf (now (msg .entry)) ⌝ }
 {
     let n = identity_len(msg);
-    let h = octets::gather(
+    octets::gather(
         msg,
         6 + n,
         true,
         Wanted::Id(0x40),
         Wanted::Id(0x50),
+        Wanted::Id(0x77),
+        Wanted::Id(0x2B),
+    )
+}
+
+// The first 70.
+fn attaches(msg: &[u8]) -> Gathered
+    ensures { λ r. ⌜ r ≡ attachesOf (now (msg .entry)) ⌝ }
+{
+    let n = identity_len(msg);
+    octets::gather(
+        msg,
+        6 + n,
+        true,
+        Wanted::Id(0x70),
         Wanted::Nothing,
         Wanted::Nothing,
-    );
-    let own = judged(msg, n, g.first, g.second, g.third, h.first, h.second);
+        Wanted::Nothing,
+    )
+}
+
+// A request with no other one in it. At most four are gathered at once, so the rest by themselves: all passes end alike.
+fn alone(msg: &[u8], g: Gathered) -> Asking
+    ensures { λ r. ⌜ (g ≡ partsOf (now (msg .entry)) → r ≡ aloneOf (now (msg .entry))) ⌝ }
+{
+    let n = identity_len(msg);
+    let h = statuses(msg);
+    let k = attaches(msg);
+    let own = judged(msg, n, g, h, k);
     let end = g.end;
     ended(end, own)
 }
@@ -257,6 +304,9 @@ fn request_at(q: Request, by: usize) -> Request
     let last = part_at(q.last, by);
     let uplink = part_at(q.uplink, by);
     let sessions = part_at(q.sessions, by);
+    let additional = part_at(q.additional, by);
+    let status = part_at(q.status, by);
+    let attach = part_at(q.attach, by);
     Request {
         regtype: q.regtype,
         ksi: q.ksi,
@@ -266,6 +316,9 @@ fn request_at(q: Request, by: usize) -> Request
         last,
         uplink,
         sessions,
+        additional,
+        status,
+        attach,
     }
 }
 

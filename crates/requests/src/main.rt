@@ -1,180 +1,18 @@
 // Writes requests of records of each shape into buffers of different lengths, and prints the buffers.
-use libc::STDOUT_FILENO;
-use record::Access;
-use record::Hot;
-use record::Record;
+use sent::length;
+use sent::lent;
+use sent::long;
+use sent::sent;
+use shapes::bits;
+use shapes::facts;
+use shapes::fresh;
+use shapes::made;
+use shapes::message;
+use shapes::short;
+use shapes::varied;
 
-// What a record holds: octets of the SUCI and the capabilities; of each access the same numbers.
-struct Shape {
-    suci: u8,
-    capability: u8,
-    security: u8,
-    guti0: u8,
-    guti1: u8,
-    net: u32,
-    equivalents: u8,
-    visited: u8,
-    ksi: u8,
-    regtype: u8,
-    uplink: u16,
-    sessions: u16,
-}
-
-fn access(s: Shape, guti: u8) -> Access {
-    let mut a = record::new_access(4);
-    a.t3510 = 1;
-    a.net = s.net;
-    a.guti = guti;
-    a.visited = s.visited;
-    a.lastnet = 0x00F220;
-    a.lastcode = 0x00002A;
-    a.ksi = s.ksi;
-    a.regtype = s.regtype;
-    a.uplink = s.uplink;
-    a.sessions = s.sessions;
-    a.equivalents = s.equivalents;
-    a
-}
-
-// A record with no card, in state 0.
-fn fresh() -> Record {
-    let capability = [0u8; 1];
-    let security = [0u8; 2];
-    let m = record::fresh(3, 3, 3, &capability, &security);
-    m.made
-}
-
-fn numbers(s: Shape) -> Hot {
-    let r = fresh();
-    let mut h = r.hot;
-    let mut d = h.dev;
-    d.card = 1;
-    d.suci = s.suci;
-    d.capability = s.capability;
-    d.security = s.security;
-    h.dev = d;
-    let a0 = access(s, s.guti0);
-    let a1 = access(s, s.guti1);
-    h.a0 = a0;
-    h.a1 = a1;
-    h
-}
-
-// 01 00 F1 10 F0 FF 00 00, then 07 and on.
-fn suci() -> [u8; 64] {
-    let mut s = [0u8; 64];
-    s[0] = 0x01;
-    s[2] = 0xF1;
-    s[3] = 0x10;
-    s[4] = 0xF0;
-    s[5] = 0xFF;
-    let mut i = 8;
-    while i < 64 {
-        s[i] = (i - 1) as u8;
-        i += 1;
-    }
-    s
-}
-
-// 00 and on.
-fn capability() -> [u8; 13] {
-    let mut s = [0u8; 13];
-    let mut i = 1;
-    while i < 13 {
-        s[i] = i as u8;
-        i += 1;
-    }
-    s
-}
-
-// The GUTIs are of the networks 00 F1 10 and 00 F2 20; each access's equivalent is the other's.
-fn made(s: Shape) -> Record {
-    let suci = suci();
-    let capability = capability();
-    let security = [0xF0, 0xF0, 0x01, 0x02, 0x03, 0x04, 0x05, 0x06];
-    let mut r = record::empty(numbers(s), suci, capability, security);
-    let guti0 = [0x00, 0xF1, 0x10, 0x80, 0x01, 0xC5, 0xD1, 0xC2, 0xB3, 0xA4];
-    let guti1 = [0x00, 0xF2, 0x20, 0x11, 0x22, 0x83, 0x0A, 0x0B, 0x0C, 0x0D];
-    r.guti0 = guti0;
-    r.guti1 = guti1;
-    let equivalents0 = [0x00F220u32; 15];
-    let equivalents1 = [0x00F110u32; 15];
-    r.equivalents0 = equivalents0;
-    r.equivalents1 = equivalents1;
-    r
-}
-
-fn say(s: &[u8]) {
-    io::write_all(STDOUT_FILENO, s);
-}
-
-fn number(n: u64) {
-    say(b" ");
-    io::print_decimal(STDOUT_FILENO, n);
-}
-
-fn digit(x: u8) -> u8 {
-    let y = x % 16;
-    if y < 10 { 48 + y } else { 55 + y }
-}
-
-fn octet(x: u8) {
-    let two = [32, digit(x / 16), digit(x)];
-    say(&two);
-}
-
-fn octets(s: &[u8]) {
-    let mut i = 0;
-    while i < s.len() {
-        octet(s[i]);
-        i += 1;
-    }
-    say(b"\n");
-}
-
-// The answer and the length, then the whole buffer.
-fn send(r: Record, access: u8, buffer: &mut [u8]) {
-    let w = request::write(r, access, buffer);
-    let answer = w.answer;
-    say(b"answer");
-    number(record::number(answer) as u64);
-    say(b" length");
-    number(w.len as u64);
-    say(b":");
-    octets(buffer);
-}
-
-// A buffer of AA with this many octets of room.
-fn sent(r: Record, access: u8, room: usize) {
-    let mut buffer = [0xAAu8; 200];
-    if room <= 200 {
-        send(r, access, &mut buffer[..room]);
-    }
-}
-
-// How many octets the request has, by a first try with room for any.
-fn length(r: Record, access: u8) -> usize {
-    let mut buffer = [0u8; 200];
-    let w = request::write(r, access, &mut buffer);
-    w.len
-}
-
-fn short() -> Shape {
-    Shape {
-        suci: 9,
-        capability: 1,
-        security: 2,
-        guti0: 0,
-        guti1: 0,
-        net: 0x00F110,
-        equivalents: 0,
-        visited: 0,
-        ksi: 7,
-        regtype: 1,
-        uplink: 0,
-        sessions: 0,
-    }
-}
+mod sent;
+mod shapes;
 
 fn sucis() {
     let mut s = short();
@@ -294,38 +132,83 @@ fn refusals() {
     sent(fresh(), 0, 19);
 }
 
-// No session, or some of 1 to 15.
-fn status(k: u32, n: u32) -> u16 {
-    if k % 3 == 0 {
-        return 0;
-    }
-    (n % 65536 * 4099 % 32767 * 2) as u16
+// A router from 4G that holds both GUTIs, by edition 2: 77, 2B and 70 behind 2E, and in a container too; with each of them left out.
+fn mapped() {
+    let mut s = short();
+    s.edition = 2;
+    s.guti0 = 1;
+    s.guti1 = 1;
+    s.net = 0x00F220;
+    s.visited = 1;
+    lent(made(s), 0, facts(15), 2, 43);
+    lent(made(s), 0, facts(15), 24, 65);
+    lent(made(s), 1, facts(15), 24, 66);
+    lent(made(s), 0, facts(15), 24, 64);
+    s.ksi = 3;
+    lent(made(s), 0, facts(15), 24, 143);
+    lent(made(s), 0, facts(15), 24, 142);
+    lent(made(s), 1, facts(15), 300, 695);
+    lent(made(s), 0, facts(15), 0, 89);
+    s.guti0 = 0;
+    s.guti1 = 0;
+    lent(made(s), 0, facts(15), 24, 115);
+    lent(made(s), 0, facts(15), 0, 61);
 }
 
-// A shape for each number. Its fields go by powers of 2, powers of 3, 7, 13 and 55, which have no common factor, so that they vary
-// apart from each other. The network is 00 F1 10, 00 F2 20 or 00 F3 30.
-fn varied(i: u32) -> Shape {
-    Shape {
-        suci: 9 + (i % 55) as u8,
-        capability: 1 + (i % 13) as u8,
-        security: 2 + (i % 7) as u8,
-        guti0: (i / 32 % 2) as u8,
-        guti1: (i / 64 % 2) as u8,
-        net: 0x00F110 + i / 3 % 3 * 0x000110,
-        equivalents: (i / 128 % 2) as u8,
-        visited: (i / 2 % 2) as u8,
-        ksi: (i / 4 % 8) as u8,
-        regtype: 1 + (i % 3) as u8,
-        uplink: status(i / 9, i),
-        sessions: status(i / 27, i / 2),
-    }
+// Without one of the facts, by edition 1, in an update, or by edition 3 with a GUTI that is not native, it is the request of before.
+fn unmapped() {
+    let mut s = short();
+    s.edition = 2;
+    lent(made(s), 0, facts(14), 24, 19);
+    lent(made(s), 0, facts(13), 24, 19);
+    lent(made(s), 0, facts(11), 24, 19);
+    lent(made(s), 0, facts(23), 24, 19);
+    lent(made(s), 0, facts(31), 24, 51);
+    s.edition = 1;
+    lent(made(s), 0, facts(31), 24, 19);
+    s.edition = 3;
+    lent(made(s), 0, facts(15), 24, 19);
+    lent(made(s), 0, facts(31), 24, 51);
+    lent(made(s), 1, facts(31), 24, 51);
+    s.regtype = 2;
+    lent(made(s), 0, facts(31), 24, 19);
+    s.regtype = 3;
+    lent(made(s), 1, facts(31), 24, 19);
+}
+
+// The longest request, in a buffer of its length and in one that is too short; an attach message too long, used or not.
+fn longest() {
+    let mut s = short();
+    s.edition = 3;
+    s.guti0 = 1;
+    s.capability = 13;
+    s.security = 8;
+    s.visited = 1;
+    s.ksi = 0;
+    long(made(s), 65000, 130119);
+    long(made(s), 65000, 130118);
+    long(made(s), 65001, 130200);
+    s.edition = 1;
+    long(made(s), 65001, 130200);
+    long(made(s), 65000, 130200);
+}
+
+// Editions 0 and 4.
+fn unknown() {
+    let mut s = short();
+    s.edition = 0;
+    sent(made(s), 0, 19);
+    s.edition = 4;
+    sent(made(s), 0, 19);
 }
 
 // In a buffer of just its length.
 fn one(i: u32) {
     let r = made(varied(i));
     let access = (i % 2) as u8;
-    sent(r, access, length(r, access));
+    let s1 = facts(bits(i));
+    let n = message(i);
+    lent(r, access, s1, n, length(r, access, s1, n));
 }
 
 fn many() {
@@ -343,5 +226,9 @@ fn main() {
     bare();
     refusals();
     outside();
+    mapped();
+    unmapped();
+    unknown();
+    longest();
     many();
 }

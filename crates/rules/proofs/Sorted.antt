@@ -30,7 +30,7 @@ module _ (h : Hot) (s : Seen) (octets : List ℕ) where
 
   pub with-import : (e : Event) → cond (isImporting e) (importedSides (cond (isImporting e) (s .at) 0) (before e)) (before e) ≡ sidesOf (accessIn e) (effectOf h e s octets)
   unfolding isImporting accessIn effectOf importEffect importedSides sidesOf accessOf otherOf
-  with-import (Card home) = refl
+  with-import (Card edition home) = refl
   with-import (Start w manual net code) = refl
   with-import (Message w protected draws) = refl
   with-import (Timer number w) = refl
@@ -43,7 +43,7 @@ module _ (h : Hot) (s : Seen) (octets : List ℕ) where
 -- an import's entries fit an octet
 pub import-fits : (e : Event) (at : ℕ) (octets : List ℕ) → isImporting e ≡ true → Fits e at octets → at < 256
 unfolding isImporting
-import-fits (Card home) at octets i f = absurd (false≢true i)
+import-fits (Card edition home) at octets i f = absurd (false≢true i)
 import-fits (Start w manual net code) at octets i f = absurd (false≢true i)
 import-fits (Message w protected draws) at octets i f = absurd (false≢true i)
 import-fits (Timer number w) at octets i f = absurd (false≢true i)

@@ -35,7 +35,7 @@ use Rattle.effects.specs.Effects.{Effect, ticked, idle, plain, cardEffect, star
 
 -- a message is read once, for its answer and its effect: m is what was read of its octets; of another event nothing is read
 abbrev pub Read : Event → List ℕ → Reading → Type 0
-Read (Card home) octets m = Unit {0}
+Read (Card edition home) octets m = Unit {0}
 Read (Start w manual net code) octets m = Unit {0}
 Read (Message w protected draws) octets m = m ≡ readingOf octets
 Read (Timer number w) octets m = Unit {0}
@@ -47,7 +47,7 @@ Read Unknown octets m = Unit {0}
 
 -- the numbers that a taken event keeps in an octet: a card's SUCI's length, the entries that are held with an import's
 abbrev pub Fits : Event → ℕ → List ℕ → Type 0
-Fits (Card home) at octets = length octets < 256
+Fits (Card edition home) at octets = length octets < 256
 Fits (Start w manual net code) at octets = Unit {0}
 Fits (Message w protected draws) at octets = Unit {0}
 Fits (Timer number w) at octets = Unit {0}
@@ -59,7 +59,7 @@ Fits Unknown at octets = Unit {0}
 
 -- the network that is looked up before an event is decided: a start's or an update's, or the pending one of a message's access; or an import's file
 unfoldable pub askOf : Hot → Event → Ask
-askOf h (Card home) = ask.Nothing
+askOf h (Card edition home) = ask.Nothing
 askOf h (Start w manual net code) = ask.Network w net
 askOf h (Message w protected draws) = ask.Network w (accessOf h w .net)
 askOf h (Timer number w) = ask.Nothing
@@ -74,7 +74,7 @@ unfoldable pub siteAt : ℕ → ℕ → ℕ → Site
 siteAt w net code = cond (eqb w 0) (site.Area net code) site.Nothing
 
 unfoldable pub siteOf : Event → Site
-siteOf (Card home) = site.Nothing
+siteOf (Card edition home) = site.Nothing
 siteOf (Start w manual net code) = siteAt w net code
 siteOf (Message w protected draws) = site.Nothing
 siteOf (Timer number w) = site.Nothing
@@ -86,7 +86,7 @@ siteOf Unknown = site.Nothing
 
 -- the event's own access; an import's is 0; an event of both does the same on each, and goes as access 0's
 unfoldable pub accessIn : Event → ℕ
-accessIn (Card home) = 0
+accessIn (Card edition home) = 0
 accessIn (Start w manual net code) = w
 accessIn (Message w protected draws) = w
 accessIn (Timer number w) = w
@@ -98,7 +98,7 @@ accessIn Unknown = 0
 
 -- the answer; an event that is none of these answers 1
 unfoldable pub answerOf : Hot → Event → Seen → Bool → List ℕ → Answer
-answerOf h (Card home) s listed octets = cardAnswer home octets
+answerOf h (Card edition home) s listed octets = cardAnswer edition home octets
 answerOf h (Start w manual net code) s listed octets = startAnswer h w manual net code s listed
 answerOf h (Message w protected draws) s listed octets = messageAnswer h w protected draws (readingOf octets) s
 answerOf h (Timer number w) s listed octets = timerAnswer h number w
@@ -116,7 +116,7 @@ messageEffect h w protected draws (reading.Bad f at) s = plain h w (still (acces
 
 -- what a taken event does
 unfoldable pub effectOf : Hot → Event → Seen → List ℕ → Effect
-effectOf h (Card home) s octets = cardEffect h home (length octets)
+effectOf h (Card edition home) s octets = cardEffect h edition home (length octets)
 effectOf h (Start w manual net code) s octets = startEffect h w net code
 effectOf h (Message w protected draws) s octets = messageEffect h w protected draws (readingOf octets) s
 effectOf h (Timer number w) s octets = timerEffect h number w

@@ -38,7 +38,7 @@ unfoldable pub planBy : Hot → ℕ → Sides → Plan
 planBy h w x = record { reply = replyBy h w x; hot = hotBy h x; work = x .work; access = w }
 
 unfoldable pub isImporting : Event → Bool
-isImporting (Card home) = false
+isImporting (Card edition home) = false
 isImporting (Start w manual net code) = false
 isImporting (Message w protected draws) = false
 isImporting (Timer number w) = false

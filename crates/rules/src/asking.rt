@@ -11,7 +11,7 @@ pub fn ask_of(h: Hot, e: Event) -> Ask
     ensures { λ r. ⌜ r ≡ rules.askOf h e ⌝ }
 {
     match e {
-        Event::Card(_) => Ask::Nothing,
+        Event::Card { .. } => Ask::Nothing,
         Event::Start {
             access,
             manual: _,
@@ -58,7 +58,7 @@ pub fn site_of(e: Event) -> Site
     ensures { λ r. ⌜ r ≡ rules.siteOf e ⌝ }
 {
     match e {
-        Event::Card(_) => Site::Nothing,
+        Event::Card { .. } => Site::Nothing,
         Event::Start {
             access,
             manual: _,

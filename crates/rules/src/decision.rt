@@ -57,7 +57,7 @@ fn heard(e: Event, octets: &[u8]) -> Reading
         t3346length: 0,
     });
     match e {
-        Event::Card(_) => unread,
+        Event::Card { .. } => unread,
         Event::Start {
             access: _,
             manual: _,
@@ -92,7 +92,7 @@ fn access_in(e: Event) -> u8
     ensures { λ r. ⌜ r ≡ rules.accessIn e ⌝ }
 {
     match e {
-        Event::Card(_) => 0,
+        Event::Card { .. } => 0,
         Event::Start {
             access,
             manual: _,
@@ -125,7 +125,7 @@ fn answer_of(h: Hot, e: Event, s: Seen, listed: bool, m: Reading, octets: &[u8])
     ensures { λ r. ⌜ r ≡ rules.answerOf h e s listed (now (octets .entry)) ⌝ }
 {
     match e {
-        Event::Card(home) => card_answer(home, octets),
+        Event::Card { edition, home } => card_answer(edition, home, octets),
         Event::Start {
             access,
             manual,
@@ -180,7 +180,7 @@ fn effect_of(h: Hot, e: Event, s: Seen, m: Reading, octets: &[u8]) -> Sides
     ensures { λ r. ⌜ r ≡ sidesOf (rules.accessIn e) (cond (isImporting e) (rules.effectOf h Event.Unknown s (now (octets .entry))) (rules.effectOf h e s (now (octets .entry)))) ⌝ }
 {
     match e {
-        Event::Card(home) => card_effect(h, home, octets.len() as u8),
+        Event::Card { edition, home } => card_effect(h, edition, home, octets.len() as u8),
         Event::Start {
             access,
             manual: _,
@@ -262,7 +262,7 @@ fn imports(e: Event) -> bool
     ensures { λ r. ⌜ r ≡ isImporting e ⌝ }
 {
     match e {
-        Event::Card(_) => false,
+        Event::Card { .. } => false,
         Event::Start {
             access: _,
             manual: _,

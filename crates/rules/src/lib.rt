@@ -19,7 +19,10 @@ pub use replies::refused_reply;
 
 // A card's SUCI, a message's octets and the file of an import come beside the event.
 pub enum Event {
-    Card(u32),
+    Card {
+        edition: u8,
+        home: u32,
+    },
     Start {
         access: u8,
         manual: u8,

@@ -183,6 +183,7 @@ fn device(r: Record) {
     capability(d.capability, c);
     let s = r.security;
     security(d.security, s);
+    small(b" edition ", d.edition);
     timers(d);
     let roaming = r.roaming;
     areas(b" roaming ", d.roaming, roaming);

@@ -20,7 +20,7 @@ use Rattle.validity.specs.Answered.{answeredBy}
 use Rattle.validity.specs.Card.{cardRecord}
 use Rattle.validity.proofs.Refusal.{taken-plan}
 
-pub card-is-new : (r : Record) (home : ℕ) (suci : List ℕ) → isTaken (answeredBy r (Card home) suci) ≡ true
-    → advanceOf r (Card home) suci .next ≡ cardRecord r home suci
+pub card-is-new : (r : Record) (edition home : ℕ) (suci : List ℕ) → isTaken (answeredBy r (Card edition home) suci) ≡ true
+    → advanceOf r (Card edition home) suci .next ≡ cardRecord r edition home suci
 unfolding cardRecord emptyRecord newDevice newAccess carded ticked joinedOf together carriedOut doneOf withCounts takenPlan hotAfter hotOf effectOf cardEffect renewed clocked flagAfter accessIn tableAfter deedOf deedOn none entriesAfter withFile isImport ranksAfter marksAfter listAfter countAfter keptAfter gutiAfter equivalentsAfter suciAfter
-card-is-new r home suci taken = rw (taken-plan r (Card home) suci taken) refl
+card-is-new r edition home suci taken = rw (taken-plan r (Card edition home) suci taken) refl

@@ -11,7 +11,7 @@ use Rattle.laws.specs.Upto.{upto, copied}
 use Rattle.entries.specs.Entries.{swept, powered, none, marksAfter, ranksAfter, isImport, withFile, entriesAfter}
 use Rattle.areas.specs.declared.Task.the-variants as task
 use Rattle.record.specs.declared.Record.{Record}
-use Rattle.record.specs.Tests.{within, isShort}
+use Rattle.record.specs.Tests.{within, isShort, isEdition}
 use Rattle.record.specs.Network.{isNetwork}
 use Rattle.record.specs.New.{zeros}
 use Rattle.ranges.specs.Valid.{suciOf}
@@ -84,13 +84,13 @@ module _ (r : Record) (g : Good r) (z : Sized r) (octets : List ℕ) where
       (g .suci)
 
   -- card change: a new record's, with this card
-  pub card-good : (home : ℕ) → isNetwork home ≡ true → within 9 64 (length octets) ≡ true → eqb (getD octets 0 0) 1 ≡ true
-      → Good (carry r octets (takenPlan (r .hot) 0 (cardEffect (r .hot) home (length octets))) .next)
+  pub card-good : (edition home : ℕ) → isEdition edition ≡ true → isNetwork home ≡ true → within 9 64 (length octets) ≡ true → eqb (getD octets 0 0) 1 ≡ true
+      → Good (carry r octets (takenPlan (r .hot) 0 (cardEffect (r .hot) edition home (length octets))) .next)
   unfolding takenPlan cardEffect carded hotAfter hotOf ticked flagAfter tableAfter none entriesAfter withFile isImport ranksAfter marksAfter deedOf deedOn equivalentsAfter suciAfter suciOf
-  card-good home p q o =
+  card-good edition home e p q o =
       let a = renewed-turned (r .hot .dev .cardlimit) in
       let b : 0 < length octets = let l = least 9 64 (length octets) q in omega arith in
-      good-next r octets (takenPlan (r .hot) 0 (cardEffect (r .hot) home (length octets)))
+      good-next r octets (takenPlan (r .hot) 0 (cardEffect (r .hot) edition home (length octets)))
       (record {
         card = refl;
         suci = q;
@@ -104,9 +104,10 @@ module _ (r : Record) (g : Good r) (z : Sized r) (octets : List ℕ) where
         t3512length = refl;
         due = refl;
         home = p;
+        edition = e;
       })
-      (half-turned (ticked 0 0 (carded home (length octets) (r .hot .dev))) 0 0 (after turns.renewed) (zeros 15) none a (none-short (zeros 15)) (none-held (r .hot .dev .banlimit) (r .hot .dev .n1limit) none))
-      (half-turned (ticked 0 0 (carded home (length octets) (r .hot .dev))) 0 0 (after turns.renewed) (zeros 15) none a (none-short (zeros 15)) (none-held (r .hot .dev .banlimit) (r .hot .dev .n1limit) none))
+      (half-turned (ticked 0 0 (carded edition home (length octets) (r .hot .dev))) 0 0 (after turns.renewed) (zeros 15) none a (none-short (zeros 15)) (none-held (r .hot .dev .banlimit) (r .hot .dev .n1limit) none))
+      (half-turned (ticked 0 0 (carded edition home (length octets) (r .hot .dev))) 0 0 (after turns.renewed) (zeros 15) none a (none-short (zeros 15)) (none-held (r .hot .dev .banlimit) (r .hot .dev .n1limit) none))
       (list-kept task.Clear (r .hot .dev .roaming) (r .roaming) (z .roaming) (g .roaming) tt)
       (list-kept task.Clear (r .hot .dev .regional) (r .regional) (z .regional) (g .regional) tt)
       (rw (most-is 64 (length octets) (le-leb (length octets) 64 (most 9 64 (length octets) q)), copied-first (length octets) octets (zeros 64) b (omega arith)) o)

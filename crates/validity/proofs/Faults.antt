@@ -27,7 +27,7 @@ use Rattle.record.specs.Answers.{numberOf}
 use Rattle.ranges.specs.Valid.{validOf}
 use Rattle.record.specs.Network.{isNetwork}
 use Rattle.record.specs.Sides.{accessOf, otherOf}
-use Rattle.record.specs.Tests.{both, flip, within, isFlag}
+use Rattle.record.specs.Tests.{both, flip, within, isFlag, isEdition}
 use Rattle.turns.specs.Rejects.{isIgnored}
 use Rattle.checks.specs.Answers.{check, isSame, isFree, placeAnswer, startRange, mayStart, startAnswer, updateRange, mayUpdate, updateAnswer, rowNow, isFull, rejectAnswer, readAnswer, messageRange, messageAnswer, timerRange, runs, timerAnswer, keyAnswer, cardAnswer, importAnswer}
 use Rattle.rules.specs.declared.Event.{Event}
@@ -92,7 +92,7 @@ module _ (s : List ℕ) where
 
   answer-tells : (h : Hot) (e : Event) (n : Seen) (listed : Bool) → Tells (answerOf h e n listed s)
   unfolding answerOf cardAnswer startAnswer updateAnswer messageAnswer timerAnswer keyAnswer importAnswer faultIn
-  answer-tells h (Card home) n listed = checked (both (isNetwork home) (both (within 9 64 (length s)) (eqb (getD s 0 0) 1))) Range _ refl (quiet Taken refl)
+  answer-tells h (Card edition home) n listed = checked (both (isEdition edition) (both (isNetwork home) (both (within 9 64 (length s)) (eqb (getD s 0 0) 1)))) Range _ refl (quiet Taken refl)
   answer-tells h (Start w manual net code) n listed =
       checked (startRange w manual net code) Range _ refl
       (checked (flip (eqb (accessOf h w .state) 0)) StateZero _ refl

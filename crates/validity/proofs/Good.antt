@@ -9,7 +9,7 @@ use Rattle.entries.proofs.Ranks.{Order}
 use Rattle.record.specs.declared.Device.{Device}
 use Rattle.record.specs.declared.Access.{Access}
 use Rattle.record.specs.declared.Record.{Record}
-use Rattle.record.specs.Tests.{both, either, within, upTo, isFlag, isShort, isClear0}
+use Rattle.record.specs.Tests.{both, either, within, upTo, isFlag, isShort, isClear0, isEdition}
 use Rattle.record.specs.Network.{isNetwork}
 use Rattle.ranges.specs.Valid.{isItem, suciOf, itself, halved}
 use Rattle.validity.proofs.Arrays.{All, Once}
@@ -28,6 +28,7 @@ pub record Fair (d : Device) : Type 0 where
   pub t3512length : upTo 35712000 (d .t3512length) ≡ true
   pub due : isFlag (d .due) ≡ true
   pub home : isNetwork (d .home) ≡ true
+  pub edition : isEdition (d .edition) ≡ true
 
 -- an access's numbers, in the groups that the setters change
 abbrev Mode : Access → Type 0

@@ -109,9 +109,9 @@ module _ (r : Record) (g : Good r) (z : Sized r) (octets : List ℕ) where
   taken-good : (e : Event) → Octets octets → isTaken (answeredBy r e octets) ≡ true
       → Good (carry r octets (takenPlan (r .hot) (accessIn e) (effectIn r e octets)) .next)
   unfolding answeredBy answerOf askOf accessIn effectOf startEffect updateEffect keyEffect seenOf seenBy fileSeen isTaken
-  taken-good (Card home) o q =
-      let p = card-passed home octets q in
-      card-good r g z octets home (p .0) (p .1) (p .2)
+  taken-good (Card edition home) o q =
+      let p = card-passed edition home octets q in
+      card-good r g z octets edition home (p .0) (p .1) (p .2) (p .3)
   taken-good (Start w manual net code) o q =
       let p = start-passed (r .hot) w manual net code (seenAt r (Start w manual net code) octets) (listedAt r (Start w manual net code)) q in
       plain-good r g z octets w (p .0) (started net code (accessOf (r .hot) w)) false

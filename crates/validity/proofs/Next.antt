@@ -57,6 +57,7 @@ good-next r octets p f a b roaming regional suci = record {
     t3512length = f .t3512length;
     due = f .due;
     home = f .home;
+    edition = f .edition;
   };
   half0 = record { fit = a .fit; timely = a .timely; carded = a .carded; equals = a .equals; held = a .held };
   half1 = record { fit = b .fit; timely = b .timely; carded = b .carded; equals = b .equals; held = b .held };
@@ -109,6 +110,7 @@ ticked-fair d o p f = record {
   t3512length = f .t3512length;
   due = f .due;
   home = f .home;
+  edition = f .edition;
 }
 
 scheduled-fair : (d : Device) (time due : ℕ) → upTo 35712000 time ≡ true → isFlag due ≡ true → Fair d → Fair (scheduled time due d)
@@ -126,6 +128,7 @@ scheduled-fair d time due h i f = record {
   t3512length = h;
   due = i;
   home = f .home;
+  edition = f .edition;
 }
 
 -- an event of one access: the device's numbers stay but for its timers, T3512's time and whether an update is due

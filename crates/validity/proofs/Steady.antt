@@ -150,7 +150,7 @@ module _ (r : Record) (g : Good r) (s : Steady r) where
 
   event-steady : (e : Event) (octets : List ℕ) → isTaken (answeredBy r e octets) ≡ true → Leaves h (accessIn e) (effectIn r e octets)
   unfolding answeredBy answerOf askOf accessIn effectOf cardEffect powerEffect importEffect withEntries flagAfter isTaken
-  event-steady (Card home) octets t = refl
+  event-steady (Card edition home) octets t = refl
   event-steady (Start w manual net code) octets t =
       start-steady w net code (start-passed h w manual net code (seenAt r (Start w manual net code) octets) (listedAt r (Start w manual net code)) t .4)
   event-steady (Message w protected draws) octets t = message-steady w protected draws (readingOf octets) _ (message-passed h w protected draws (readingOf octets) _ t .1)

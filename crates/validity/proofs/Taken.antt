@@ -12,7 +12,7 @@ use Rattle.record.specs.declared.Hot.{Hot}
 use Rattle.record.specs.declared.Answer.{Answer}
 use Rattle.record.specs.declared.Answer.the-variants as answer
 use Rattle.record.specs.Answers.{isTaken}
-use Rattle.record.specs.Tests.{both, either, flip, within, isFlag, isShort, isClear0}
+use Rattle.record.specs.Tests.{both, either, flip, within, isFlag, isShort, isClear0, isEdition}
 use Rattle.record.specs.Network.{isNetwork}
 use Rattle.turns.specs.declared.Draws.{Draws}
 use Rattle.turns.specs.Timers.{isDeviceTimer}
@@ -134,16 +134,24 @@ key-passed h w set q =
     let range = check-passed (both (isFlag w) (leb set 6)) answer.Range (check (eqb (accessOf h w .state) 4) answer.State answer.Taken) refl q in
     (one (isFlag w) (leb set 6) range, rest (isFlag w) (leb set 6) range)
 
-pub card-passed : (home : ℕ) (suci : List ℕ) → isTaken (cardAnswer home suci) ≡ true
-    → (isNetwork home ≡ true) × (within 9 64 (length suci) ≡ true) × (eqb (getD suci 0 0) 1 ≡ true)
+pub card-passed : (edition home : ℕ) (suci : List ℕ) → isTaken (cardAnswer edition home suci) ≡ true
+    → (isEdition edition ≡ true) × (isNetwork home ≡ true) × (within 9 64 (length suci) ≡ true) × (eqb (getD suci 0 0) 1 ≡ true)
 unfolding cardAnswer isTaken
-card-passed home suci q =
-    let range = check-passed (both (isNetwork home) (both (within 9 64 (length suci)) (eqb (getD suci 0 0) 1))) answer.Range answer.Taken refl q in
-    let two = rest (isNetwork home) (both (within 9 64 (length suci)) (eqb (getD suci 0 0) 1)) range in (
-      one (isNetwork home) (both (within 9 64 (length suci)) (eqb (getD suci 0 0) 1)) range,
-      one (within 9 64 (length suci)) (eqb (getD suci 0 0) 1) two,
-      rest (within 9 64 (length suci)) (eqb (getD suci 0 0) 1) two,
-    )
+card-passed edition home suci q = (
+  one (isEdition edition) (both (isNetwork home) card) range,
+  one (isNetwork home) card known,
+  one (within 9 64 (length suci)) (eqb (getD suci 0 0) 1) (rest (isNetwork home) card known),
+  rest (within 9 64 (length suci)) (eqb (getD suci 0 0) 1) (rest (isNetwork home) card known),
+)
+  where
+    card : Bool
+    card = both (within 9 64 (length suci)) (eqb (getD suci 0 0) 1)
+
+    range : both (isEdition edition) (both (isNetwork home) card) ≡ true
+    range = check-passed (both (isEdition edition) (both (isNetwork home) card)) answer.Range answer.Taken refl q
+
+    known : both (isNetwork home) card ≡ true
+    known = rest (isEdition edition) (both (isNetwork home) card) range
 
 pub import-passed : (s : Seen) → isTaken (importAnswer s) ≡ true → (s .found ≡ true) × (leb (s .at) 16 ≡ true)
 unfolding importAnswer isTaken

@@ -130,7 +130,7 @@ message-owned h b protected draws (reading.Bad f at) s = record { mine = still-o
 -- a card change and a power cycle stop every timer
 event-owned : (h : Hot) (e : Event) (s : Seen) (octets : List ℕ) → Owned h (accessIn e) (effectOf h e s octets)
 unfolding accessIn effectOf cardEffect renewed startEffect started updateEffect updated pending inState keyEffect keySet keyed powerEffect cycled importEffect withEntries accessOf otherOf flagAfter
-event-owned h (Card home) s octets = record { mine = record { t3510 = refl; t3511 = refl; t3502 = refl; t3346 = refl }; theirs = record { t3510 = refl; t3511 = refl; t3502 = refl; t3346 = refl } }
+event-owned h (Card edition home) s octets = record { mine = record { t3510 = refl; t3511 = refl; t3502 = refl; t3346 = refl }; theirs = record { t3510 = refl; t3511 = refl; t3502 = refl; t3346 = refl } }
 event-owned h (Start b manual net code) s octets = record { mine = record { t3510 = refl; t3511 = refl; t3502 = refl; t3346 = refl }; theirs = still-owns (otherOf h b) }
 event-owned h (Message b protected draws) s octets = message-owned h b protected draws (readingOf octets) s
 event-owned h (Timer number b) s octets = timer-owned h number b

@@ -12,7 +12,7 @@ use Rattle.entries.proofs.Ranks.{Order}
 use Rattle.record.specs.declared.Device.{Device}
 use Rattle.record.specs.declared.Access.{Access}
 use Rattle.record.specs.declared.Record.{Record}
-use Rattle.record.specs.Tests.{both, either, within, upTo, isFlag, isShort, isClear0}
+use Rattle.record.specs.Tests.{both, either, within, upTo, isFlag, isShort, isClear0, isEdition}
 use Rattle.record.specs.Network.{isNetwork}
 use Rattle.ranges.specs.Valid.{deviceRanges, periodicRanges, deviceNumbers, modeRanges, pendingRanges, identityRanges, heldRanges, accessRanges, isItem, rangesOf, countersOf, cardOf, suciOf, codesOf, clockOf, isBelow, itself, halved, onceOf, ranksOf, validOf}
 use Rattle.record.proofs.Bounds.{one, rest}
@@ -52,6 +52,9 @@ deviceTests d =
 
 abbrev periodicTests : Device → List Bool
 periodicTests d = upTo 35712000 (d .t3512length) ∷ isFlag (d .due) ∷ []
+
+abbrev numberTests : Device → List Bool
+numberTests d = periodicRanges d ∷ isEdition (d .edition) ∷ []
 
 device-holds : (d : Device) → deviceRanges d ≡ true → Each (isFlag (d .card)) (deviceTests d)
 unfolding deviceRanges
@@ -203,11 +206,12 @@ module _ (r : Record) where
   valid-good e =
       let v = holds (rangesOf r) validTests e in
       let g = holds (deviceNumbers (r .hot .dev)) rangeTests (v .0) in
-      let d = device-holds (r .hot .dev) (one (deviceRanges (r .hot .dev)) (periodicRanges (r .hot .dev)) (g .0)) in
-      let p = holds (isFlag (r .hot .dev .t3512)) (periodicTests (r .hot .dev)) (rest (deviceRanges (r .hot .dev)) (periodicRanges (r .hot .dev)) (g .0)) in
+      let n = holds (deviceRanges (r .hot .dev)) (numberTests (r .hot .dev)) (g .0) in
+      let d = device-holds (r .hot .dev) (n .0) in
+      let p = holds (isFlag (r .hot .dev .t3512)) (periodicTests (r .hot .dev)) (n .1 .0) in
       let c = holds (isNetwork (r .hot .dev .home)) codeTests (v .1 .1 .1 .1 .0) in
       let o = holds (distinctTo itself (r .hot .a0 .entries) (r .e0 .nets)) onceTests (v .1 .1 .1 .1 .1 .1 .0) in
-      let n = holds (countersOf (r .hot .dev) (r .hot .a0) (r .e0)) (countersOf (r .hot .dev) (r .hot .a1) (r .e1) ∷ []) (v .1 .0) in
+      let l = holds (countersOf (r .hot .dev) (r .hot .a0) (r .e0)) (countersOf (r .hot .dev) (r .hot .a1) (r .e1) ∷ []) (v .1 .0) in
       let k = holds (clockOf (r .hot .a0)) (clockOf (r .hot .a1) ∷ []) (v .1 .1 .1 .1 .1 .0) in
       let s = card-each (eqb (r .hot .dev .card) 1) (eqb (r .hot .a0 .state) 0) (eqb (r .hot .a1 .state) 0) (v .1 .1 .0) in
       record {
@@ -224,9 +228,10 @@ module _ (r : Record) where
           t3512length = p .1 .0;
           due = p .1 .1;
           home = c .0;
+          edition = n .1 .1;
         };
-        half0 = access-good (r .hot .dev) (r .hot .a0) (r .equivalents0) (r .e0) (g .1 .0) (n .0) (s .0) (c .1 .0) (c .1 .1 .1 .0) (k .0) (o .0) (v .1 .1 .1 .1 .1 .1 .1 .0);
-        half1 = access-good (r .hot .dev) (r .hot .a1) (r .equivalents1) (r .e1) (g .1 .1 .0) (n .1) (s .1) (c .1 .1 .0) (c .1 .1 .1 .1) (k .1) (o .1 .0) (v .1 .1 .1 .1 .1 .1 .1 .1);
+        half0 = access-good (r .hot .dev) (r .hot .a0) (r .equivalents0) (r .e0) (g .1 .0) (l .0) (s .0) (c .1 .0) (c .1 .1 .1 .0) (k .0) (o .0) (v .1 .1 .1 .1 .1 .1 .1 .0);
+        half1 = access-good (r .hot .dev) (r .hot .a1) (r .equivalents1) (r .e1) (g .1 .1 .0) (l .1) (s .1) (c .1 .1 .0) (c .1 .1 .1 .1) (k .1) (o .1 .0) (v .1 .1 .1 .1 .1 .1 .1 .1);
         roaming = listing (r .hot .dev .roaming) (r .roaming) (d .1 .1 .1 .1 .1 .1 .1 .1 .0) (g .1 .1 .1 .0) (o .1 .1 .0);
         regional = listing (r .hot .dev .regional) (r .regional) (d .1 .1 .1 .1 .1 .1 .1 .1 .1) (g .1 .1 .1 .1) (o .1 .1 .1);
         suci = v .1 .1 .1 .0;
@@ -236,9 +241,13 @@ module _ (r : Record) where
   unfolding rangesOf deviceNumbers periodicRanges
   good-ranges g =
       joined (deviceNumbers (r .hot .dev)) rangeTests (
-        both-true (deviceRanges (r .hot .dev)) (periodicRanges (r .hot .dev))
-            (device-joined (r .hot .dev) (g .fair .card, (g .fair .suci, (g .fair .cardlimit, (g .fair .banlimit, (g .fair .n1limit, (g .fair .capability, (g .fair .security, (g .fair .t3247, (g .roaming .count, g .regional .count))))))))))
-            (joined (isFlag (r .hot .dev .t3512)) (periodicTests (r .hot .dev)) (g .fair .t3512, (g .fair .t3512length, g .fair .due))),
+        joined (deviceRanges (r .hot .dev)) (numberTests (r .hot .dev)) (
+          device-joined (r .hot .dev) (g .fair .card, (g .fair .suci, (g .fair .cardlimit, (g .fair .banlimit, (g .fair .n1limit, (g .fair .capability, (g .fair .security, (g .fair .t3247, (g .roaming .count, g .regional .count))))))))),
+          (
+            joined (isFlag (r .hot .dev .t3512)) (periodicTests (r .hot .dev)) (g .fair .t3512, (g .fair .t3512length, g .fair .due)),
+            g .fair .edition,
+          ),
+        ),
         (
           access-ranges (r .hot .dev) (r .hot .a0) (r .equivalents0) (r .e0) (g .half0),
           (

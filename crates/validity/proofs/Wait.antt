@@ -156,7 +156,7 @@ module _ (r : Record) (s : BothWait r) where
 
   event-waits : (e : Event) (octets : List ℕ) → isTaken (answeredBy r e octets) ≡ true → Waited (effectIn r e octets)
   unfolding answeredBy answerOf askOf effectOf cardEffect renewed newAccess startEffect started updateEffect updated pending inState keyEffect keySet keyed powerEffect cycled importEffect withEntries withAttempts clocked flagAfter isTaken
-  event-waits (Card home) octets t = record { mine = refl; theirs = refl }
+  event-waits (Card edition home) octets t = record { mine = refl; theirs = refl }
   event-waits (Start b manual net code) octets t =
       let p = start-passed h b manual net code (seenAt r (Start b manual net code) octets) (listedAt r (Start b manual net code)) t in
       record { mine = either-first (eqb (accessOf h b .t3346) 0) false (p .5); theirs = still-waits (otherOf h b) (other-waits b) }

@@ -66,6 +66,7 @@ powerRecord r = record {
       security = r .hot .dev .security;
       roaming = 0;
       regional = 0;
+      edition = r .hot .dev .edition;
     };
     a0 = accessPowered (r .hot .dev .card) (r .hot .a0);
     a1 = accessPowered (r .hot .dev .card) (r .hot .a1);

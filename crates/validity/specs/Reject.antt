@@ -70,6 +70,7 @@ recordAfter t w protected cause t3247 time area r = record {
       security = r .hot .dev .security;
       roaming = cond (isRoaming (listOf t) w cause) (placedCount area (r .hot .dev .roaming) (r .roaming)) (r .hot .dev .roaming);
       regional = cond (isRegional (listOf t) w cause) (placedCount area (r .hot .dev .regional) (r .regional)) (r .hot .dev .regional);
+      edition = r .hot .dev .edition;
     };
     a0 = accessAfter t w 0 protected cause (r .hot .dev .cardlimit) time (r .hot .a0) (r .e0);
     a1 = accessAfter t w 1 protected cause (r .hot .dev .cardlimit) time (r .hot .a1) (r .e1);

@@ -187,6 +187,7 @@ figuresRecord l x w protected t3247 area r = record {
       security = r .hot .dev .security;
       roaming = cond (x .roaming) (placedCount area (r .hot .dev .roaming) (r .roaming)) (r .hot .dev .roaming);
       regional = cond (x .regional) (placedCount area (r .hot .dev .regional) (r .regional)) (r .hot .dev .regional);
+      edition = r .hot .dev .edition;
     };
     a0 = accessBy l x w 0 protected (r .hot .dev .cardlimit) (r .hot .a0) (r .e0);
     a1 = accessBy l x w 1 protected (r .hot .dev .cardlimit) (r .hot .a1) (r .e1);

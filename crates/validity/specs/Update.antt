@@ -69,6 +69,7 @@ numbersWith a0 a1 t3512 due r = record {
     security = r .hot .dev .security;
     roaming = r .hot .dev .roaming;
     regional = r .hot .dev .regional;
+    edition = r .hot .dev .edition;
   };
   a0 = a0;
   a1 = a1;

@@ -207,9 +207,15 @@ impl Generator {
         code
     }
 
+    /// Of kind 1 or, more often, of kind 11 with an edition, few of a wild log with another.
     fn card(&mut self) -> Vec<u8> {
         let index = self.random.below(3);
         let mut body = vec![1, 0];
+        if self.random.odds(70) {
+            let edition = 1 + self.random.below(3) as u8;
+            let other = self.spoil(10).then(|| self.random.pick(&[0, 4, 128, 255]));
+            body = vec![11, 0, other.unwrap_or(edition)];
+        }
         let home = self.code(network(index));
         body.extend(home);
         let mut length = self.random.pick(&[9, 9, 9, 10, 13, 32, 64]);
@@ -882,7 +888,7 @@ impl Generator {
     fn spoiled(&mut self, mut body: Vec<u8>) -> Vec<u8> {
         match self.random.below(6) {
             0 => {
-                let kind = self.random.pick(&[0, 3, 7, 8, 9, 10, 11, 255]);
+                let kind = self.random.pick(&[0, 1, 3, 7, 8, 9, 10, 11, 12, 255]);
                 body[0] = kind;
             }
             1 => body[1] = self.random.pick(&[1, 2, 128, 255]),

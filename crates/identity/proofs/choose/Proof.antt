@@ -1,7 +1,7 @@
 -- The part of the slot found: one below 2 lies in the 22 octets, and there is none below 2 where they are not 22.
 use borrow.Author.Tests.{ne-eqb, lt-ltb, le-ltb}
 use native.Mathlib.Nat.{add-sub-cancel-left}
-use Rattle.identity.specs.Identity.{slotOf, partOf, partAt, identityOf}
+use Rattle.identity.specs.Choice.{slotOf, partOf, partAt, chosenOf}
 use borrow.Author.Needs.{needs}
 use Rattle.identity.proofs.choose.Statement.{statement}
 use Rattle.identity.proofs.choose.Tie as tie
@@ -25,15 +25,15 @@ part-result-end : tie.Need-part-result-end
 part-result-end c = search needs
 
 returns : tie.Need-returns
-unfolding identityOf partOf partAt
+unfolding chosenOf partOf partAt
 returns c = (rw (← c .before .before .before .slot .ensures, lt-ltb _ _ (c .before .if2 .taken), add-sub-cancel-left), rw (← c .before .before .before .slot .ensures, lt-ltb _ _ (c .before .if2 .taken)))
 
 returns-2 : tie.Need-returns-2
-unfolding identityOf partOf partAt
+unfolding chosenOf partOf partAt
 returns-2 c = (rw (← c .before .before .slot .ensures, le-ltb _ _ (c .if2 .left)), rw (← c .before .before .slot .ensures, le-ltb _ _ (c .if2 .left)))
 
 returns-3 : tie.Need-returns-3
-unfolding identityOf partOf partAt slotOf
+unfolding chosenOf partOf partAt slotOf
 returns-3 c = (rw (ne-eqb _ _ (c .if1 .left)), rw (ne-eqb _ _ (c .if1 .left)))
 
 pub choose-spec : {M : Type 1} → statement M

@@ -1,5 +1,5 @@
 -- What the calls ensure, joined.
-use Rattle.identity.specs.Identity.{isEquivalent}
+use Rattle.identity.specs.Choice.{isEquivalent}
 use borrow.Author.Needs.{needs}
 use Rattle.identity.proofs.equivalent.Statement.{statement}
 use Rattle.identity.proofs.equivalent.Tie as tie

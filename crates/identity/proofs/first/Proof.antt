@@ -1,5 +1,5 @@
 -- Each return rewrites by the tests that led to it.
-use Rattle.identity.specs.Identity.{ownFirst}
+use Rattle.identity.specs.Choice.{ownFirst}
 use borrow.Author.Needs.{needs}
 use Rattle.identity.proofs.first.Statement.{statement}
 use Rattle.identity.proofs.first.Tie as tie

@@ -1,5 +1,5 @@
 -- What the calls ensure, joined.
-use Rattle.identity.specs.Identity.{orderOf}
+use Rattle.identity.specs.Choice.{slotBy}
 use borrow.Author.Needs.{needs}
 use Rattle.identity.proofs.order.Statement.{statement}
 use Rattle.identity.proofs.order.Tie as tie
@@ -29,7 +29,7 @@ first-requires-3 : tie.Need-first-requires-3
 first-requires-3 c κs = search needs
 
 returns : tie.Need-returns
-unfolding orderOf
+unfolding slotBy
 returns c = cc
 
 pub order-spec : {M : Type 1} → statement M

@@ -1,5 +1,5 @@
 -- What the two calls ensure, joined.
-use Rattle.identity.specs.Identity.{isPending}
+use Rattle.identity.specs.Choice.{isPending}
 use borrow.Author.Needs.{needs}
 use Rattle.identity.proofs.pending.Statement.{statement}
 use Rattle.identity.proofs.pending.Tie as tie

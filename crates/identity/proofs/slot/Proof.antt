@@ -1,6 +1,6 @@
 -- Each return rewrites by the tests that led to it.
 use borrow.Author.Tests.{eq-eqb, ne-eqb}
-use Rattle.identity.specs.Identity.{slotOf}
+use Rattle.identity.specs.Choice.{slotOf}
 use borrow.Author.Needs.{needs}
 use Rattle.identity.proofs.slot.Statement.{statement}
 use Rattle.identity.proofs.slot.Tie as tie

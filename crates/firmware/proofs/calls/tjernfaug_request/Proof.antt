@@ -38,7 +38,7 @@ use denote.Triple.Clauses.{Lasts, ensured, lasts}
 use denote.Triple.Table.{entered, cited}
 use denote.Triple.Walked.{says, Stays, stay-none, stay-none-ref, gave-slice, walkOf, AllGo, goes-none, goes-none-ref, goes-gave-slice, Walks, ends-at, walked, walk-meets}
 use denote.Exit.{yes}
-use Rattle.request.specs.Writing.{bufferOf}
+use Rattle.request.specs.Writing.{noS1, bufferOf}
 use Rattle.firmware.specs.Calls.{wroteOf}
 use Rattle.record.specs.declared.Record.{Record}
 use Rattle.record.proofs.Record as T
@@ -86,7 +86,7 @@ module _ {M : Type 1} (𝓤 : URA M) (H : Heap 𝓤) (A : Atoms 𝓤) (W : Given
 
   -- what is said of a result and of the buffer's last octets
   abbrev Said : ℕ → List ℕ → Type 0
-  Said r zs = (r ≡ wroteOf h k (length (s .now))) × (zs ≡ bufferOf h k (s .now))
+  Said r zs = (r ≡ wroteOf h k (length (s .now))) × (zs ≡ bufferOf h k noS1 [] (s .now))
 
   -- the call
   abbrev to : Called 𝓤 H A at-mem run .Ghost

@@ -15,7 +15,7 @@ kept-requires c κs = search needs
 
 returns : tie.Need-returns
 unfolding judgedOf
-returns c = λ l e f g h k. rw (← c .before .before .fits2 .ensures l e f, ← c .before .said .ensures l e f g h k) (c .kept .ensures)
+returns c = λ l e f m. rw (← c .before .before .fits2 .ensures l (e .first) (e .second), ← c .before .said .ensures l e f m) (c .kept .ensures)
 
 pub judged-spec : {M : Type 1} → statement M
 judged-spec = tie.close (tie.spec fits-requires said-requires kept-requires returns)

@@ -1,5 +1,4 @@
 -- The two ways of the test. Assumes nothing.
-use borrow.Author.Needs.{needs}
 use Rattle.request.proofs.reading.kept.Statement.{statement}
 use Rattle.request.proofs.reading.kept.Tie as tie
 
@@ -7,7 +6,7 @@ returns : tie.Need-returns
 returns c = rw (c .if1 .taken)
 
 returns-2 : tie.Need-returns-2
-returns-2 c = search needs
+returns-2 c = rw (c .if1 .left)
 
 pub kept-spec : {M : Type 1} → statement M
 kept-spec = tie.close (tie.spec returns returns-2)

@@ -22,6 +22,15 @@ part-at-requires-5 c κs = search needs
 part-at-requires-6 : tie.Need-part-at-requires-6
 part-at-requires-6 c κs = search needs
 
+part-at-requires-7 : tie.Need-part-at-requires-7
+part-at-requires-7 c κs = search needs
+
+part-at-requires-8 : tie.Need-part-at-requires-8
+part-at-requires-8 c κs = search needs
+
+part-at-requires-9 : tie.Need-part-at-requires-9
+part-at-requires-9 c κs = search needs
+
 returns : tie.Need-returns
 unfolding shiftedRequest
 returns c = cc
@@ -36,4 +45,7 @@ request-at-spec =
     part-at-requires-4
     part-at-requires-5
     part-at-requires-6
+    part-at-requires-7
+    part-at-requires-8
+    part-at-requires-9
     returns)

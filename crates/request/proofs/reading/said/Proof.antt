@@ -10,15 +10,34 @@ octet-requires c κs = search needs
 filled-requires : tie.Need-filled-requires
 filled-requires c κs = search needs
 
-pair-requires : tie.Need-pair-requires
-pair-requires c κs = search needs
+leading-requires : tie.Need-leading-requires
+leading-requires c κs = search needs
 
-pair-requires-2 : tie.Need-pair-requires-2
-pair-requires-2 c κs = search needs
+leading-requires-2 : tie.Need-leading-requires-2
+leading-requires-2 c κs = search needs
+
+guti-requires : tie.Need-guti-requires
+guti-requires c κs = search needs
+
+leading-requires-3 : tie.Need-leading-requires-3
+leading-requires-3 c κs = search needs
+
+filled-requires-2 : tie.Need-filled-requires-2
+filled-requires-2 c κs = search needs
 
 returns : tie.Need-returns
 unfolding requestIn
-returns c = λ l e f g h k. cc
+returns c = λ l e f m. rw (← e .first, ← e .second, ← e .third, ← f .first, ← f .second, ← f .third, ← f .fourth, ← m) cc
 
 pub said-spec : {M : Type 1} → statement M
-said-spec = tie.close (tie.spec octet-requires filled-requires pair-requires pair-requires-2 returns)
+said-spec =
+    tie.close
+    (tie.spec
+    octet-requires
+    filled-requires
+    leading-requires
+    leading-requires-2
+    guti-requires
+    leading-requires-3
+    filled-requires-2
+    returns)

@@ -8,7 +8,7 @@ use lib.ListN.{length, getD}
 use lib.Dec.{leb, eqb}
 use borrow.Author.Needs.{needs}
 use borrow.Author.Tests.{leb-true}
-use Rattle.record.specs.Tests.{both}
+use Rattle.record.specs.Tests.{both, isEdition}
 use Rattle.record.specs.Network.{isNetwork}
 use Rattle.record.specs.Answers.{isTaken}
 use Rattle.record.specs.declared.Answer.the-variants as answer
@@ -22,12 +22,13 @@ use Rattle.rules.proofs.decision.plan_of.Statement.{statement}
 use Rattle.rules.proofs.decision.plan_of.Tie as tie
 
 -- what is taken has passed each of its tests
-passed : (a b d e : Bool) → isTaken (check (both a (both (both b d) e)) answer.Range answer.Taken) ≡ true → d ≡ true
+passed : (n a b d e : Bool) → isTaken (check (both n (both a (both (both b d) e))) answer.Range answer.Taken) ≡ true → d ≡ true
 unfolding isTaken
-passed a b true e t = refl
-passed true true false e t = t
-passed true false false e t = t
-passed false b false e t = t
+passed n a b true e t = refl
+passed true true true false e t = t
+passed true true false false e t = t
+passed true false b false e t = t
+passed false a b false e t = t
 
 room : (a b : Bool) → isTaken (check a answer.Range (check b answer.Full answer.Taken)) ≡ true → b ≡ true
 unfolding isTaken
@@ -38,8 +39,8 @@ room false false t = t
 -- the answer, event by event
 fits : (h : Hot) (e : Event) (s : Seen) (listed : Bool) (o : List ℕ) → isTaken (answerOf h e s listed o) ≡ true → Fits e (s .at) o
 unfolding answerOf cardAnswer importAnswer
-fits h (Card home) s listed o t =
-    let most : leb (length o) 64 ≡ true = passed (isNetwork home) (leb 9 (length o)) (leb (length o) 64) (eqb (getD o 0 0) 1) t in
+fits h (Card edition home) s listed o t =
+    let most : leb (length o) 64 ≡ true = passed (isEdition edition) (isNetwork home) (leb 9 (length o)) (leb (length o) 64) (eqb (getD o 0 0) 1) t in
     omega (arith, leb-true (length o) 64 most)
 fits h (Start w manual net code) s listed o t = tt
 fits h (Message w protected draws) s listed o t = tt
