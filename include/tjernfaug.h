@@ -4,7 +4,7 @@
  *
  * What holds for every call: each pointer is valid, aligned for its type, and not null, also where its length is 0: the library takes it so, by its language's rules, and does not test it.
  * The storage behind a pointer that is not const overlaps no other argument. All of it is used during the call only, and nothing is kept.
- * Beyond that no argument is bad: any octets are a record, any number is a kind, any octets are a body, and each has its answer.
+ * Beyond that no argument is bad: any octets are a record or a table of deadlines, any number is a kind or a time, any octets are a body, and each has its answer.
  * Lengths and offsets are 64 bits wide on every processor, as the library has them: uint64_t, not size_t.
  *
  * The header is for C11 and for C++11 and later, and needs no other one but stdint.h. The calls are the library's. What stands behind them is inline: numbers in words, the
@@ -20,8 +20,8 @@ extern "C" {
 #endif
 
 /* This header's version: 10000 times the major number, 100 times the minor one, and the patch. */
-#define TJERNFAUG_VERSION 1000
-#define TJERNFAUG_VERSION_TEXT "0.10.0"
+#define TJERNFAUG_VERSION 1100
+#define TJERNFAUG_VERSION_TEXT "0.11.0"
 
 /* The library's: TJERNFAUG_VERSION of the header that belongs to it. */
 uint32_t tjernfaug_version(void);
@@ -97,6 +97,25 @@ enum tjernfaug_number {
     TJERNFAUG_TIMER_T3247 = 4,
     TJERNFAUG_TIMER_T3512 = 5,
     TJERNFAUG_TIMER_T3346 = 6,
+};
+
+/*
+ * The ten timers in a row, in the order in which those run out that are equally far past their deadlines: a place in struct tjernfaug_deadlines, and what a round hands out.
+ * NONE_DUE is the answer of an ask that names no timer.
+ */
+enum tjernfaug_slot {
+    TJERNFAUG_T3510_0,
+    TJERNFAUG_T3510_1,
+    TJERNFAUG_T3511_0,
+    TJERNFAUG_T3511_1,
+    TJERNFAUG_T3502_0,
+    TJERNFAUG_T3502_1,
+    TJERNFAUG_T3346_0,
+    TJERNFAUG_T3346_1,
+    TJERNFAUG_T3512,
+    TJERNFAUG_T3247,
+    TJERNFAUG_SLOTS,
+    TJERNFAUG_NONE_DUE = TJERNFAUG_SLOTS,
 };
 
 /* A registration's type. */
@@ -256,6 +275,24 @@ struct tjernfaug_notice {
 };
 
 /*
+ * The ten timers' deadlines, which firmware keeps beside the record and lends with it; place i is that of slot i. The clock is one 32-bit number of milliseconds that wraps.
+ * held: 1 while the timer has a deadline, else 0. ends: what the clock shows when its lap ends. rests: the milliseconds left behind that lap, 0 in the last one.
+ * A length above 2,147,483,647 ms runs in laps of at most so much, and the next begins at the old one's end, not when that was noticed. A stopped timer has 0 in all three, so that
+ * zeros are the table of a new record. The octets behind held have no meaning and may change at any call.
+ */
+struct tjernfaug_deadlines {
+    uint64_t rests[TJERNFAUG_SLOTS];
+    uint32_t ends[TJERNFAUG_SLOTS];
+    uint8_t held[TJERNFAUG_SLOTS];
+};
+
+/* A timer that ran out in a round: its slot, and what the record told at that, in the form of an event's notice. The table has followed it already; the requests are yours. */
+struct tjernfaug_ran {
+    uint32_t slot;
+    struct tjernfaug_notice notice;
+};
+
+/*
  * What a device brings from 4G, lent for a request. All but guti are 0 for no, any other number for yes.
  * registered: it was registered in S1 mode. n26: it was told that interworking without N26 is not supported. context: it holds an EPS security context.
  * valid: it holds a valid 4G-GUTI. native: that is a native one. guti: the 4G-GUTI: network (3, as sent), MME group (2, the high one first), MME code (1), M-TMSI (4).
@@ -283,6 +320,8 @@ TJERNFAUG_LAYOUT(tjernfaug_record, 1256, 8);
 TJERNFAUG_LAYOUT(tjernfaug_timer, 8, 4);
 TJERNFAUG_LAYOUT(tjernfaug_timers, 32, 4);
 TJERNFAUG_LAYOUT(tjernfaug_notice, 104, 8);
+TJERNFAUG_LAYOUT(tjernfaug_deadlines, 136, 8);
+TJERNFAUG_LAYOUT(tjernfaug_ran, 112, 8);
 TJERNFAUG_LAYOUT(tjernfaug_s1, 15, 1);
 #undef TJERNFAUG_LAYOUT
 
@@ -322,6 +361,46 @@ uint32_t tjernfaug_new(struct tjernfaug_record *r, uint8_t cardlimit, uint8_t ba
  */
 uint32_t tjernfaug_event(struct tjernfaug_record *r, uint32_t kind, const uint8_t *body, uint64_t len,
                          struct tjernfaug_notice *notice);
+
+/*
+ * The deadlines after an event, for the time now on the clock: a timer that the notice tells to be started ends so many seconds from now, also if it ran, one that is stopped has no
+ * deadline, and one that is left keeps what it has. Call it behind every tjernfaug_event, with its notice; a round does it itself.
+ * 0; or 1 where one of the ten `told` is above 2: t is then as it was.
+ */
+uint32_t tjernfaug_arm(struct tjernfaug_deadlines *t, uint32_t now, const struct tjernfaug_notice *notice);
+
+/*
+ * The slot of the timer that is due at the time now, or TJERNFAUG_NONE_DUE: of those in their last lap whose deadline is past, the one furthest past it, of equals the first slot.
+ * Past is what lies 0 to 2,147,483,647 ms behind now by the wrapping clock; all else is still to come. In t a lap that is over gives way to the next; nothing else changes, and a
+ * timer that is due is named again until it is stopped or started. tjernfaug_round asks by itself: this call is for firmware that runs its timers out one by one.
+ */
+uint32_t tjernfaug_ask(struct tjernfaug_deadlines *t, uint32_t now);
+
+/* What a round's list takes: so many numbers of 32 bits for each timer, and so many timers. */
+enum { TJERNFAUG_RAN_WORDS = 28, TJERNFAUG_MOST_RAN = 10 };
+
+/*
+ * An asking round at the time now: as long as a timer is due, it runs out. That is the timer event of its slot on r, whose notice arms t at the same now; both are handed out, from
+ * ran[0] on in the order in which they ran out. So read the clock once for a round.
+ * Call it at least every 600 s, and first at most 600 s after the first start of a timer: if the time only goes on, each timer that is not stopped before then runs out once, at its
+ * deadline or later, in the first round from then on. A log has each one as kind 4, with tjernfaug_slot_number and tjernfaug_slot_access.
+ * words counts numbers of 32 bits: TJERNFAUG_RAN_WORDS for each place of ran, of which TJERNFAUG_MOST_RAN are wanted, however few timers are due.
+ * How many ran out, 0 to TJERNFAUG_MOST_RAN, and the places behind them are as they were; or 256 plus the refusal's number, and then r, t and ran all are:
+ *   257  r is invalid, or t does not fit it: each held is to be 1 where the record has that timer running, and 0 where not
+ *   268  words is below TJERNFAUG_RAN_WORDS * TJERNFAUG_MOST_RAN, 280
+ */
+uint32_t tjernfaug_round(struct tjernfaug_record *r, struct tjernfaug_deadlines *t, uint32_t now, struct tjernfaug_ran *ran, uint64_t words);
+
+/* The longest that tjernfaug_wait says, in milliseconds. */
+enum { TJERNFAUG_LONGEST_WAIT = 600000 };
+
+/*
+ * For how many milliseconds from the time now on firmware may sleep until its next asking round: to the first end of a lap among the timers held, 0 where one is past, and
+ * TJERNFAUG_LONGEST_WAIT at most; so much too where none is held. Past is as in tjernfaug_ask, and t stays as it was. There is no refusal.
+ * A sleep that is no longer, behind a round, is over no deadline. A lap's end counts also where more laps follow: nothing runs out in the round there. An event that is handed in
+ * meanwhile may start a shorter timer: behind its arm call this again. The 600 s of tjernfaug_round count from its start, so leave some of them for what the loop itself takes.
+ */
+uint32_t tjernfaug_wait(const struct tjernfaug_deadlines *t, uint32_t now);
 
 /* The longest request, for the size of a buffer: a clear part of 80 octets, with ngKSI 7 the whole of it, then 71 with its length, and 110 in the container. */
 enum { TJERNFAUG_LONGEST_REQUEST = 193 };
@@ -439,36 +518,21 @@ static inline const char *tjernfaug_timer_name(uint32_t number)
     return number < sizeof names / sizeof *names ? names[number] : "unknown";
 }
 
-/* The ten timers of a notice in a row, so that firmware can keep an array of its own and loop over both: those of access 0, of access 1, and the device's two. */
-enum tjernfaug_slot {
-    TJERNFAUG_T3510_0,
-    TJERNFAUG_T3511_0,
-    TJERNFAUG_T3502_0,
-    TJERNFAUG_T3346_0,
-    TJERNFAUG_T3510_1,
-    TJERNFAUG_T3511_1,
-    TJERNFAUG_T3502_1,
-    TJERNFAUG_T3346_1,
-    TJERNFAUG_T3247,
-    TJERNFAUG_T3512,
-    TJERNFAUG_SLOTS,
-};
-
 /* What the notice tells of a slot's timer; of a slot that is none, that it is left. */
 static inline struct tjernfaug_timer tjernfaug_timer_of(const struct tjernfaug_notice *notice, uint32_t slot)
 {
     const struct tjernfaug_timer left = {TJERNFAUG_TOLD_LEFT, 0};
     switch (slot) {
     case TJERNFAUG_T3510_0: return notice->c0.t3510;
-    case TJERNFAUG_T3511_0: return notice->c0.t3511;
-    case TJERNFAUG_T3502_0: return notice->c0.t3502;
-    case TJERNFAUG_T3346_0: return notice->c0.t3346;
     case TJERNFAUG_T3510_1: return notice->c1.t3510;
+    case TJERNFAUG_T3511_0: return notice->c0.t3511;
     case TJERNFAUG_T3511_1: return notice->c1.t3511;
+    case TJERNFAUG_T3502_0: return notice->c0.t3502;
     case TJERNFAUG_T3502_1: return notice->c1.t3502;
+    case TJERNFAUG_T3346_0: return notice->c0.t3346;
     case TJERNFAUG_T3346_1: return notice->c1.t3346;
-    case TJERNFAUG_T3247: return notice->t3247;
     case TJERNFAUG_T3512: return notice->t3512;
+    case TJERNFAUG_T3247: return notice->t3247;
     default: return left;
     }
 }
@@ -477,24 +541,22 @@ static inline struct tjernfaug_timer tjernfaug_timer_of(const struct tjernfaug_n
 static inline uint8_t tjernfaug_slot_number(uint32_t slot)
 {
     static const uint8_t numbers[TJERNFAUG_SLOTS] = {
-        TJERNFAUG_TIMER_T3510, TJERNFAUG_TIMER_T3511, TJERNFAUG_TIMER_T3502, TJERNFAUG_TIMER_T3346,
-        TJERNFAUG_TIMER_T3510, TJERNFAUG_TIMER_T3511, TJERNFAUG_TIMER_T3502, TJERNFAUG_TIMER_T3346,
-        TJERNFAUG_TIMER_T3247, TJERNFAUG_TIMER_T3512,
+        TJERNFAUG_TIMER_T3510, TJERNFAUG_TIMER_T3510, TJERNFAUG_TIMER_T3511, TJERNFAUG_TIMER_T3511, TJERNFAUG_TIMER_T3502, TJERNFAUG_TIMER_T3502,
+        TJERNFAUG_TIMER_T3346, TJERNFAUG_TIMER_T3346, TJERNFAUG_TIMER_T3512, TJERNFAUG_TIMER_T3247,
     };
     return slot < TJERNFAUG_SLOTS ? numbers[slot] : 0;
 }
 
 static inline uint8_t tjernfaug_slot_access(uint32_t slot)
 {
-    return slot >= TJERNFAUG_T3510_1 && slot <= TJERNFAUG_T3346_1;
+    return slot < TJERNFAUG_T3512 && slot % 2 == 1;
 }
 
 static inline const char *tjernfaug_slot_name(uint32_t slot)
 {
     static const char *const names[TJERNFAUG_SLOTS] = {
-        "T3510 of access 0", "T3511 of access 0", "T3502 of access 0", "T3346 of access 0",
-        "T3510 of access 1", "T3511 of access 1", "T3502 of access 1", "T3346 of access 1",
-        "T3247", "T3512",
+        "T3510 of access 0", "T3510 of access 1", "T3511 of access 0", "T3511 of access 1", "T3502 of access 0", "T3502 of access 1",
+        "T3346 of access 0", "T3346 of access 1", "T3512", "T3247",
     };
     return slot < TJERNFAUG_SLOTS ? names[slot] : "unknown";
 }

@@ -4,11 +4,14 @@
  * home. In a busy hour the network asks for ten minutes there, and the device waits. Then the network takes it, after an accept that lost its last octet, and it moves: a
  * mobility update in the next area, and a periodic one once T3512 has run out. It writes the card's file, which forbids the same networks for a record just given that card.
  * Then it has a new card and goes a long way: sixteen networks turn it away, and the seventeenth finds a place once T3247 has lifted their marks.
- * Last it has a card of edition 2 and comes from 4G: it opens with the GUTI mapped from its 4G-GUTI, and adds its own, its UE status and the attach message.
- * Its ten timers go as the notices tell. It writes what it was told to a log, from which the lab's program replays the same states.
+ * Then it has a card of edition 2 and comes from 4G, behind a power cut: it opens with the GUTI mapped from its 4G-GUTI, and adds its own, its UE status and the attach message.
+ * Last it is told to call in after 413 days, and does.
+ * Its ten timers have their deadlines on a clock of 32 bits that soon wraps, and again every fifty days; they run out in asking rounds alone, up to 600 s apart. For every other one it
+ * sleeps no longer than the library says, and that one is not late at all. It writes what it was told, and what ran out, to a log, from which the lab's program replays the same states.
  * Usage: device LOG; the states go to standard output as the lab's program prints them.
  */
 #include <inttypes.h>
+#include <stddef.h>
 #include <stdio.h>
 #include <string.h>
 #include "tjernfaug.h"
@@ -25,52 +28,65 @@ static const uint8_t suci[] = {0x01, 0x00, 0xF1, 0x10, 0xF0, 0xFF, 0x00, 0x00, 0
 static const uint8_t listed[] = {0xFF, 0xFF, 0xFF, 0x00, 0xF4, 0x40, 0xFF, 0xFF, 0xFF, 0xFF, 0xFF, 0xFF};
 static const uint8_t stored[] = {0x00, 0xF4, 0x40, 0x00, 0xF2, 0x20, 0xFF, 0xFF, 0xFF, 0xFF, 0xFF, 0xFF};
 
-/* The false cell's reject, cause 11; that of a busy network, cause 22 with T3346 (5F 01 2A, ten minutes); an accept with T3512 (5E 01 21, an hour), which may be left out. */
+/* The false cell's reject, cause 11; that of a busy network, cause 22 with T3346 (5F 01 2A, ten minutes); an accept with T3512 (5E 01 21, an hour), which may be left out;
+ * one with the longest T3512, 31 times 320 hours. */
 static const uint8_t reject[] = {0x7E, 0x00, 0x44, 0x0B};
 static const uint8_t congestion[] = {0x7E, 0x00, 0x44, 0x16, 0x5F, 0x01, 0x2A};
 static const uint8_t accept[] = {0x7E, 0x00, 0x42, 0x01, 0x01, 0x5E, 0x01, 0x21};
-enum { ELEMENT = 3 };
+static const uint8_t longest[] = {0x7E, 0x00, 0x42, 0x01, 0x01, 0x5E, 0x01, 0xDF};
+enum { ELEMENT = 3, LONGEST = 35712000 };
 
 /* A request with ngKSI 7: the clear part alone, the card's SUCI and 2E. */
 static const uint8_t clear[] = {0x7E, 0x00, 0x41, 0x71, 0x00, 0x09, 0x01, 0x00, 0xF1, 0x10, 0xF0, 0xFF, 0x00, 0x00, 0x07, 0x2E, 0x02, 0xF0, 0xF0};
 
-/* now is in seconds, and ends has when a slot's timer is out; 0 where it does not run. */
+/* The clock is the board's, in milliseconds; passed counts them too, since the device was switched on. */
 struct device {
     struct tjernfaug_record record;
+    struct tjernfaug_deadlines table;
     struct tjernfaug_notice notice;
-    uint32_t now, ends[TJERNFAUG_SLOTS];
+    struct tjernfaug_ran ran[TJERNFAUG_MOST_RAN];
+    uint32_t clock, rounds, waits;
+    uint64_t passed;
     uint8_t body[TJERNFAUG_LONGEST_CARD_EDITION];
     FILE *log;
     unsigned events;
 };
 
-/* Starts and stops the device's timers as the notice tells. Right is that those run which the record holds as running. */
-static int follow(struct device *d)
+/* A thousand seconds before the clock wraps; the numbers that a round's list has; the longest lap; and how long the device waits for its next round, 600 s at most. */
+enum { WORDS = TJERNFAUG_MOST_RAN * TJERNFAUG_RAN_WORDS };
+static const uint32_t begin = UINT32_MAX - 999999, lap = 2147483647, gaps[] = {600000, 1, 599999, 600000, 234567};
+
+/* Those timers have a deadline which the record holds as running. */
+static int fits(const struct device *d)
 {
     const struct tjernfaug_access *a = &d->record.hot.a0, *b = &d->record.hot.a1;
-    const uint8_t held[] = {a->t3510, a->t3511, a->t3502, a->t3346, b->t3510, b->t3511, b->t3502, b->t3346, d->record.hot.dev.t3247, d->record.hot.dev.t3512};
-    int right = 1;
-    for (uint32_t slot = 0; slot < TJERNFAUG_SLOTS; slot++) {
-        const struct tjernfaug_timer timer = tjernfaug_timer_of(&d->notice, slot);
-        if (timer.told != TJERNFAUG_TOLD_LEFT)
-            d->ends[slot] = timer.told == TJERNFAUG_TOLD_STARTED ? d->now + timer.seconds : 0;
-        right &= (d->ends[slot] != 0) == held[slot];
-    }
-    return right;
+    const uint8_t runs[TJERNFAUG_SLOTS] = {a->t3510, b->t3510, a->t3511, b->t3511, a->t3502, b->t3502, a->t3346, b->t3346, d->record.hot.dev.t3512, d->record.hot.dev.t3247};
+    return memcmp(d->table.held, runs, sizeof runs) == 0;
 }
 
-/* Logs the event, hands it over, and prints its number, its answer, both states and T3247; of a message at fault it says which octet was bad. */
-static uint32_t hand(struct device *d, uint32_t kind, const uint8_t *body, uint64_t len)
+/* Logs an event. */
+static void note(struct device *d, uint32_t kind, const uint8_t *body, uint64_t len)
 {
     const uint8_t head[] = {(uint8_t)(len + 2), (uint8_t)((len + 2) >> 8), (uint8_t)kind, (uint8_t)(kind >> 8)};
     fwrite(head, 1, sizeof head, d->log);
     fwrite(body, 1, (size_t)len, d->log);
-    uint32_t answer = tjernfaug_event(&d->record, kind, body, len, &d->notice);
-    const struct tjernfaug_hot *hot = &d->record.hot;
+}
+
+/* An event's number, its answer, both states and T3247. */
+static void show(struct device *d, uint32_t answer, const struct tjernfaug_hot *hot)
+{
     printf("%u %u %u %u %u\n", ++d->events, answer, hot->a0.state, hot->a1.state, hot->dev.t3247);
+}
+
+/* Logs the event, hands it over, shows it, and gives the timers their deadlines; of a message at fault it says which octet was bad. */
+static uint32_t hand(struct device *d, uint32_t kind, const uint8_t *body, uint64_t len)
+{
+    note(d, kind, body, len);
+    uint32_t answer = tjernfaug_event(&d->record, kind, body, len, &d->notice);
+    show(d, answer, &d->record.hot);
     if (answer >= TJERNFAUG_ANSWER_CUT && answer <= TJERNFAUG_ANSWER_UNKNOWN_ELEMENT)
         fprintf(stderr, "device: octet %" PRIu64 ": %s\n", d->notice.offset, tjernfaug_answer_name(answer));
-    return follow(d) ? answer : TJERNFAUG_REFUSED;
+    return tjernfaug_arm(&d->table, d->clock, &d->notice) == TJERNFAUG_ANSWER_TAKEN && fits(d) ? answer : TJERNFAUG_REFUSED;
 }
 
 static int taken(uint32_t answer)
@@ -78,9 +94,11 @@ static int taken(uint32_t answer)
     return answer == TJERNFAUG_ANSWER_TAKEN;
 }
 
-static int runs(const struct device *d, uint32_t slot, uint32_t seconds)
+/* The slot's timer was started now for so many seconds: its first lap, and what rests behind it. */
+static int runs(const struct device *d, uint32_t slot, uint64_t seconds)
 {
-    return d->ends[slot] == d->now + seconds;
+    const uint64_t length = 1000 * seconds, first = length < lap ? length : lap;
+    return d->table.held[slot] == 1 && d->table.ends[slot] == (uint32_t)(d->clock + first) && d->table.rests[slot] == length - first;
 }
 
 static uint32_t opened(struct tjernfaug_record *r)
@@ -110,11 +128,52 @@ static uint32_t key(struct device *d)
     return hand(d, TJERNFAUG_KIND_KEY, d->body, tjernfaug_body_key(0, 0, d->body, sizeof d->body));
 }
 
-/* The time goes on until a slot's timer is out; then that is handed over. */
-static uint32_t wait(struct device *d, uint32_t slot)
+/* A timer that ran out is logged, and shown on the record as it was before the round: its event there is taken and tells the same. */
+static int replays(struct device *d, struct tjernfaug_record *before, const struct tjernfaug_ran *ran)
 {
-    d->now = d->ends[slot];
-    return hand(d, TJERNFAUG_KIND_TIMER, d->body, tjernfaug_body_timer(tjernfaug_slot_number(slot), tjernfaug_slot_access(slot), d->body, sizeof d->body));
+    const uint64_t len = tjernfaug_body_timer(tjernfaug_slot_number(ran->slot), tjernfaug_slot_access(ran->slot), d->body, sizeof d->body);
+    note(d, TJERNFAUG_KIND_TIMER, d->body, len);
+    const uint32_t answer = tjernfaug_event(before, TJERNFAUG_KIND_TIMER, d->body, len, &d->notice);
+    show(d, answer, &before->hot);
+    return taken(answer) && memcmp(&ran->notice, &d->notice, offsetof(struct tjernfaug_notice, update) + sizeof d->notice.update) == 0;
+}
+
+/* An asking round: how many timers ran out, the first of them in d->ran[0]. */
+static uint32_t asks(struct device *d)
+{
+    struct tjernfaug_record before = d->record;
+    const uint32_t count = tjernfaug_round(&d->record, &d->table, d->clock, d->ran, WORDS);
+    int right = count <= TJERNFAUG_MOST_RAN && fits(d);
+    for (uint32_t i = 0; right && i < count; i++)
+        right = replays(d, &before, &d->ran[i]);
+    return right ? count : TJERNFAUG_REFUSED;
+}
+
+/*
+ * The time goes on, round by round, until a slot's timer is out. Right is the first round that is so many seconds from now or later; just then, if the device sleeps no longer than the
+ * library says. The notice is then that timer's.
+ */
+static int wait(struct device *d, uint32_t slot, uint64_t seconds)
+{
+    const uint64_t deadline = d->passed + 1000 * seconds;
+    const int punctual = d->waits++ % 2 == 0;
+    while (d->passed < deadline) {
+        const uint32_t drawn = gaps[d->rounds++ % (sizeof gaps / sizeof *gaps)], most = tjernfaug_wait(&d->table, d->clock);
+        const uint32_t gap = punctual && most < drawn ? most : drawn;
+        if (most == 0 || most > TJERNFAUG_LONGEST_WAIT)
+            return 0;
+        d->clock += gap;
+        d->passed += gap;
+        const uint32_t count = asks(d);
+        if (count > TJERNFAUG_MOST_RAN)
+            return 0;
+        for (uint32_t i = 0; i < count; i++)
+            if (d->ran[i].slot == slot) {
+                d->notice = d->ran[i].notice;
+                return punctual ? d->passed == deadline : d->passed >= deadline;
+            }
+    }
+    return 0;
 }
 
 /* The draws are 1800 s for T3247 and 900 s for T3346. */
@@ -162,9 +221,9 @@ static int quiet(struct device *d)
     const struct tjernfaug_entries *e = &d->record.e0;
     uint32_t rejects = 0;
     while (rejects < 10 && taken(start(d, AWAY)) && runs(d, TJERNFAUG_T3510_0, 15) && sends(d, clear, sizeof clear)
-           && taken(heard(d, 0, reject, sizeof reject)) && runs(d, TJERNFAUG_T3247, 1800) && taken(wait(d, TJERNFAUG_T3247)))
+           && taken(heard(d, 0, reject, sizeof reject)) && runs(d, TJERNFAUG_T3247, 1800) && wait(d, TJERNFAUG_T3247, 1800))
         rejects++;
-    return rejects == 3 && d->now == 5400 && start(d, AWAY) == TJERNFAUG_ANSWER_NETWORK_LISTED && start(d, BANNED) == TJERNFAUG_ANSWER_NETWORK_LISTED
+    return rejects == 3 && start(d, AWAY) == TJERNFAUG_ANSWER_NETWORK_LISTED && start(d, BANNED) == TJERNFAUG_ANSWER_NETWORK_LISTED
         && e->nets[1] == AWAY && e->forbidden[1] == 1 && e->bans[1] == 3;
 }
 
@@ -184,7 +243,7 @@ static int chooses(struct device *d)
 static int busy(struct device *d)
 {
     return taken(start(d, HOME)) && taken(key(d)) && taken(heard(d, 1, congestion, sizeof congestion)) && runs(d, TJERNFAUG_T3346_0, 600)
-        && start(d, HOME) == TJERNFAUG_ANSWER_WAITING && taken(wait(d, TJERNFAUG_T3346_0)) && d->notice.restart == 1 && d->now == 6000;
+        && start(d, HOME) == TJERNFAUG_ANSWER_WAITING && wait(d, TJERNFAUG_T3346_0, 600) && d->notice.restart == 1;
 }
 
 /* An update, its request octet by octet, and its accept. */
@@ -200,8 +259,8 @@ static int moves(struct device *d)
     return taken(start(d, HOME)) && taken(key(d)) && heard(d, 1, accept, sizeof accept - 1) == TJERNFAUG_ANSWER_PAST_END && d->notice.offset == 5
         && taken(heard(d, 1, accept, sizeof accept)) && d->notice.offset == 0 && runs(d, TJERNFAUG_T3512, 3600)
         && update(d, TJERNFAUG_TYPE_PERIODIC, HERE) == TJERNFAUG_ANSWER_STATE && moved(d, TJERNFAUG_TYPE_MOBILITY, HERE, NEXT)
-        && taken(wait(d, TJERNFAUG_T3512)) && d->record.hot.dev.due == 1 && moved(d, TJERNFAUG_TYPE_PERIODIC, NEXT, NEXT)
-        && d->record.hot.dev.due == 0 && d->now == 9600;
+        && wait(d, TJERNFAUG_T3512, 3600) && d->record.hot.dev.due == 1 && moved(d, TJERNFAUG_TYPE_PERIODIC, NEXT, NEXT)
+        && d->record.hot.dev.due == 0;
 }
 
 /* The card's file, with the false cell's network too; one that is too short, or ends within a place, stays. A record just given that card reads it and writes the same. */
@@ -220,7 +279,10 @@ static int stores(struct device *d)
         && tjernfaug_forbidden(&later, again, sizeof again) == 2 && memcmp(again, stored, sizeof again) == 0;
 }
 
-/* Seventeen networks, 005-00 to 005-16, that turn the device away. Sixteen have an entry and a mark, so that the last is answer 4; then T3247 is out, and the first gives up its place. */
+/*
+ * Seventeen networks, 005-00 to 005-16, that turn the device away. Sixteen have an entry and a mark, so that the last is answer 4, and T3510 runs out over it. Then T3247 is out, and
+ * when the device tries again, the first gives up its place.
+ */
 static int passes(struct device *d)
 {
     const struct tjernfaug_entries *e = &d->record.e0;
@@ -228,7 +290,8 @@ static int passes(struct device *d)
     for (uint32_t i = 0; i < 17; i++)
         right &= taken(start(d, tjernfaug_network(5, i, 2)))
             && heard(d, 0, reject, sizeof reject) == (i < 16 ? TJERNFAUG_ANSWER_TAKEN : TJERNFAUG_ANSWER_FULL) && e->ranks[i % 16] == i % 16;
-    return right && taken(wait(d, TJERNFAUG_T3247)) && taken(heard(d, 0, reject, sizeof reject)) && d->record.hot.a0.entries == 16
+    return right && wait(d, TJERNFAUG_T3247, 1800) && d->record.hot.a0.attempts == 1 && taken(start(d, tjernfaug_network(5, 16, 2)))
+        && taken(heard(d, 0, reject, sizeof reject)) && d->record.hot.a0.entries == 16
         && e->nets[0] == tjernfaug_network(5, 16, 2) && e->bans[0] == 1 && e->forbidden[0] == 1 && e->ranks[0] == 15 && e->ranks[1] == 0 && e->forbidden[1] == 0;
 }
 
@@ -272,16 +335,33 @@ static uint32_t card_of(struct device *d, uint8_t edition)
     return hand(d, TJERNFAUG_KIND_CARD_EDITION, d->body, tjernfaug_body_card_edition(edition, HOME, suci, sizeof suci, d->body, sizeof d->body));
 }
 
+/* A power cut, which the record outlives and the table does not: they have parted, and no round is taken, until the power event has stopped all timers. */
+static int cut(struct device *d)
+{
+    memset(&d->table, 0, sizeof d->table);
+    return d->record.hot.dev.t3512 == 1 && tjernfaug_round(&d->record, &d->table, d->clock, d->ran, WORDS) == TJERNFAUG_REFUSED + TJERNFAUG_ANSWER_RANGE
+        && taken(hand(d, TJERNFAUG_KIND_POWER, d->body, TJERNFAUG_BODY_POWER)) && tjernfaug_ask(&d->table, d->clock) == TJERNFAUG_NONE_DUE
+        && tjernfaug_wait(&d->table, d->clock) == TJERNFAUG_LONGEST_WAIT
+        && tjernfaug_round(&d->record, &d->table, d->clock, d->ran, WORDS - 1) == TJERNFAUG_REFUSED + TJERNFAUG_ANSWER_SHORT && asks(d) == 0;
+}
+
 /* A card of edition 2, which a power cycle leaves, and a 5G-GUTI from another network. The mapped GUTI opens the next request if no fact is missing. */
 static int comes(struct device *d)
 {
     struct tjernfaug_s1 lacking = from_4g;
     lacking.context = 0;
     return card_of(d, 4) == TJERNFAUG_ANSWER_RANGE && taken(card_of(d, TJERNFAUG_EDITION_SOURCE_002)) && taken(start(d, AWAY))
-        && taken(heard(d, 1, given, sizeof given)) && taken(hand(d, TJERNFAUG_KIND_POWER, d->body, TJERNFAUG_BODY_POWER))
+        && taken(heard(d, 1, given, sizeof given)) && cut(d)
         && d->record.hot.dev.edition == TJERNFAUG_EDITION_SOURCE_002 && taken(start(d, HOME)) && sends(d, opening, sizeof opening)
         && brings(d, &lacking, opening, sizeof opening) && brings(d, &from_4g, mapped, sizeof mapped)
         && taken(key(d)) && brings(d, &from_4g, hidden, sizeof hidden) && taken(heard(d, 1, accept, sizeof accept));
+}
+
+/* The longest T3512, in 17 laps; the clock wraps eight times on the way. */
+static int lasts(struct device *d)
+{
+    return taken(update(d, TJERNFAUG_TYPE_MOBILITY, NEXT)) && taken(heard(d, 1, longest, sizeof longest)) && runs(d, TJERNFAUG_T3512, LONGEST)
+        && wait(d, TJERNFAUG_T3512, LONGEST) && d->record.hot.dev.due == 1;
 }
 
 int main(int argc, char **argv)
@@ -295,14 +375,16 @@ int main(int argc, char **argv)
         {stores, "two networks in the card's file"},
         {passes, "sixteen entries, and the seventeenth network in the place of the first"},
         {comes, "from 4G with a mapped GUTI"},
+        {lasts, "T3512 out in the longest time that there is"},
     };
     static struct device d;
     if (argc != 2 || !(d.log = fopen(argv[1], "wb")))
         return 2;
+    d.clock = begin;
     int right = taken(opened(&d.record));
     for (size_t i = 0; right && i < sizeof story / sizeof *story; i++) {
         right = story[i].part(&d);
-        fprintf(stderr, "device: %s%s, after %" PRIu32 " s\n", right ? "" : "wrong: ", story[i].told, d.now);
+        fprintf(stderr, "device: %s%s, after %" PRIu64 " s\n", right ? "" : "wrong: ", story[i].told, d.passed / 1000);
     }
     right &= fclose(d.log) == 0;
     return !right;

@@ -1,6 +1,7 @@
 // The calls that the fuzz run makes, drawn: on a record that lives on events which are often right, and on records changed from it.
-use crate::second::{self, triple, CAccess, CEntries, CNotice, CRecord, Plain, CS1};
-use crate::{ATTACH, BAR, CARD, CAUSE, CELLS, EDITION, EVENT, FORBIDDEN, FROM_S1, IMPORT, NEW, REQUEST, UNUSED};
+use crate::deadlines::WAIT as LONGEST;
+use crate::second::{self, triple, CAccess, CEntries, CNotice, CRecord, CTable, Plain, CS1};
+use crate::{ARM, ASK, ATTACH, BAR, CARD, CAUSE, CELLS, EDITION, EVENT, FORBIDDEN, FROM_S1, IMPORT, LAP, NEW, REQUEST, ROUND, UNUSED, WAIT, WORDS};
 
 const BODY: u32 = 96;
 /// Above the longest request.
@@ -25,6 +26,7 @@ pub struct Ask {
     pub notice: CNotice,
     pub s1: CS1,
     pub length: u64,
+    pub table: CTable,
     pub arrays: [Vec<u8>; 2],
     /// The place over access 0 that the event's network is to take from another.
     pub takes: Option<usize>,
@@ -40,6 +42,10 @@ impl Draw {
     fn next(&mut self) -> u32 {
         self.0 = self.0.wrapping_mul(6364136223846793005).wrapping_add(1442695040888963407);
         (self.0 >> 32) as u32
+    }
+
+    fn wide(&mut self) -> u64 {
+        (self.next() as u64) << 32 | self.next() as u64
     }
 
     fn below(&mut self, end: u32) -> u32 {
@@ -84,11 +90,12 @@ impl Draw {
     }
 
     fn ask(&mut self, call: u8, record: CRecord) -> Ask {
-        let (mut notice, mut s1) = (CNotice::zero(), CS1::zero());
+        let (mut notice, mut s1, mut table) = (CNotice::zero(), CS1::zero(), CTable::zero());
         self.scatter(notice.octets_mut());
         self.scatter(s1.octets_mut());
-        let length = (self.next() as u64) << 32 | self.next() as u64;
-        Ask { call, gaps: self.octet(256), small: [0; 3], kind: 0, record, notice, s1, length, arrays: [vec![], vec![]], takes: None }
+        self.scatter(table.octets_mut());
+        let length = self.wide();
+        Ask { call, gaps: self.octet(256), small: [0; 3], kind: 0, record, notice, s1, length, table, arrays: [vec![], vec![]], takes: None }
     }
 
     fn hand(&mut self, record: CRecord, (kind, body): (u32, Vec<u8>)) -> Ask {
@@ -602,6 +609,125 @@ fn forbidden(d: &mut Draw, mut record: CRecord) -> Ask {
     Ask { arrays: [file, vec![]], ..d.ask(FORBIDDEN, record) }
 }
 
+/// A clock's time, often about where it wraps or half way round.
+fn time(d: &mut Draw) -> u32 {
+    let (near, any) = (d.below(1000), d.next());
+    [0, u32::MAX, LAP, LAP + 1, near, near.wrapping_neg(), any, any][d.below(8) as usize]
+}
+
+/// A deadline and what rests behind it. Past by nothing, by up to 600 s, by as much as there may be or by any; to come in a moment, as far off as there may be, or at any time.
+fn deadline(d: &mut Draw, now: u32) -> (u32, u64) {
+    let (near, any, wide) = (d.below(600_001), d.below(LAP + 1), d.wide());
+    let late = [0, near, near, LAP, any, u32::MAX, LAP + 1, !any][d.below(8) as usize];
+    let rests = [1, near as u64, LAP as u64, LAP as u64 + 1, 33_564_516_353, u64::MAX, wide, wide >> (near % 64)][d.below(8) as usize];
+    (now.wrapping_sub(late), if d.below(4) == 0 { rests } else { 0 })
+}
+
+/// The flags of the ten timers, in the order of the slots.
+pub fn flags(r: &CRecord) -> [u8; 10] {
+    let [a, b] = r.access;
+    [a.t3510, b.t3510, a.t3511, b.t3511, a.t3502, b.t3502, a.t3346, b.t3346, r.dev.t3512, r.dev.t3247]
+}
+
+/// A table that fits the record. Half of all have ties, and of a quarter any numbers stand where no timer is held.
+fn table(d: &mut Draw, r: &CRecord, now: u32) -> CTable {
+    let (mut rests, mut ends, held) = ([0; 10], [0; 10], flags(r));
+    let (tied, strange, shared) = (d.below(2) == 0, d.below(4) == 0, deadline(d, now));
+    for i in 0..10 {
+        (ends[i], rests[i]) = if tied && d.below(3) > 0 { shared } else { deadline(d, now) };
+        if held[i] == 0 && !strange {
+            (ends[i], rests[i]) = (0, 0);
+        }
+    }
+    CTable { rests, ends, held }
+}
+
+/// Any table: all octets by chance, or of one that fits the record up to three octets of `held` by chance.
+fn odd_table(d: &mut Draw, r: &CRecord, now: u32) -> CTable {
+    let mut t = table(d, r, now);
+    match d.below(8) {
+        0 => d.scatter(t.octets_mut()),
+        1 => d.scatter(&mut t.held),
+        _ => {
+            for _ in 0..d.below(4) {
+                let at = d.below(10) as usize;
+                t.held[at] = [1 - t.held[at].min(1), 2, 1, d.octet(256)][d.below(4) as usize];
+            }
+        }
+    }
+    t
+}
+
+/// What a notice may tell of a timer, one in twenty-four something that there is not; often for a length about a lap's.
+fn telling(d: &mut Draw) -> [u32; 2] {
+    let (any, unknown) = (d.next(), [3, 3 + d.below(1 << 30), u32::MAX][d.below(3) as usize]);
+    let seconds = [0, 15, LAP / 1000, LAP / 1000 + 1, MOST, u32::MAX, any, any >> 12][d.below(8) as usize];
+    [if d.below(24) == 0 { unknown } else { d.below(3) }, seconds]
+}
+
+fn arming(d: &mut Draw, r: &CRecord) -> Ask {
+    let (kind, mut ask) = (time(d), d.ask(ARM, *r));
+    ask.notice.clocks = [0; 2].map(|_| [0; 4].map(|_| telling(d)));
+    (ask.notice.t3247, ask.notice.t3512) = (telling(d), telling(d));
+    Ask { kind, table: odd_table(d, r, kind), ..ask }
+}
+
+fn asking(d: &mut Draw, r: &CRecord) -> Ask {
+    let kind = time(d);
+    Ask { kind, table: odd_table(d, r, kind), ..d.ask(ASK, *r) }
+}
+
+/// A sleep, mostly with all deadlines to come: the first in a moment, about the longest wait or any time before it, the others from then on, as far off as there may be.
+fn waiting(d: &mut Draw, r: &CRecord) -> Ask {
+    let kind = time(d);
+    let (mut table, soon) = (odd_table(d, r, kind), 1 + d.below(LONGEST));
+    let first = [1, soon, soon, LONGEST - 1, LONGEST, LONGEST + 1][d.below(6) as usize];
+    if d.below(6) > 0 {
+        let held = table.held;
+        for i in (0..10).filter(|&i| held[i] > 0) {
+            let ahead = [1, LONGEST, 1 + d.below(LONGEST), 1 + d.below(LAP + 1), LAP + 1][d.below(5) as usize];
+            table.ends[i] = kind.wrapping_add(ahead.max(first));
+        }
+    }
+    Ask { kind, table, ..d.ask(WAIT, *r) }
+}
+
+/// All timers run, or all but a few, and T3510 is often at its last attempt, with a T3502 of no time.
+fn ripe(d: &mut Draw, full: &CRecord) -> CRecord {
+    let mut r = *full;
+    let rare = d.below(8) == 0;
+    for a in &mut r.access {
+        (a.state, a.attempts, a.t3502length) = (4, 3 + d.octet(3), [0, 0, 1, 720][d.below(4) as usize]);
+        (a.t3510, a.t3511, a.t3502, a.t3346) = (1, 1, !rare as u8, 1);
+    }
+    (r.dev.t3512, r.dev.t3247) = (1, 1);
+    r
+}
+
+/// A table of the ripe record: all are due, many equally far past their deadlines.
+fn ripe_table(d: &mut Draw, r: &CRecord, now: u32) -> CTable {
+    let late = [0; 10].map(|_| now.wrapping_sub(d.below(4) * 1000));
+    CTable { rests: [0; 10], ends: late, held: flags(r) }
+}
+
+/// A round with a list that is just long enough or longer; one in eight is shorter, often by one number. A list is whole pairs, of which the last number may not be lent.
+fn rounding(d: &mut Draw, record: CRecord, kind: u32, table: CTable) -> Ask {
+    let (more, less) = (WORDS + d.below(60), d.below(WORDS));
+    let words = if d.below(8) == 0 { [0, WORDS - 1, WORDS - 1, less][d.below(4) as usize] } else { [WORDS, WORDS, WORDS + 1, more][d.below(4) as usize] };
+    let list = d.octets(words.div_ceil(2) * 8);
+    Ask { kind, small: [(words % 2) as u8, 0, 0], table, arrays: [vec![], list], ..d.ask(ROUND, record) }
+}
+
+/// The calls of a round that are about deadlines.
+fn clocked(d: &mut Draw, live: &CRecord, full: &CRecord, broken: &CRecord) -> Vec<Ask> {
+    let (ripe, now) = (ripe(d, full), time(d));
+    let (due, some, odd, bad) = (ripe_table(d, &ripe, now), table(d, full, now), odd_table(d, full, now), table(d, broken, now));
+    let (any, young) = (table(d, &ripe, now), table(d, live, now));
+    let mut calls = vec![arming(d, full), asking(d, full), asking(d, &ripe), waiting(d, live), waiting(d, full), waiting(d, &ripe)];
+    calls.extend([(ripe, due), (ripe, any), (*full, some), (*live, young), (*full, odd), (*broken, bad)].map(|(record, table)| rounding(d, record, now, table)));
+    calls
+}
+
 /// The record with one octet of its first `end` bent.
 fn changed(d: &mut Draw, live: &CRecord, end: usize) -> CRecord {
     let (mut r, at) = (*live, d.below(end as u32) as usize);
@@ -653,5 +779,6 @@ pub fn round(d: &mut Draw, live: &CRecord) -> Vec<Ask> {
     calls.extend([*live, full, broken, misranked].map(|record| cells(d, record)));
     calls.extend([marked, misranked].map(|record| forbidden(d, record)));
     calls.extend(requests(d, live, &full, [one, misranked, odd], access));
+    calls.extend(clocked(d, live, &full, &broken));
     calls
 }

@@ -1,22 +1,25 @@
 // Random octets through the C interface: as a record, as a kind and a body, and as changes to a record that lives on random events.
 // Held: the header's layout, answer 1 exactly where the record is invalid by a second reading of document 01, a refusal's record unchanged, nothing written outside what is lent,
 // for a valid record the answer, the notice, the record and the request of the second program, which reads that request back as the record's, by its container where it is to have one,
-// also with what a device brings from 4G, its choice among the cells heard, its file of forbidden networks, and the fault of a message by a reading of R-1 alone, for the event and
-// for the reject reader.
+// also with what a device brings from 4G, its choice among the cells heard, its file of forbidden networks, the fault of a message by a reading of R-1 alone, for the event and
+// for the reject reader, and the deadlines that a notice gives, the timer that is due, what runs out in an asking round, and how long firmware may sleep.
 //
 // Usage: fuzz SECONDS SEED PROGRAM [ARGUMENTS]
-// The program is tests/c/lend.c. First it tells how many octets a record, a notice, the facts of 4G and a length have without their gaps, and the header's longest request, most cells,
-// longest list, longest attach message and longest request with one.
-// A call goes to it as one octet each for the call (0 to have the answers so far), what fills the gaps and six small numbers (three limits, or the access), then the kind and the
-// lengths of two arrays, then the record, the notice, the facts, the length and the arrays; back come the answer, how many octets were written before what is lent, and all of these
-// as they then are.
-// Numbers have four octets, the low one first, in the two lists of cells too.
+// The program is tests/c/lend.c. First it tells how many octets a record, a notice, the facts of 4G, a length and a table of deadlines have without their gaps, and the header's longest
+// request, most cells, longest list, longest attach message and longest request with one, the numbers of a timer that ran out, how many of these there are at most, no slot's number, and
+// the longest wait.
+// A call goes to it as one octet each for the call (0 to have the answers so far), what fills the gaps and six small numbers (three limits, the access, or how many numbers of the
+// second array are not lent), then the kind or the clock's time and the lengths of two arrays, then the record, the notice, the facts, the length, the table and the arrays; back come
+// the answer, how many octets were written before what is lent, and all of these as they then are.
+// Numbers have four octets, the low one first, in the two lists of cells and in that of a round too.
 // Cases are numbered from SEED on, and each draws by its number alone. With 0 seconds the case SEED runs alone.
 #![allow(dead_code)]
 #[path = "../../docs/src/card.rs"]
 mod card;
 #[path = "../../docs/src/cells.rs"]
 mod cells;
+#[path = "../../docs/src/deadlines.rs"]
+mod deadlines;
 mod draws;
 mod editions;
 mod faults;
@@ -30,11 +33,13 @@ mod message;
 mod record;
 #[path = "../../docs/src/request.rs"]
 mod request;
+mod rounds;
 mod second;
 mod valid;
 
+use deadlines::Table;
 use draws::{Ask, Draw};
-use second::{CNotice, CRecord, Plain, CS1};
+use second::{CNotice, CRecord, CTable, Plain, CS1};
 use std::io::{self, BufReader, Read, Write};
 use std::ops::Range;
 use std::panic::{catch_unwind, AssertUnwindSafe};
@@ -49,6 +54,10 @@ pub const CAUSE: u8 = 4;
 pub const CELLS: u8 = 5;
 pub const FORBIDDEN: u8 = 6;
 pub const FROM_S1: u8 = 7;
+pub const ARM: u8 = 8;
+pub const ASK: u8 = 9;
+pub const ROUND: u8 = 10;
+pub const WAIT: u8 = 11;
 /// The kinds of a card, the second R-7's.
 pub const CARD: u32 = 1;
 pub const EDITION: u32 = 11;
@@ -71,6 +80,10 @@ const MAPPED: [u32; 2] = [65_047, 130_119];
 pub const ATTACH: u32 = 65_000;
 /// The longest list of forbidden networks.
 const LIST: u32 = 48;
+/// The longest lap of R-13, in milliseconds, the numbers that a timer has which ran out, and those that a round's list is to have.
+pub const LAP: u32 = 2_147_483_647;
+const RAN: u32 = 28;
+pub const WORDS: u32 = 280;
 const LIVES: u64 = 32;
 const ROUNDS: usize = 48;
 
@@ -82,6 +95,7 @@ struct Got {
     notice: CNotice,
     s1: CS1,
     length: u64,
+    table: CTable,
     arrays: [Vec<u8>; 2],
 }
 
@@ -121,6 +135,7 @@ struct Tally {
     places: [u64; 18],
     ranks: [u64; 4],
     editions: editions::Tally,
+    rounds: rounds::Tally,
 }
 
 fn fail(what: &str) -> ! {
@@ -145,19 +160,23 @@ impl Ask {
         for n in [self.kind, self.arrays[0].len() as u32, self.arrays[1].len() as u32] {
             to.extend(n.to_le_bytes());
         }
-        for part in [self.record.octets(), self.notice.octets(), self.s1.octets(), &self.length.to_le_bytes(), &self.arrays[0], &self.arrays[1]] {
+        let length = self.length.to_le_bytes();
+        for part in [self.record.octets(), self.notice.octets(), self.s1.octets(), &length, self.table.octets(), &self.arrays[0], &self.arrays[1]] {
             to.extend(part);
         }
     }
 
     fn told(&self, from: &mut impl Read) -> io::Result<Got> {
         let (answer, harm) = (number(from)?, number(from)?);
-        let (mut got, mut length) = (Got { answer, harm, record: self.record, notice: self.notice, s1: self.s1, length: 0, arrays: self.arrays.clone() }, [0; 8]);
+        let (Ask { record, notice, s1, table, .. }, arrays, mut length) = (self, self.arrays.clone(), [0; 8]);
+        let (record, notice, s1, table) = (*record, *notice, *s1, *table);
+        let mut got = Got { answer, harm, record, notice, s1, length: 0, table, arrays };
         from.read_exact(got.record.octets_mut())?;
         from.read_exact(got.notice.octets_mut())?;
         from.read_exact(got.s1.octets_mut())?;
         from.read_exact(&mut length)?;
         got.length = u64::from_le_bytes(length);
+        from.read_exact(got.table.octets_mut())?;
         from.read_exact(&mut got.arrays[0])?;
         from.read_exact(&mut got.arrays[1])?;
         Ok(got)
@@ -166,6 +185,11 @@ impl Ask {
     /// The cells that a choice is asked among.
     fn cells(&self) -> Vec<u32> {
         numbers(&self.arrays[0])
+    }
+
+    /// How many numbers a round's list has.
+    fn words(&self) -> u32 {
+        self.arrays[1].len() as u32 / 4 - self.small[0] as u32
     }
 
     fn name(&self) -> String {
@@ -180,6 +204,10 @@ impl Ask {
                 let (facts, lens) = (self.s1.facts, [0, 1].map(|i| self.arrays[i].len()));
                 format!("request from S1 over access {}, facts {facts:?}, attach message of {}, buffer of {}", self.small[0], lens[0], lens[1])
             }
+            ARM | ASK | ROUND | WAIT => {
+                let (call, Table { slots }) = (["arm", "ask", "round", "wait"][(self.call - ARM) as usize], second::table_in(&self.table));
+                format!("{call} at {}, {} numbers lent, table {slots:?}", self.kind, self.words())
+            }
             _ => format!("request over access {}, buffer of {}", self.small[0], self.arrays[0].len()),
         }
     }
@@ -191,11 +219,13 @@ impl Side {
         let mut child = started.unwrap_or_else(|error| fail(&format!("{}: {error}", words[0])));
         let (input, output) = (child.stdin.take().unwrap(), child.stdout.take().unwrap());
         let mut side = Side { child, input, output: BufReader::with_capacity(65536, output) };
-        if number(&mut side.output).ok() != Some((size_of::<CRecord>() + size_of::<CNotice>() + size_of::<CS1>() + size_of::<u64>()) as u32) {
-            fail("the C side does not start, or its record, notice or facts have other fields");
+        let octets = size_of::<CRecord>() + size_of::<CNotice>() + size_of::<CS1>() + size_of::<u64>() + size_of::<CTable>();
+        if number(&mut side.output).ok() != Some(octets as u32) {
+            fail("the C side does not start, or its record, notice, facts or table have other fields");
         }
-        if [0; 5].map(|_| number(&mut side.output).ok()) != [LONGEST[1], cells::MOST as u32, LIST, ATTACH, MAPPED[1]].map(Some) {
-            fail("the header has another longest request, list or attach message, or other most cells");
+        let numbers = [LONGEST[1], cells::MOST as u32, LIST, ATTACH, MAPPED[1], RAN, deadlines::MOST as u32, deadlines::NONE as u32, deadlines::WAIT];
+        if numbers.map(|_| number(&mut side.output).ok()) != numbers.map(Some) {
+            fail("the header has another longest request, list or attach message, other most cells, other numbers of a round, or another longest wait");
         }
         side
     }
@@ -604,8 +634,11 @@ fn judge(ask: &Ask, got: &Got) -> Result<(), String> {
     if ask.call != REQUEST && ask.call != FORBIDDEN {
         alike("the first array", &got.arrays[0], &ask.arrays[0])?;
     }
-    if ask.call != CELLS && ask.call != FROM_S1 {
+    if ![CELLS, FROM_S1, ROUND].contains(&ask.call) {
         alike("the second array", &got.arrays[1], &ask.arrays[1])?;
+    }
+    if ![ARM, ASK, ROUND, WAIT].contains(&ask.call) {
+        alike("the table, which is not lent,", got.table.octets(), ask.table.octets())?;
     }
     alike("what comes from 4G", got.s1.octets(), ask.s1.octets())?;
     hold(ask.call == FROM_S1 || got.length == ask.length, "the length, which is not lent, is another")?;
@@ -616,6 +649,10 @@ fn judge(ask: &Ask, got: &Got) -> Result<(), String> {
         CELLS => judge_cells(ask, got),
         FORBIDDEN => judge_file(ask, got),
         FROM_S1 => editions::judge(ask, got),
+        ARM => rounds::judge_arm(ask, got),
+        ASK => rounds::judge_ask(ask, got),
+        ROUND => rounds::judge_round(ask, got),
+        WAIT => rounds::judge_wait(ask, got),
         _ => judge_request(ask, got),
     }
 }
@@ -634,6 +671,7 @@ fn count(ask: &Ask, got: &Got, tally: &mut Tally) {
         *count += came as u64;
     }
     tally.editions.count(ask, got);
+    tally.rounds.count(ask, got);
     if ask.call == CAUSE {
         tally.causes[got.answer.saturating_sub(268).min(6) as usize] += 1;
     }
@@ -739,7 +777,7 @@ fn main() {
         group(&mut side, words, first..first + LIVES, &mut tally);
     }
     side.end();
-    let Tally { cases, answers, causes, invalid, news, made, requests, written, deeds, waits, rest, bars, shapes, refusals, choices, imports, files, places, ranks, editions } = tally;
+    let Tally { cases, answers, causes, invalid, news, made, requests, written, deeds, waits, rest, bars, shapes, refusals, choices, imports, files, places, ranks, editions, rounds } = tally;
     println!("fuzz: {cases} cases, {} events, {invalid} of them on an invalid record", answers.iter().sum::<u64>());
     println!("fuzz: {made} of {news} new records made, {written} of {requests} requests written");
     for (shape, [written, fitted, longest, lacked]) in ["no container", "a container"].iter().zip(shapes) {
@@ -750,11 +788,12 @@ fn main() {
     show_card(imports, files);
     show_places(places, ranks);
     editions.show();
+    rounds.show();
     println!("fuzz: answers 0 to 20 came {answers:?} times, a reject's cause and 269 to 274 {causes:?} times");
     let missing = (0..21).any(|answer| answers[answer] == 0 && !NEVER.contains(&(answer as u32)));
     let seen = [&causes[..], &deeds, &waits, &rest, &bars, shapes.as_flattened(), &refusals, &choices, &imports, &files, &places, &ranks, &[invalid, made, news - made]].concat();
-    let unseen = seen.contains(&0) || editions.unseen();
+    let unseen = seen.contains(&0) || editions.unseen() || rounds.unseen();
     if seconds > 0 && (missing || unseen) {
-        fail("some answer, deed, shape of a request, choice of cells, import, card's file, place given up, rank or edition never came");
+        fail("some answer, deed, shape of a request, choice of cells, import, card's file, place given up, rank, edition or deadline never came");
     }
 }

@@ -1,8 +1,9 @@
 /*
- * What include/tjernfaug.h has beside the library's calls, as C and as C++: the names of numbers, the notice's timers in a row, networks by their digits, and the bodies of events,
- * each octet for octet by the event log's form, in every buffer from none to one that is too long.
+ * What include/tjernfaug.h has beside the library's calls, as C and as C++: the names of numbers, the timers in a row, how a table of deadlines lies, networks by their digits, and
+ * the bodies of events, each octet for octet by the event log's form, in every buffer from none to one that is too long.
  */
 #include "tjernfaug.h"
+#include <stddef.h>
 #include <stdio.h>
 #include <string.h>
 
@@ -97,13 +98,14 @@ static void timers(void)
     expect("started", TJERNFAUG_TOLD_STARTED, 2);
 }
 
-/* Each field of the notice by its slot, with another number in each. */
+/* Each field of the notice by its slot, with another number in each. The order is that of R-13's ties. */
 static void slots(void)
 {
-    static const uint32_t numbers[] = {1, 2, 3, 6, 1, 2, 3, 6, 4, 5};
+    static const uint32_t numbers[] = {1, 1, 2, 2, 3, 3, 6, 6, 5, 4}, accesses[] = {0, 1, 0, 1, 0, 1, 0, 1, 0, 0};
+    const uint32_t none[] = {TJERNFAUG_NONE_DUE, 11, beyond};
     struct tjernfaug_notice notice;
     struct tjernfaug_timer *const fields[] = {
-        &notice.c0.t3510, &notice.c0.t3511, &notice.c0.t3502, &notice.c0.t3346, &notice.c1.t3510, &notice.c1.t3511, &notice.c1.t3502, &notice.c1.t3346, &notice.t3247, &notice.t3512,
+        &notice.c0.t3510, &notice.c1.t3510, &notice.c0.t3511, &notice.c1.t3511, &notice.c0.t3502, &notice.c1.t3502, &notice.c0.t3346, &notice.c1.t3346, &notice.t3512, &notice.t3247,
     };
     memset(&notice, 0xA5, sizeof notice);
     for (uint32_t slot = 0; slot < TJERNFAUG_SLOTS; slot++) {
@@ -113,22 +115,46 @@ static void slots(void)
     for (uint32_t slot = 0; slot < TJERNFAUG_SLOTS; slot++) {
         const struct tjernfaug_timer timer = tjernfaug_timer_of(&notice, slot);
         char name[32];
-        const int access = slot / 4 == 1;
         expect("told", timer.told, slot + 1);
         expect("seconds", timer.seconds, 1000 + slot);
         expect("number", tjernfaug_slot_number(slot), numbers[slot]);
-        expect("access", tjernfaug_slot_access(slot), (uint64_t)access);
-        snprintf(name, sizeof name, slot < TJERNFAUG_T3247 ? "%s of access %d" : "%s", tjernfaug_timer_name(numbers[slot]), access);
+        expect("access", tjernfaug_slot_access(slot), accesses[slot]);
+        snprintf(name, sizeof name, slot < 8 ? "%s of access %u" : "%s", tjernfaug_timer_name(numbers[slot]), (unsigned)accesses[slot]);
         spelled(tjernfaug_slot_name(slot), name);
     }
-    for (uint32_t none = TJERNFAUG_SLOTS; none != 0; none = none == beyond ? 0 : beyond) {
-        expect("no slot, told", tjernfaug_timer_of(&notice, none).told, TJERNFAUG_TOLD_LEFT);
-        expect("no slot, seconds", tjernfaug_timer_of(&notice, none).seconds, 0);
-        expect("no slot, number", tjernfaug_slot_number(none), 0);
-        expect("no slot, access", tjernfaug_slot_access(none), 0);
-        spelled(tjernfaug_slot_name(none), "unknown");
+    for (size_t i = 0; i < sizeof none / sizeof *none; i++) {
+        expect("no slot, told", tjernfaug_timer_of(&notice, none[i]).told, TJERNFAUG_TOLD_LEFT);
+        expect("no slot, seconds", tjernfaug_timer_of(&notice, none[i]).seconds, 0);
+        expect("no slot, number", tjernfaug_slot_number(none[i]), 0);
+        expect("no slot, access", tjernfaug_slot_access(none[i]), 0);
+        spelled(tjernfaug_slot_name(none[i]), "unknown");
     }
-    expect("slots", TJERNFAUG_SLOTS, 10);
+}
+
+/* The slots by name, and how a table of deadlines and a round's list lie: 28 numbers of 32 bits for each timer that ran out. */
+static void deadlines(void)
+{
+    static const uint32_t named[] = {TJERNFAUG_T3510_0, TJERNFAUG_T3510_1, TJERNFAUG_T3511_0, TJERNFAUG_T3511_1, TJERNFAUG_T3502_0, TJERNFAUG_T3502_1,
+                                     TJERNFAUG_T3346_0, TJERNFAUG_T3346_1, TJERNFAUG_T3512, TJERNFAUG_T3247, TJERNFAUG_SLOTS};
+    for (uint32_t slot = 0; slot <= 10; slot++)
+        expect("slot", named[slot], slot);
+    expect("none due", TJERNFAUG_NONE_DUE, 10);
+    expect("a table's octets", sizeof(struct tjernfaug_deadlines), 136);
+    expect("rests", offsetof(struct tjernfaug_deadlines, rests), 0);
+    expect("ends", offsetof(struct tjernfaug_deadlines, ends), 80);
+    expect("held", offsetof(struct tjernfaug_deadlines, held), 120);
+    expect("numbers of a timer that ran out", TJERNFAUG_RAN_WORDS, 28);
+    expect("most that run out", TJERNFAUG_MOST_RAN, 10);
+    expect("longest wait", TJERNFAUG_LONGEST_WAIT, 600000);
+    expect("octets of a timer that ran out", sizeof(struct tjernfaug_ran), 4 * 28);
+    expect("its slot", offsetof(struct tjernfaug_ran, slot), 0);
+    expect("its notice's offset", offsetof(struct tjernfaug_ran, notice.offset), 4 * 2);
+    expect("its timers of access 0", offsetof(struct tjernfaug_ran, notice.c0), 4 * 4);
+    expect("its timers of access 1", offsetof(struct tjernfaug_ran, notice.c1), 4 * 12);
+    expect("its T3247", offsetof(struct tjernfaug_ran, notice.t3247), 4 * 20);
+    expect("its T3512", offsetof(struct tjernfaug_ran, notice.t3512), 4 * 22);
+    expect("its restart", offsetof(struct tjernfaug_ran, notice.restart), 4 * 24);
+    expect("its update", offsetof(struct tjernfaug_ran, notice.update), 4 * 26);
 }
 
 /* The text that a number has, and that nothing is written behind it. */
@@ -289,6 +315,7 @@ int main(void)
     states();
     timers();
     slots();
+    deadlines();
     networks();
     bodies();
     in_place();

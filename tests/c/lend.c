@@ -1,7 +1,7 @@
 /*
  * The C side of the fuzz run: makes each call that standard input asks for and writes what came of it, as tests/c/fuzz.rs says.
- * What is lent ends where nothing may be read or written, and octets that must stay lie before it. A record, a notice and the facts of 4G go in and out field by field, by the header's
- * names, and with them the length that a call stores.
+ * What is lent ends where nothing may be read or written, and octets that must stay lie before it. A record, a notice, the facts of 4G and a table of deadlines go in and out field by
+ * field, by the header's names, and with them the length that a call stores.
  */
 #define _DEFAULT_SOURCE
 #include <stddef.h>
@@ -11,11 +11,11 @@
 #include <sys/mman.h>
 #include "tjernfaug.h"
 
-enum { FLUSH, NEW, EVENT, REQUEST, CAUSE, CELLS, FORBIDDEN, FROM_S1 };
-enum { RECORD, NOTICE, FACTS, LENGTH, FIRST, SECOND, ROOMS };
+enum { FLUSH, NEW, EVENT, REQUEST, CAUSE, CELLS, FORBIDDEN, FROM_S1, ARM, ASK, ROUND, WAIT };
+enum { RECORD, NOTICE, FACTS, LENGTH, TABLE, FIRST, SECOND, ROOMS };
 enum { ROOM = 262144, GUARD = 64, MARK = 0x5A };
 
-/* What a call is asked with, ahead of the record, the notice, the facts, the length and the octets of one or two arrays. */
+/* What a call is asked with, ahead of the record, the notice, the facts, the length, the table and the octets of one or two arrays. kind is the clock's time too. */
 struct head {
     uint8_t call;
     uint8_t gaps;
@@ -33,6 +33,7 @@ struct head {
 #define TIMER(t) TOLD(t.told), TOLD(t.seconds)
 #define TIMERS(c) TIMER(c.t3510), TIMER(c.t3511), TIMER(c.t3502), TIMER(c.t3346)
 #define FACT(field) PLACE(FACTS, tjernfaug_s1, field)
+#define COLUMN(field) PLACE(TABLE, tjernfaug_deadlines, field)
 
 static const struct { size_t room, at, len; } fields[] = {
     AT(hot.dev.home), AT(hot.dev.t3512length), AT(hot.dev.card), AT(hot.dev.suci), AT(hot.dev.cardlimit), AT(hot.dev.banlimit), AT(hot.dev.n1limit),
@@ -41,6 +42,7 @@ static const struct { size_t room, at, len; } fields[] = {
     AT(guti0), AT(guti1), AT(equivalents0), AT(equivalents1), AT(suci), AT(capability), AT(security),
     TOLD(offset), TIMERS(c0), TIMERS(c1), TIMER(t3247), TIMER(t3512), TOLD(restart), TOLD(leave), TOLD(update),
     FACT(registered), FACT(n26), FACT(context), FACT(valid), FACT(native), FACT(guti), {LENGTH, 0, sizeof(uint64_t)},
+    COLUMN(rests), COLUMN(ends), COLUMN(held),
 };
 
 enum { FIELDS = sizeof fields / sizeof *fields };
@@ -49,7 +51,7 @@ static uint8_t *ends[ROOMS], *lent[ROOMS];
 static size_t lens[ROOMS];
 
 /* All of them without their gaps. */
-static uint8_t plain[sizeof(struct tjernfaug_record) + sizeof(struct tjernfaug_notice) + sizeof(struct tjernfaug_s1) + sizeof(uint64_t)];
+static uint8_t plain[sizeof(struct tjernfaug_record) + sizeof(struct tjernfaug_notice) + sizeof(struct tjernfaug_s1) + sizeof(uint64_t) + sizeof(struct tjernfaug_deadlines)];
 static uint32_t octets;
 
 static void get(void *at, size_t len)
@@ -76,7 +78,9 @@ static uint8_t *room(void)
 /* Lays out what is lent, as it was sent. */
 static void lay(const struct head *h)
 {
-    const size_t sizes[ROOMS] = {sizeof(struct tjernfaug_record), sizeof(struct tjernfaug_notice), sizeof(struct tjernfaug_s1), sizeof(uint64_t), h->lens[0], h->lens[1]};
+    const size_t sizes[ROOMS] = {
+        sizeof(struct tjernfaug_record), sizeof(struct tjernfaug_notice), sizeof(struct tjernfaug_s1), sizeof(uint64_t), sizeof(struct tjernfaug_deadlines), h->lens[0], h->lens[1],
+    };
     for (size_t i = 0; i < ROOMS; i++) {
         if (sizes[i] > ROOM - GUARD)
             exit(2);
@@ -110,10 +114,20 @@ static uint32_t from_s1(const struct tjernfaug_record *r, uint8_t access)
     return tjernfaug_request_from_s1(r, access, s1, lent[FIRST], lens[FIRST], lent[SECOND], lens[SECOND], (uint64_t *)lent[LENGTH]);
 }
 
+/* The list is the second array, of whole pairs of numbers, so that it is aligned as it ends with its room. So many of the last numbers are not lent. */
+static uint32_t round_of(struct tjernfaug_record *r, struct tjernfaug_deadlines *t, uint32_t now, uint8_t kept)
+{
+    const size_t words = lens[SECOND] / sizeof(uint32_t);
+    if (lens[SECOND] % sizeof(uint64_t) || kept > words)
+        exit(2);
+    return tjernfaug_round(r, t, now, (struct tjernfaug_ran *)lent[SECOND], words - kept);
+}
+
 static uint32_t call(const struct head *h)
 {
     struct tjernfaug_record *r = (struct tjernfaug_record *)lent[RECORD];
     struct tjernfaug_notice *notice = (struct tjernfaug_notice *)lent[NOTICE];
+    struct tjernfaug_deadlines *t = (struct tjernfaug_deadlines *)lent[TABLE];
     switch (h->call) {
     case NEW: return tjernfaug_new(r, h->small[0], h->small[1], h->small[2], lent[FIRST], lens[FIRST], lent[SECOND], lens[SECOND]);
     case EVENT: return tjernfaug_event(r, h->kind, lent[FIRST], lens[FIRST], notice);
@@ -122,6 +136,10 @@ static uint32_t call(const struct head *h)
     case CELLS: return cells(r, h->small[0]);
     case FORBIDDEN: return tjernfaug_forbidden(r, lent[FIRST], lens[FIRST]);
     case FROM_S1: return from_s1(r, h->small[0]);
+    case ARM: return tjernfaug_arm(t, h->kind, notice);
+    case ASK: return tjernfaug_ask(t, h->kind);
+    case ROUND: return round_of(r, t, h->kind, h->small[0]);
+    case WAIT: return tjernfaug_wait(t, h->kind);
     default: exit(2);
     }
 }
@@ -152,7 +170,10 @@ int main(void)
         octets += (uint32_t)fields[i].len;
     setvbuf(stdin, NULL, _IOFBF, ROOM);
     setvbuf(stdout, NULL, _IOFBF, ROOM);
-    const uint32_t sizes[] = {octets, TJERNFAUG_LONGEST_REQUEST, TJERNFAUG_MOST_CELLS, TJERNFAUG_LONGEST_LIST, TJERNFAUG_LONGEST_ATTACH, TJERNFAUG_LONGEST_REQUEST_FROM_S1};
+    const uint32_t sizes[] = {
+        octets, TJERNFAUG_LONGEST_REQUEST, TJERNFAUG_MOST_CELLS, TJERNFAUG_LONGEST_LIST, TJERNFAUG_LONGEST_ATTACH, TJERNFAUG_LONGEST_REQUEST_FROM_S1,
+        TJERNFAUG_RAN_WORDS, TJERNFAUG_MOST_RAN, TJERNFAUG_NONE_DUE, TJERNFAUG_LONGEST_WAIT,
+    };
     put(sizes, sizeof sizes);
     fflush(stdout);
     while (fread(&h, sizeof h, 1, stdin) == 1) {

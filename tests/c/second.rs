@@ -1,5 +1,6 @@
 // The second program of docs/src on records as the C side sends them. It takes valid records only.
 use crate::record::{Access, Areas, Change, Entry, Limits, List, Listed, Record, Reply, INITIAL, RANGE, T3247, T3346, T3502, T3510, T3511, T3512};
+use crate::deadlines::{self, Slot, Table};
 use crate::identity::S1;
 use crate::{card, cells, log, request};
 
@@ -92,6 +93,15 @@ pub struct CS1 {
     pub guti: [u8; 10],
 }
 
+/// A table of deadlines, column by column.
+#[repr(C, packed)]
+#[derive(Clone, Copy)]
+pub struct CTable {
+    pub rests: [u64; 10],
+    pub ends: [u32; 10],
+    pub held: [u8; 10],
+}
+
 /// Numbers and arrays of numbers with no gap between them, so that they are octets and any octets are they.
 pub unsafe trait Plain: Copy {
     fn zero() -> Self {
@@ -110,6 +120,7 @@ pub unsafe trait Plain: Copy {
 unsafe impl Plain for CRecord {}
 unsafe impl Plain for CNotice {}
 unsafe impl Plain for CS1 {}
+unsafe impl Plain for CTable {}
 
 pub fn triple(n: u32) -> [u8; 3] {
     let [_, a, b, c] = n.to_be_bytes();
@@ -301,6 +312,15 @@ fn notice_out(p: &Reply) -> CNotice {
     }
 }
 
+pub fn table_in(t: &CTable) -> Table {
+    let (rests, ends) = (t.rests, t.ends);
+    Table { slots: std::array::from_fn(|i| Slot { held: t.held[i], ends: ends[i], rests: rests[i] }) }
+}
+
+fn table_out(t: &Table) -> CTable {
+    CTable { rests: t.slots.map(|slot| slot.rests), ends: t.slots.map(|slot| slot.ends), held: t.slots.map(|slot| slot.held) }
+}
+
 /// A new record over any octets: the answer and the record after it.
 pub fn opened(was: &CRecord, limits: [u8; 3], capability: &[u8], security: &[u8]) -> (u32, CRecord) {
     let fits = limits.iter().all(|limit| (1..=10).contains(limit)) && (1..=13).contains(&capability.len()) && (2..=8).contains(&security.len());
@@ -361,6 +381,52 @@ pub fn permitted(r: &CRecord, access: u8, heard: &[u32], list: &mut [u32]) -> u3
 /// The card's file of forbidden networks: how many.
 pub fn forbidden(r: &CRecord, file: &mut [u8]) -> u32 {
     count(card::write(&record_in(r), file))
+}
+
+/// What a notice tells of the timers, in the order of a reply; none if a number is above 2.
+fn timers_in(n: &CNotice) -> Option<[Change; 10]> {
+    let (clocks, mut timers) = (n.clocks, [Change::Left; 10]);
+    let each = [T3510, T3511, T3502, T3346].into_iter().enumerate().flat_map(|(i, timer)| [(timer, clocks[0][i]), (timer + 1, clocks[1][i])]);
+    for (timer, [told, seconds]) in each.chain([(T3247, n.t3247), (T3512, n.t3512)]) {
+        timers[timer] = [Change::Left, Change::Stopped, Change::Started(seconds)].get(told as usize).copied()?;
+    }
+    Some(timers)
+}
+
+/// The deadlines that a notice gives at a time: the answer and the table.
+pub fn arm(t: &CTable, now: u32, notice: &CNotice) -> (u32, CTable) {
+    let Some(timers) = timers_in(notice) else { return (RANGE as u32, *t) };
+    let mut table = table_in(t);
+    table.arm(now, &Reply { timers, ..Reply::of(0) });
+    (0, table_out(&table))
+}
+
+/// The slot of the timer that is due, and the table.
+pub fn ask(t: &CTable, now: u32) -> (u32, CTable) {
+    let mut table = table_in(t);
+    let due = table.ask(now).unwrap_or(deadlines::NONE);
+    (due as u32, table_out(&table))
+}
+
+/// How long firmware may sleep, and the table as it is.
+pub fn wait(t: &CTable, now: u32) -> (u32, CTable) {
+    (table_in(t).wait(now), *t)
+}
+
+/// A round's numbers for a timer that ran out: its slot, 0, and the notice in numbers of 32 bits, with a 0 behind it.
+fn ran_out(ran: &deadlines::Ran) -> Vec<u8> {
+    [&(ran.slot as u64).to_le_bytes()[..], notice_out(&ran.reply).octets(), &[0; 4]].concat()
+}
+
+pub fn fits(r: &CRecord, t: &CTable) -> bool {
+    table_in(t).fits(&record_in(r))
+}
+
+/// A round on a table that fits the record: how many timers ran out, the record, the table, and their numbers.
+pub fn round(r: &CRecord, t: &CTable, now: u32) -> (u32, CRecord, CTable, Vec<u8>) {
+    let (mut held, mut table) = (record_in(r), table_in(t));
+    let ran = deadlines::round(&mut held, &mut table, now);
+    (ran.len() as u32, record_out(&held), table_out(&table), ran.iter().flat_map(ran_out).collect())
 }
 
 /// Whether octets, read as a request, say what the record says over an access, and in the mapped case what is lent: with a key set it is the container's request that says it.

@@ -27,6 +27,11 @@ static uint8_t edition = TJERNFAUG_EDITION_SOURCE_001, attach[TJERNFAUG_LONGEST_
 static size_t attach_len;
 static uint64_t written;
 
+/* A table of deadlines, the clock's time, and a round's list, of which so many numbers are lent. */
+static struct tjernfaug_deadlines table;
+static struct tjernfaug_ran ran[TJERNFAUG_MOST_RAN + 1];
+static uint32_t now;
+
 static void nothing(void) { answer = 0; }
 static void new(void) { answer = tjernfaug_new(&record, limit, limit, limit, octets, len, octets, 8); }
 static void event(void) { answer = tjernfaug_event(&record, kind, buffer, len, &notice); }
@@ -34,6 +39,10 @@ static void request(void) { answer = tjernfaug_request(&record, access, buffer, 
 static void from_s1(void) { answer = tjernfaug_request_from_s1(&record, access, &s1, attach, attach_len, wide, len, &written); }
 static void cells(void) { answer = tjernfaug_cells(&record, access, heard, len, permitted, len); }
 static void forbidden(void) { answer = tjernfaug_forbidden(&record, buffer, len); }
+static void arm(void) { answer = tjernfaug_arm(&table, now, &notice); }
+static void ask(void) { answer = tjernfaug_ask(&table, now); }
+static void round_of(void) { answer = tjernfaug_round(&record, &table, now, ran, len); }
+static void rest(void) { answer = tjernfaug_wait(&table, now); }
 static void cause(void) { answer = reject_cause(buffer, len); }
 static void seconds(void) { answer = timer_seconds(limit); }
 
@@ -223,10 +232,76 @@ static void timers(void)
     }
 }
 
+/* The record's timers have deadlines: by way 0 none is past, by 1 all are, T3510 the furthest, by 2 all equally far; by 3 all are in a lap that is over, by 4 in one that is long over. */
+enum { WAYS = 5 };
+static void set(unsigned way)
+{
+    const struct tjernfaug_access *a = &record.hot.a0, *b = &record.hot.a1;
+    const uint8_t runs[TJERNFAUG_SLOTS] = {a->t3510, b->t3510, a->t3511, b->t3511, a->t3502, b->t3502, a->t3346, b->t3346, record.hot.dev.t3512, record.hot.dev.t3247};
+    static const uint32_t late[WAYS] = {UINT32_MAX, 10000, 600000, 1, INT32_MAX};
+    static const uint64_t rests[WAYS] = {0, 0, 0, 1, UINT64_C(35712000000)};
+    for (uint32_t slot = 0; slot < TJERNFAUG_SLOTS; slot++) {
+        table.held[slot] = runs[slot];
+        table.ends[slot] = now - late[way] + (way == 1 ? slot : 0);
+        table.rests[slot] = rests[way];
+    }
+}
+
+/* Asking rounds on all the records, with lists that are too short, just long enough and longer. T3510 starts T3502 for 0 s, and in some round all ten timers run out, or none was taken. */
+static void asking(void)
+{
+    enum { WORDS = TJERNFAUG_MOST_RAN * TJERNFAUG_RAN_WORDS };
+    static const size_t lens[] = {0, WORDS - 1, WORDS, WORDS + TJERNFAUG_RAN_WORDS};
+    uint32_t most = 0;
+    for (unsigned i = 0; i < ROUNDS * WAYS * 4; i++) {
+        struct tjernfaug_hot *hot = &record.hot;
+        lay(i / WAYS / 4);
+        hot->a0.attempts = hot->a1.attempts = 5;
+        hot->a0.t3502length = hot->a1.t3502length = 0;
+        now = i % 2 ? 5000 : UINT32_MAX;
+        set(i / 4 % WAYS);
+        len = lens[i % 4];
+        on(round_of);
+        most = answer < TJERNFAUG_REFUSED && answer > most ? answer : most;
+    }
+    taken = most == TJERNFAUG_SLOTS ? taken : 0;
+}
+
+/* A call on the tables of all the records. */
+static void tables(void (*call)(void))
+{
+    for (unsigned i = 0; i < ROUNDS * WAYS; i++) {
+        lay(i / WAYS);
+        set(i % WAYS);
+        on(call);
+    }
+}
+
+static void asked(void) { tables(ask); }
+static void rested(void) { tables(rest); }
+
+/* Each timer left, stopped, started for no time and for the longest, and told what there is not. */
+static void armed(void)
+{
+    for (uint32_t i = 0; i < 5; i++)
+        for (uint32_t other = 0; other < 5; other++) {
+            const struct tjernfaug_timer one = {i < 3 ? i : i - 1, i == 3 ? 0 : 35712000}, two = {other < 3 ? other : other - 1, UINT32_MAX};
+            const struct tjernfaug_timers all = {one, two, one, two};
+            notice.c0 = notice.c1 = all;
+            notice.t3247 = one;
+            notice.t3512 = two;
+            on(arm);
+        }
+}
+
 /* The bounds, in octets. docs/FIRMWARE.md says the same, which tests/archives sees. Beside them the last answer that is no refusal. */
 static const struct { const char *name; size_t bound; uint32_t last; void (*cases)(void); } calls[] = {
     {"tjernfaug_new", 2048, 0, news},
-    {"tjernfaug_event", 5120, 0, events},
+    {"tjernfaug_event", 6656, 0, events},
+    {"tjernfaug_arm", 1536, 0, armed},
+    {"tjernfaug_ask", 1024, 10, asked},
+    {"tjernfaug_round", 6656, 12, asking},
+    {"tjernfaug_wait", 512, TJERNFAUG_LONGEST_WAIT, rested},
     {"tjernfaug_request", 5632, 255, requests},
     {"tjernfaug_request_from_s1", 5632, 0, requests_from_s1},
     {"tjernfaug_cells", 3072, 255, choices},

@@ -1,2 +1,5 @@
--- The length of a request, and what a call tells of it.
+-- The length of a request, the slot of an ask, that a notice arms as its reply, and that a round hands out notices.
 pub mod Length
+pub mod Place
+pub mod Heard
+pub mod Handed

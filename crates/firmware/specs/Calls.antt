@@ -72,6 +72,6 @@ filedBy l = numberOr (l .answer) (l .count)
 unfoldable pub filedOf : Record → ℕ → ℕ
 filedOf r n = filedBy (listedOf r n)
 
--- 0.10.0: ten thousand times the first number, a hundred times the second, and the third
+-- 0.11.0: ten thousand times the first number, a hundred times the second, and the third
 abbrev pub version : ℕ
-version = 1000
+version = 1100

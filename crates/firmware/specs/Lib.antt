@@ -1,3 +1,4 @@
 -- What C firmware is told, and what its calls come to.
 pub mod Notice
 pub mod Calls
+pub mod Clock

@@ -67,7 +67,7 @@ fn taken(r: Record, kind: u32, body: &[u8]) -> Taken
 }
 
 // What is counted is below 256, so a refusal is told from it.
-fn counted(a: Answer, n: usize) -> u32
+pub(crate) fn counted(a: Answer, n: usize) -> u32
     requires { ⌜ n ≤ 255 ⌝ }
     ensures { λ r. ⌜ r ≡ numberOr a n ⌝ }
 {
@@ -216,5 +216,5 @@ pub extern "C" fn timer_seconds(octet: u8) -> u32
 pub extern "C" fn tjernfaug_version() -> u32
     ensures { λ r. ⌜ r ≡ version ⌝ }
 {
-    1000
+    1100
 }

@@ -1,7 +1,9 @@
 // The record lent to firmware: one call takes an event and updates the record in place, and the calls that C makes.
+use deadlines::Table;
 use record::Record;
 
 mod calls;
+mod clock;
 mod lent;
 mod told;
 
@@ -14,6 +16,10 @@ pub use calls::tjernfaug_new;
 pub use calls::tjernfaug_request;
 pub use calls::tjernfaug_request_from_s1;
 pub use calls::tjernfaug_version;
+pub use clock::tjernfaug_arm;
+pub use clock::tjernfaug_ask;
+pub use clock::tjernfaug_round;
+pub use clock::tjernfaug_wait;
 pub use lent::handle;
 
 // What is told of a timer: 0 left, 1 stopped, 2 started, and then for how many seconds.
@@ -62,4 +68,23 @@ pub struct Taken {
 pub struct Wrote {
     pub answer: u32,
     pub len: u64,
+}
+
+// The answer to a notice that arms a table, and the table after it.
+pub struct Armed {
+    pub answer: u32,
+    pub next: Table,
+}
+
+// The slot of the timer due, 10 for none, and the table after the ask.
+pub struct Sought {
+    pub slot: u32,
+    pub next: Table,
+}
+
+// How many timers ran out in a round, or 256 plus the refusal's number, and the record and the table after it.
+pub struct Passed {
+    pub count: u32,
+    pub next: Record,
+    pub table: Table,
 }
