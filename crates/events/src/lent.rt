@@ -186,7 +186,8 @@ fn listing(q: Site, h: Hot, roaming: &[u64; 40], regional: &[u64; 40]) -> bool
     }
 }
 
-fn counted(roaming: u8, regional: u8, h: Hot) -> Hot
+// The numbers with the area lists' counts.
+pub fn counted(roaming: u8, regional: u8, h: Hot) -> Hot
     ensures { λ r. ⌜ r ≡ withCounts roaming regional h ⌝ }
 {
     let mut d = h.dev;

@@ -6,6 +6,7 @@ mod value;
 pub use held::keep;
 pub use held::tail;
 pub use lent::core;
+pub use lent::counted;
 use record::Hot;
 use record::Record;
 use rules::Plan;

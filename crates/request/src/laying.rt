@@ -10,7 +10,7 @@ ghost use Rattle.request.specs.Writing.{sayingOf};
 ghost use Rattle.request.specs.Steps.{Put, tailOctets, frontOctets, rearOctets, requestSize, Small};
 
 // Octets from a place on; the place behind them is handed back.
-pub fn put(buffer: &mut [u8], at: usize, src: &[u8]) -> usize
+pub(crate) fn put(buffer: &mut [u8], at: usize, src: &[u8]) -> usize
     requires { ⌜ at + length (now src) ≤ length (now buffer) ⌝ }
     ensures { λ r. ⌜ Put (now (buffer .entry)) at (now (src .entry)) (now (buffer .exit)) r ⌝ }
 {
@@ -24,7 +24,7 @@ pub fn put(buffer: &mut [u8], at: usize, src: &[u8]) -> usize
 }
 
 // An element behind its lead, or nothing where it has no contents.
-pub fn item(buffer: &mut [u8], at: usize, lead: &[u8], src: &[u8]) -> usize
+pub(crate) fn item(buffer: &mut [u8], at: usize, lead: &[u8], src: &[u8]) -> usize
     requires { ⌜ at + length (withLead (now lead) (now src)) ≤ length (now buffer) ⌝ }
     ensures { λ r. ⌜ Put (now (buffer .entry)) at (withLead (now (lead .entry)) (now (src .entry))) (now (buffer .exit)) r ⌝ }
 {
@@ -130,7 +130,7 @@ fn rear(buffer: &mut [u8], at: usize, additional: &[u8], status: &[u8], attach: 
 }
 
 // A request at a place of the buffer.
-pub fn level(
+pub(crate) fn level(
     buffer: &mut [u8],
     at: usize,
     regtype: u8,
@@ -171,7 +171,7 @@ pub fn unless(none: bool, n: usize) -> usize
 }
 
 // How many octets the request with these pieces has.
-pub fn size(
+pub(crate) fn size(
     part: &[u8],
     capability: &[u8],
     security: &[u8],

@@ -269,7 +269,7 @@ fn pieces(own: Access, dev: Device) -> Lengths
 }
 
 // The request of an access with this identity: with ngKSI 7 the clear part alone, else the whole request in a container behind it.
-pub fn send(
+pub(crate) fn send(
     buffer: &mut [u8],
     own: Access,
     dev: Device,

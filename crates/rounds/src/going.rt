@@ -11,7 +11,7 @@ ghost use mathlib.Core.List.{[]};
 ghost use lib.ListN.{getD};
 ghost use Rattle.record.specs.declared.Record.{Record};
 ghost use Rattle.entries.specs.Entries.{entriesOf};
-ghost use Rattle.events.specs.Parts.{withCounts, partsOf, partsAfter};
+ghost use Rattle.events.specs.Parts.{partsOf, partsAfter};
 ghost use Rattle.deadlines.specs.Asking.{tableOf};
 ghost use Rattle.deadlines.specs.Arming.{numbers, accesses};
 ghost use Rattle.rounds.specs.Round.{timerOut};
@@ -37,18 +37,6 @@ fn timer_out(at: usize) -> Event
     let number = number_at(at);
     let access = access_at(at);
     Event::Timer { number, access }
-}
-
-// The numbers with the area lists' counts.
-fn counted(roaming: u8, regional: u8, h: Hot) -> Hot
-    ensures { λ r. ⌜ r ≡ withCounts roaming regional h ⌝ }
-{
-    let mut d = h.dev;
-    d.roaming = roaming;
-    d.regional = regional;
-    let mut q = h;
-    q.dev = d;
-    q
 }
 
 // The core for the timer of a slot: no network and no area is looked up, no order changes and no file comes in, so that only marks and areas are tended.
@@ -112,7 +100,7 @@ fn run(
     let second = work.regional;
     let m = areas::tend(first, h.dev.roaming, roaming);
     let n = areas::tend(second, h.dev.regional, regional);
-    let g = counted(m, n, p.hot);
+    let g = events::counted(m, n, p.hot);
     Done { plan: p, hot: g }
 }
 
