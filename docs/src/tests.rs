@@ -1,8 +1,10 @@
 // Scenarios worked out by hand from document 01 and requests,
-// in editions.rs those of R-7, in deadlines.rs R-13: rustc --test docs/src/main.rs
+// in editions.rs those of R-7, in explain.rs R-11, in deadlines.rs R-13:
+// rustc --test docs/src/main.rs
 
 mod deadlines;
 mod editions;
+mod explain;
 
 use crate::card;
 use crate::cells;
