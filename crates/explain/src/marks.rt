@@ -38,6 +38,14 @@ fn kept(number: usize, counter: u8) -> Trace {
     }
 }
 
+// A mark that was kept is kept by this event too.
+pub(crate) fn still(t: Trace, number: usize) -> Trace {
+    if t.kept == 0 {
+        return t;
+    }
+    kept(number, t.counter)
+}
+
 fn cleared(t: Trace, was: Mark, number: usize, counter: u8) -> Trace {
     match was {
         Mark::Clear => t,
