@@ -1,10 +1,13 @@
 // Scenarios worked out by hand from document 01 and requests,
-// in editions.rs those of R-7, in explain.rs R-11, in deadlines.rs R-13:
+// in editions.rs those of R-7, in explain.rs R-11, in deadlines.rs R-13, in limits.rs
+// the limits that a log's reader is told, in image.rs what C's firmware saves:
 // rustc --test docs/src/main.rs
 
 mod deadlines;
 mod editions;
 mod explain;
+mod image;
+mod limits;
 
 use crate::card;
 use crate::cells;

@@ -132,13 +132,13 @@ fn number(point: &str) -> Option<usize> {
 #[derive(Default)]
 struct Drawn {
     width: i64,
-    /// Where rows begin, how high one is, and where the last one ends.
+    /// Where rows begin, and where each of them ends.
     top: i64,
-    row: i64,
-    bottom: i64,
+    ends: Vec<i64>,
     /// Where the columns behind the events' names begin.
     lanes: i64,
     title: String,
+    about: String,
     legend: Vec<String>,
     /// Corner, heads, names and lanes.
     parts: [String; 4],
@@ -150,6 +150,13 @@ fn figure(line: &str, name: &str) -> Option<i64> {
     line[at..].split('"').next()?.parse().ok()
 }
 
+/// The text of the element that has this name and a line of its own, as it is escaped.
+fn named<'a>(svg: &'a str, name: &str) -> &'a str {
+    let (begin, end) = (format!("<{name}>"), format!("</{name}>"));
+    let mut lines = svg.lines();
+    lines.find_map(|line| line.strip_prefix(&begin)?.strip_suffix(&end)).unwrap_or("")
+}
+
 /// The text of an element, as it is escaped.
 fn inside(line: &str) -> &str {
     line.split_once('>').and_then(|(_, rest)| rest.strip_suffix("</text>")).unwrap_or("")
@@ -159,14 +166,15 @@ impl Drawn {
     /// None if there are no rows.
     fn read(svg: &str) -> Option<Drawn> {
         let ruled = svg.lines().filter_map(|line| line.strip_prefix("<path d=\"M0 "));
-        let rules: Vec<i64> =
+        let mut rules: Vec<i64> =
             ruled.filter_map(|rest| rest.split('H').next()?.parse().ok()).collect();
         let bars = || svg.lines().filter(|line| line.starts_with("<rect x="));
         let mut drawn = Drawn {
             width: figure(svg.lines().next()?, " width=")?,
+            title: named(svg, "title").into(),
+            about: named(svg, "desc").into(),
             top: *rules.first()?,
-            row: rules.get(1)? - rules[0],
-            bottom: *rules.last()?,
+            ends: rules.split_off(1),
             lanes: bars().filter_map(|line| figure(line, " x=")).min()?,
             ..Drawn::default()
         };
@@ -179,19 +187,27 @@ impl Drawn {
     }
 
     fn element(&mut self, line: &str, x: i64, y: i64) {
-        if y < self.top - HEADS {
-            self.title = inside(line).into();
-        } else if y > self.bottom {
+        if y > self.bottom() {
             self.legend.push(inside(line).into());
-        } else if !line.ends_with("></text>") {
+        } else if y >= self.top - HEADS {
             let part = 2 * (y >= self.top) as usize + (x >= self.lanes) as usize;
             self.parts[part].push_str(line);
             self.parts[part].push('\n');
         }
     }
 
+    fn bottom(&self) -> i64 {
+        self.ends.last().copied().unwrap_or(self.top)
+    }
+
+    /// How high each row is.
+    fn heights(&self) -> Vec<i64> {
+        let tops = [self.top].into_iter().chain(self.ends.iter().copied());
+        self.ends.iter().zip(tops).map(|(end, top)| end - top).collect()
+    }
+
     fn sheet(&self) -> String {
-        let rows = (self.top, self.bottom - self.top);
+        let rows = (self.top, self.bottom() - self.top);
         let heads = (self.top - HEADS, HEADS);
         let names = (-MARGIN, self.lanes + MARGIN);
         let lanes = (self.lanes, self.width - self.lanes);
@@ -247,12 +263,13 @@ fn listed<T>(items: &[T], show: impl Fn(&T) -> String) -> String {
     format!("[{}]", items.join(",\n"))
 }
 
-fn data(texts: &[&str], story: &Story) -> String {
+fn data(texts: &[&str], story: &Story, drawn: &Drawn) -> String {
     let run = |(event, [a, b, c]): &(usize, Lines)| format!("[{event},{a},{b},{c}]");
     let runs = |told: &Told| told.runs.iter().map(run).collect::<Vec<_>>().join(",");
     let told = |told: &Told| format!("[{},[{}]]", quoted(&told.name), runs(told));
     format!(
-        "{{\"texts\":{},\n\"points\":{},\n\"words\":{},\n\"told\":{}}}",
+        "{{\"heights\":{:?},\n\"texts\":{},\n\"points\":{},\n\"words\":{},\n\"told\":{}}}",
+        drawn.heights(),
         listed(texts, |text| quoted(text)),
         listed(&story.points, |point| quoted(point)),
         listed(&story.words.list, |line| quoted(line)),
@@ -283,11 +300,11 @@ fn filled(name: &str, texts: &[&str], story: &Story, drawn: &Drawn) -> String {
             "name" => page.push_str(&escaped(name)),
             "style" => page.push_str(STYLE),
             "script" => page.push_str(SCRIPT),
-            "data" => page.push_str(&data(texts, story)),
+            "data" => page.push_str(&data(texts, story, drawn)),
             "choices" => page.push_str(&choices(story)),
             "title" => page.push_str(&drawn.title),
             "sheet" => page.push_str(&drawn.sheet()),
-            "row" => page.push_str(&drawn.row.to_string()),
+            "about" => page.push_str(&drawn.about),
             "legend" => page.extend(drawn.legend.iter().map(|line| format!("<p>{line}</p>\n"))),
             "fault" => page.extend(story.fault.iter().map(|line| noted(line))),
             other => page.push_str(other),
@@ -312,8 +329,8 @@ fn job() -> Parsed<String> {
     let story = Story::read(&blocks)?;
     let texts: Vec<&str> = events.lines().take(story.points.len()).collect();
     let drawn = Drawn::read(&timeline).unwrap_or_default();
-    let rows = (drawn.bottom - drawn.top) / drawn.row.max(1);
-    if texts.len() != story.points.len() || rows != texts.len() as i64 {
+    let rows = drawn.ends.len();
+    if texts.len() != story.points.len() || rows != texts.len() {
         return Err(format!("{} events are explained, {rows} drawn", story.points.len()));
     }
     Ok(filled(name, &texts, &story, &drawn))
@@ -354,8 +371,9 @@ const PAGE: &str = r#"<!DOCTYPE html>
 <main>
 <section id="timeline" aria-label="Timeline">
 <h2>@@title@@</h2>
+<p class="about">@@about@@</p>
 <div id="scroller">
-<div id="sheet" style="--row: @@row@@px">
+<div id="sheet">
 @@sheet@@<ul id="events" role="listbox" tabindex="0" aria-label="Events" aria-controls="explanation"></ul>
 </div>
 </div>
@@ -402,6 +420,8 @@ kbd { font: inherit; border: 1px solid var(--line); border-radius: 3px; padding:
 main { flex: 1; min-height: 0; display: grid; grid-template-columns: minmax(0, 1fr) minmax(20rem, 26rem); }
 #timeline { display: flex; flex-direction: column; min-height: 0; border-right: 1px solid var(--line); }
 #timeline h2 { padding: .6rem 1rem .4rem; }
+.about { padding: 0 1rem .5rem; max-width: 60rem; font-size: .9rem; color: var(--muted); }
+.about:empty { display: none; }
 #scroller { min-height: 0; overflow: auto; background: var(--paper); border: 1px solid var(--line); border-width: 1px 0; }
 #sheet { display: grid; grid-template-columns: max-content max-content; width: max-content; }
 #sheet svg { display: block; background: var(--paper); fill: var(--ink); font: 12px sans-serif; }
@@ -591,6 +611,7 @@ function list() {
     const row = document.createElement('li');
     const answer = data.points[event - 1].split(', ').pop();
     row.id = 'row-' + event;
+    row.style.setProperty('--row', data.heights[event - 1] + 'px');
     row.setAttribute('role', 'option');
     row.setAttribute('aria-selected', 'false');
     row.setAttribute('aria-label', event + ' ' + data.texts[event - 1] + ', ' + answer);

@@ -1,11 +1,19 @@
 // An event log as readable text, and back.
 //
-//   scenario to-log [NAME]     text on standard input, log on standard output
-//   scenario to-text [NAME]    log on standard input, text on standard output
+//   scenario to-log [NAME [LIMITS]]    text on standard input, log on standard output
+//   scenario to-text [NAME]            log on standard input, text on standard output
 //
 // NAME is what faults call the input. Of a text each bad line is told, as NAME:LINE: what is wrong,
 // and no log is written; of a log the offset of its bad record, and the text before it is written.
 // It ends with 1 then, and with 2 where its arguments are wrong.
+//
+// A text may say before its first event with what limits its record begins, each 1 to 10; without
+// that line they are 3 3 3, those of `regrun`.
+//
+//   limits CARD BAN N1
+//
+// A log has no place for them. LIMITS is a file that takes what the line says, and nothing where
+// there is none; without LIMITS a note says that the log does not hold them, if they are not 3 3 3.
 //
 // One event a line, words split by spaces; `#` begins a comment; empty lines count for
 // nothing. A network is MCC-MNC, as 001-01 or 310-260, or six hex digits where it is no
@@ -53,6 +61,10 @@ use std::io::{self, Read, Write};
 use std::process::ExitCode;
 
 type Parsed<T> = Result<T, String>;
+
+/// In a scenario's order, and what `regrun` has for all three.
+const LIMITS: [&str; 3] = ["card", "ban", "N1"];
+const COMMON: &str = "3 3 3";
 
 /// By their numbers in a log, from 1; T3247 and T3512 are the device's.
 const TIMERS: [&str; 6] = ["T3510", "T3511", "T3502", "T3247", "T3512", "T3346"];
@@ -141,6 +153,12 @@ impl<'a> Words<'a> {
 
     fn rest(&mut self) -> String {
         self.0.drain(..).rev().collect()
+    }
+
+    fn limit(&mut self, name: &str) -> Parsed<String> {
+        let word = self.next(&format!("the {name} limit"))?;
+        let known = (1..=10).map(|limit| limit.to_string()).find(|limit| limit == word);
+        known.ok_or_else(|| format!("`{word}` is no {name} limit: 1 to 10"))
     }
 
     fn access(&mut self) -> Parsed<u8> {
@@ -317,31 +335,75 @@ fn record(words: &mut Words) -> Parsed<Vec<u8>> {
     }
 }
 
-fn line(text: &str) -> Parsed<Vec<u8>> {
-    let mut words = Words::of(text);
-    if words.0.is_empty() {
-        return Ok(Vec::new());
-    }
-    let held = record(&mut words)?;
-    if let Some(word) = words.0.last() {
-        return Err(format!("`{word}` is not expected here"));
-    }
-    let length = u16::try_from(held.len()).map_err(|_| "a record has at most 65535 octets")?;
-    Ok([&length.to_le_bytes(), &held[..]].concat())
+/// What the lines of a text come to.
+#[derive(Default)]
+struct Scenario {
+    /// As a log's reader is told them; empty where no line says them.
+    limits: String,
+    /// Whether an event's line has come.
+    begun: bool,
+    log: Vec<u8>,
 }
 
-/// The log; else every bad line, with its number and what is wrong.
-fn to_log(text: &[u8], name: &str) -> Parsed<Vec<u8>> {
-    let (mut log, mut faults) = (Vec::new(), Vec::new());
+impl Scenario {
+    /// Takes the next line.
+    fn line(&mut self, text: &str) -> Parsed<()> {
+        let mut words = Words::of(text);
+        if words.0.is_empty() {
+            return Ok(());
+        }
+        let held =
+            if words.takes("limits") { self.limits(&mut words) } else { self.event(&mut words) };
+        match words.0.last() {
+            Some(word) if held.is_ok() => Err(format!("`{word}` is not expected here")),
+            _ => held,
+        }
+    }
+
+    fn limits(&mut self, words: &mut Words) -> Parsed<()> {
+        if self.begun {
+            return Err("limits are said before the first event".into());
+        }
+        if !self.limits.is_empty() {
+            return Err("the limits are said already".into());
+        }
+        let limit = |name: &&str| words.limit(name);
+        let limits: Vec<String> = LIMITS.iter().map(limit).collect::<Parsed<_>>()?;
+        self.limits = limits.join(" ");
+        Ok(())
+    }
+
+    fn event(&mut self, words: &mut Words) -> Parsed<()> {
+        self.begun = true;
+        let held = record(words)?;
+        let length = u16::try_from(held.len()).map_err(|_| "a record has at most 65535 octets")?;
+        self.log.extend(length.to_le_bytes());
+        self.log.extend(held);
+        Ok(())
+    }
+
+    /// What is told of limits that the log does not hold.
+    fn note(&self, name: &str) -> Option<String> {
+        let limits =
+            Some(&self.limits).filter(|limits| !["", COMMON].contains(&limits.as_str()))?;
+        Some(format!(
+            "{name}: the log does not hold the limits {limits}: regrun replays it with {COMMON}, \
+             tools/timeline --limits {limits} with these"
+        ))
+    }
+}
+
+/// What the text comes to; else every bad line, with its number and what is wrong.
+fn read(text: &[u8], name: &str) -> Parsed<Scenario> {
+    let (mut scenario, mut faults) = (Scenario::default(), Vec::new());
     for (place, held) in text.split(|octet| *octet == b'\n').enumerate() {
-        let read = std::str::from_utf8(held).map_err(|_| "the line is not UTF-8".into());
-        match read.and_then(line) {
-            Ok(record) => log.extend(record),
-            Err(error) => faults.push(format!("{name}:{}: {error}", place + 1)),
+        let line = std::str::from_utf8(held).map_err(|_| "the line is not UTF-8".into());
+        if let Err(error) = line.and_then(|line| scenario.line(line)) {
+            faults.push(format!("{name}:{}: {error}", place + 1));
         }
     }
     if faults.is_empty() {
-        return Ok(log);
+        return Ok(scenario);
     }
     Err(faults.join("\n"))
 }
@@ -517,25 +579,41 @@ fn to_text(log: &[u8]) -> (String, Parsed<()>) {
     (text, Ok(()))
 }
 
-fn job(way: &str, name: &str) -> Parsed<()> {
+fn write(output: &[u8]) -> Parsed<()> {
+    io::stdout().write_all(output).map_err(|error| format!("standard output: {error}"))
+}
+
+/// The log, and the limits to their file or to a note.
+fn to_log(input: &[u8], name: &str, limits: Option<&str>) -> Parsed<()> {
+    let scenario = read(input, name)?;
+    match limits {
+        Some(file) => {
+            let written = std::fs::write(file, &scenario.limits);
+            written.map_err(|error| format!("{file}: {error}"))?;
+        }
+        None => scenario.note(name).iter().for_each(|note| eprintln!("{note}")),
+    }
+    write(&scenario.log)
+}
+
+fn job(way: &str, name: &str, limits: Option<&str>) -> Parsed<()> {
     let mut input = Vec::new();
     io::stdin().read_to_end(&mut input).map_err(|error| format!("{name}: {error}"))?;
-    let (output, ended) = if way == "to-log" {
-        (to_log(&input, name)?, Ok(()))
-    } else {
-        let (text, ended) = to_text(&input);
-        (text.into_bytes(), ended.map_err(|error| format!("{name}: {error}")))
-    };
-    io::stdout().write_all(&output).map_err(|error| format!("standard output: {error}"))?;
-    ended
+    if way == "to-log" {
+        return to_log(&input, name, limits);
+    }
+    let (text, ended) = to_text(&input);
+    write(text.as_bytes())?;
+    ended.map_err(|error| format!("{name}: {error}"))
 }
 
 fn main() -> ExitCode {
     let words: Vec<String> = std::env::args().skip(1).collect();
     let words: Vec<&str> = words.iter().map(String::as_str).collect();
     let ended = match words[..] {
-        [way @ ("to-log" | "to-text")] => job(way, "standard input"),
-        [way @ ("to-log" | "to-text"), name] => job(way, name),
+        [way @ ("to-log" | "to-text")] => job(way, "standard input", None),
+        [way @ ("to-log" | "to-text"), name] => job(way, name, None),
+        ["to-log", name, limits] => job("to-log", name, Some(limits)),
         _ => {
             eprintln!("scenario: say to-log or to-text; the input comes on standard input");
             return ExitCode::from(2);

@@ -1,57 +1,72 @@
-// Draws a replay as an SVG picture, time going down, one row for each event.
+// A replay as an SVG picture, time going down, one row for each event; or in words, one line for
+// each.
 //
-//   timeline EVENTS <FULL >SVG
+//   timeline draw|words EVENTS [SCENARIO] <FULL
 //
 // FULL is what `regrun-rust --full` prints (docs/src/full.rs has its format); EVENTS has a line
 // of text for each event, as `scenario to-text` writes it. Columns: the event and its answer, of
 // a message that cannot be read with the octet at fault in brackets, of a card that has an edition
-// or changes it with that edition; the state of access 0 and of access 1 with the attempt counter;
-// T3247; T3512 and whether a periodic update is due, if it ever ran; T3346 of each access where it
-// ever ran; and for each network that an access ever held an entry of, its counters against their
-// limits and its marks, and where it gave up its place to another. A ban with counter 0 is the
-// card's own.
+// or changes it with that edition; the state of access 0 and of access 1 with its counters and the
+// update that is pending; T3247; T3512 and whether a periodic update is due, if it ever ran; T3346
+// of each access where it ever ran; and for each network that an access ever held an entry of, its
+// counters against their limits and its marks, and where it gave up its place to another. A ban
+// with counter 0 is the card's own.
+//
+// SCENARIO is the text that the log was made from. Of its comments before the first event the first
+// sentence is the picture's title, and the rest stands below it, with the limits where they are not
+// 3 3 3. A comment behind an event stands at its row; an indented line goes on with it. Lines
+// between two events stand above the second, and what follows the last is left out.
+//
+// In words an event is its number and text, the answer and both states, and whether T3247 runs:
+//
+//   4 start 0 002-02 area 00002A: 8 network listed; mobile 6 network search; Wi-Fi 1 normal
+//     service; T3247 running
 
 use std::collections::BTreeMap;
 use std::fmt::Write as _;
-use std::io::{self, Read};
+use std::io::{self, Read, Write as _};
 use std::process::ExitCode;
 
 type Parsed<T> = Result<T, String>;
 
+/// By their numbers, in the words of include/tjernfaug.h.
 const STATES: [(&str, &str); 7] = [
-    ("no card", "#cfcfcf"),
-    ("normal", "#d9ead3"),
-    ("limited", "#f9cb9c"),
-    ("attempting", "#fff2cc"),
-    ("initiated", "#cfe2f3"),
+    ("no card or card refused", "#cfcfcf"),
+    ("normal service", "#d9ead3"),
+    ("limited service", "#f9cb9c"),
+    ("attempting registration", "#fff2cc"),
+    ("registration initiated", "#cfe2f3"),
     ("registered", "#93c47d"),
-    ("search", "#f4cccc"),
+    ("network search", "#f4cccc"),
 ];
 
-/// State 4 while an update is pending, by its type from 2 on.
-const UPDATES: [&str; 2] = ["update", "periodic update"];
+/// What is pending in state 4 where it is an update, by its type from 2 on.
+const UPDATES: [&str; 2] = ["mobility update", "periodic update"];
 const UPDATING: &str = "#b4d7c8";
 
-/// By their numbers; 3, 12 and 19 answer no event.
-const ANSWERS: [(usize, &str); 18] = [
-    (0, "taken"),
-    (1, "out of range"),
-    (2, "ignored"),
-    (4, "table full"),
-    (5, "no card"),
-    (6, "wrong state"),
-    (7, "same network"),
-    (8, "listed"),
-    (9, "area listed"),
-    (10, "unprotected accept"),
-    (11, "not running"),
-    (13, "fewer than the fixed octets"),
-    (14, "octet 1 not 7E"),
-    (15, "octet 2 not 00"),
-    (16, "type not one this call reads"),
-    (17, "an element past the end"),
-    (18, "unknown, must be understood"),
-    (20, "asked to wait"),
+/// By their numbers, in the words of include/tjernfaug.h; 3, 12 and 19 answer no event.
+const ANSWERS: [&str; 21] = [
+    "taken",
+    "a number out of its range",
+    "ignored by the two-access rule",
+    "no request by the layout",
+    "no entry for the network",
+    "a start without a card, or with a refused one",
+    "wrong state for the event",
+    "the other access is registering with the same network",
+    "network listed",
+    "area listed",
+    "an accept without protection",
+    "timer not running",
+    "buffer too short",
+    "fewer than the fixed octets",
+    "octet 1 not 7E",
+    "octet 2 not 00",
+    "type not one this call reads",
+    "an element past the end",
+    "an unknown element that must be understood",
+    "a request on a third level",
+    "the network has asked for time",
 ];
 /// Those that tell an octet at fault.
 const FAULTS: std::ops::RangeInclusive<usize> = 13..=18;
@@ -60,10 +75,34 @@ const FAULTS: std::ops::RangeInclusive<usize> = 13..=18;
 const TIMERS: [(&str, usize); 6] =
     [("T3510", 2), ("T3511", 2), ("T3502", 2), ("T3346", 2), ("T3247", 1), ("T3512", 1)];
 
-const ROW: usize = 26;
-const TOP: usize = 96;
+const ACCESSES: [&str; 2] = ["mobile", "Wi-Fi"];
+
+/// The limits that need not be told.
+const COMMON: [&str; 3] = ["3"; 3];
+
+/// Widths of the columns: the events, an access's states, and all others.
 const EVENT: usize = 470;
+const STATE: usize = 196;
 const LANE: usize = 172;
+
+/// Where rows begin below a title of one line, and how high lines of text are.
+const TOP: usize = 96;
+const TITLE: usize = 20;
+const LINE: usize = 16;
+const SMALL: usize = 12;
+/// An event's row without its small lines.
+const ROW: usize = 14;
+
+/// What fits a width, in hundredths of the font's size. Titles and headings are bold, which is
+/// wider, and so they are given less.
+const fn room(width: usize, size: usize) -> usize {
+    width * 100 / size
+}
+const TITLE_ROOM: usize = room(880, 16);
+const ABOUT_ROOM: usize = room(980, 12);
+const HEADING_ROOM: usize = room(400, 12);
+const LABEL_ROOM: usize = room(EVENT - 12, 12);
+const SMALL_ROOM: usize = room(EVENT - 30, 10);
 
 /// A network's entry on an access after an event.
 struct Entry {
@@ -94,7 +133,7 @@ struct Access {
 
 /// One event's row.
 struct Step {
-    answer: (usize, &'static str),
+    answer: usize,
     /// The offset of the octet at fault.
     at: String,
     t3247: bool,
@@ -157,13 +196,6 @@ fn access(part: &[&str]) -> Parsed<Access> {
     })
 }
 
-/// The answer's number and words.
-fn answer(part: &[&str]) -> Parsed<(usize, &'static str)> {
-    let word = after(part, "=")?;
-    let found = ANSWERS.iter().find(|(number, _)| number.to_string() == word);
-    found.copied().ok_or(format!("`{word}` is no answer"))
-}
-
 /// Timers started and stopped, and what is asked, in words.
 fn told(part: &[&str]) -> Parsed<String> {
     let mut text = Vec::new();
@@ -194,7 +226,7 @@ fn step(line: &str) -> Parsed<Step> {
     let limit =
         |place| device.get(at + place).map_or(String::new(), |word: &&str| word.to_string());
     Ok(Step {
-        answer: answer(reply)?,
+        answer: number(reply, "=", 0..ANSWERS.len())?,
         at: after(reply, "at")?.into(),
         t3247: after(device, "T3247")? == "1",
         t3512: after(device, "T3512")? == "1",
@@ -217,88 +249,111 @@ fn steps(full: &str) -> Parsed<Vec<Step>> {
         .collect()
 }
 
-/// The SVG text and how to add to it.
-struct Picture(String);
-
-impl Picture {
-    fn bar(&mut self, x: usize, y: usize, width: usize, fill: &str) {
-        let _ = writeln!(
-            self.0,
-            r#"<rect x="{x}" y="{y}" width="{width}" height="{ROW}" fill="{fill}"/>"#
-        );
-    }
-
-    fn text(&mut self, x: usize, y: usize, style: &str, text: &str) {
-        let text = text.replace('&', "&amp;").replace('<', "&lt;");
-        let _ = writeln!(self.0, r#"<text x="{x}" y="{y}" {style}>{text}</text>"#);
+/// A character's width in hundredths of its size, in a font that is rather wide.
+fn wide(letter: char) -> usize {
+    match letter {
+        ' ' | '.' | ',' | ':' | ';' | '\'' | '!' | '|' | 'I' | 'i' | 'j' | 'l' => 35,
+        'f' | 'r' | 't' | '-' | '/' | '(' | ')' | '[' | ']' | '"' => 46,
+        'M' | 'W' | 'm' | 'w' | '%' | '@' | '\u{1100}'.. => 100,
+        'A'..='Z' | '<' | '=' | '>' | '+' | '&' | '#' => 84,
+        _ => 64,
     }
 }
 
-fn head(picture: &mut Picture, x: usize, first: &str, second: &str) {
-    picture.text(x + 6, TOP - 26, r#"font-weight="bold""#, first);
-    picture.text(x + 6, TOP - 10, r##"fill="#555""##, second);
-}
-
-/// The name of an access's state and its colour; an update is not an initial registration.
-fn shown(held: &Access) -> (&'static str, &'static str) {
-    if held.state == 4 && held.kind > 1 {
-        return (UPDATES[held.kind - 2], UPDATING);
-    }
-    STATES[held.state]
-}
-
-fn state_lane(picture: &mut Picture, x: usize, which: usize, steps: &[Step]) {
-    head(picture, x, &format!("access {which}"), if which == 0 { "mobile" } else { "Wi-Fi" });
-    for (row, step) in steps.iter().enumerate() {
-        let held = &step.access[which];
-        let (name, fill) = shown(held);
-        let y = TOP + row * ROW;
-        picture.bar(x, y, LANE - 8, fill);
-        let first = row == 0 || shown(&steps[row - 1].access[which]).0 != name;
-        if first {
-            picture.text(x + 6, y + 17, "", &format!("{} {name}", held.state));
+/// The text in lines that fit the room; a word that does not is cut.
+fn wrapped(text: &str, room: usize) -> Vec<String> {
+    let (mut lines, mut line, mut used) = (Vec::new(), String::new(), 0);
+    for word in text.split_whitespace() {
+        let needed: usize = word.chars().map(wide).sum();
+        if used > 0 && used + wide(' ') + needed <= room {
+            line.push(' ');
+            used += wide(' ');
+        } else {
+            used = room;
         }
-        let counted = [("tries", &held.attempts), ("card", &held.cards)];
-        let text = counted.iter().filter(|(_, n)| *n != "0").map(|(name, n)| format!("{name} {n}"));
-        let text: Vec<String> = text.collect();
-        let end = r##"font-size="10" text-anchor="end" fill="#555""##;
-        picture.text(x + LANE - 12, y + 17, end, &text.join(" "));
-    }
-}
-
-fn clock_lane(picture: &mut Picture, x: usize, steps: &[Step]) {
-    head(picture, x, "T3247", "and area lists");
-    for (row, step) in steps.iter().enumerate() {
-        let y = TOP + row * ROW;
-        if step.t3247 {
-            picture.bar(x, y, 14, "#674ea7");
-        }
-        let areas = [("roaming", step.areas[0]), ("regional", step.areas[1])];
-        let text = areas.iter().filter(|(_, n)| *n != 0).map(|(name, n)| format!("{name} {n}"));
-        let text: Vec<String> = text.collect();
-        picture.text(x + 20, y + 17, r#"font-size="10""#, &text.join(" "));
-    }
-}
-
-/// T3512 as a bar beside that of a periodic update that is due.
-fn period_lane(picture: &mut Picture, x: usize, steps: &[Step]) {
-    head(picture, x, "T3512", "and periodic update due");
-    for (row, step) in steps.iter().enumerate() {
-        let y = TOP + row * ROW;
-        if step.t3512 {
-            picture.bar(x, y, 14, "#0b7285");
-        }
-        if step.due {
-            picture.bar(x + 16, y, 14, "#f1c232");
-            picture.text(x + 36, y + 17, r#"font-size="10""#, "due");
+        for letter in word.chars() {
+            if used + wide(letter) > room {
+                lines.push(std::mem::take(&mut line));
+                used = 0;
+            }
+            line.push(letter);
+            used += wide(letter);
         }
     }
+    lines.push(line);
+    lines.retain(|line| !line.is_empty());
+    lines
 }
 
-fn wait_lane(picture: &mut Picture, x: usize, which: usize, steps: &[Step]) {
-    head(picture, x, "T3346", &format!("on access {which}"));
-    for (row, _) in steps.iter().enumerate().filter(|(_, step)| step.access[which].t3346) {
-        picture.bar(x, TOP + row * ROW, 14, "#a0522d");
+/// The text, or as much of it as fits with two dots behind it.
+fn shortened(text: &str, room: usize) -> String {
+    let (mut used, mut end) = (0, 0);
+    for (at, letter) in text.char_indices() {
+        if used + 2 * wide('.') <= room {
+            end = at;
+        }
+        used += wide(letter);
+    }
+    if used <= room {
+        text.into()
+    } else {
+        format!("{}..", &text[..end])
+    }
+}
+
+/// The first sentence without its full stop, and what follows it.
+fn sentence(paragraph: &str) -> (&str, &str) {
+    let mut parts = paragraph.match_indices(' ').map(|(at, _)| paragraph.split_at(at));
+    let ended = parts.find(|(before, behind)| {
+        let goes_on = behind.trim_start().starts_with(char::is_lowercase);
+        before.ends_with(['.', '?', '!']) && !goes_on
+    });
+    let (first, rest) = ended.unwrap_or((paragraph, ""));
+    (first.strip_suffix('.').unwrap_or(first), rest.trim_start())
+}
+
+/// What a scenario says beside its events, in paragraphs.
+struct Notes {
+    head: Vec<String>,
+    /// For each event what stands above it, and behind it.
+    events: Vec<(Vec<String>, String)>,
+}
+
+/// A line goes on with the paragraph above it; one without words ends that.
+fn add(paragraphs: &mut Vec<String>, line: &str) {
+    match paragraphs.last_mut() {
+        Some(last) if !last.is_empty() && !line.is_empty() => {
+            last.push(' ');
+            last.push_str(line);
+        }
+        _ => paragraphs.push(line.into()),
+    }
+}
+
+impl Notes {
+    fn read(text: &str) -> Notes {
+        let (mut events, mut above) = (Vec::<(Vec<String>, String)>::new(), Vec::new());
+        // Whether the comment behind the last event may go on.
+        let mut open = false;
+        for line in text.lines() {
+            let (event, comment) = line.split_once('#').unwrap_or((line, ""));
+            let (word, comment) = (event.split_whitespace().next(), comment.trim());
+            open &= word.is_none() && !event.is_empty() && !comment.is_empty();
+            match (word, events.last_mut()) {
+                (None, Some((_, behind))) if open => {
+                    behind.push(' ');
+                    behind.push_str(comment);
+                }
+                (None, _) => add(&mut above, comment),
+                (Some("limits"), _) => above.extend([comment.into(), String::new()]),
+                _ => {
+                    events.push((std::mem::take(&mut above), comment.into()));
+                    open = !comment.is_empty();
+                }
+            }
+        }
+        let head = events.first_mut().map_or(above, |(first, _)| std::mem::take(first));
+        Notes { head, events }
     }
 }
 
@@ -310,22 +365,272 @@ fn given(steps: &[Step], row: usize, which: usize) -> Option<(&str, &str)> {
     both.find(|(old, new)| old != new).map(|(old, new)| (old.as_str(), new.as_str()))
 }
 
-fn entry_lane(picture: &mut Picture, x: usize, which: usize, network: &str, steps: &[Step]) {
-    head(picture, x, network, &format!("on access {which}"));
-    for (row, step) in steps.iter().enumerate() {
-        let y = TOP + row * ROW;
-        if let Some((_, new)) = given(steps, row, which).filter(|(old, _)| *old == network) {
+/// An event's text, and from the comment behind it the octets around the one at fault.
+fn parted(label: &str) -> (&str, &str) {
+    let (event, comment) = label.split_once("  # ").unwrap_or((label, ""));
+    (event, comment.rsplit_once(": ").map_or("", |(_, octets)| octets))
+}
+
+/// The answer's number and name, with the octet at fault if it is of one.
+fn named(step: &Step, octets: &str) -> String {
+    let (number, name) = (step.answer, ANSWERS[step.answer]);
+    if FAULTS.contains(&number) {
+        return format!("{number} at {}, {name}: {octets}", step.at);
+    }
+    format!("{number} {name}")
+}
+
+/// The edition of a taken card that has one, or that takes the record back to the first.
+fn edition<'a>(steps: &'a [Step], row: usize, event: &str) -> Option<&'a str> {
+    let (now, before) = (&steps[row], row.checked_sub(1).map(|row| &steps[row]));
+    let taken = now.answer == 0 && event.starts_with("card ");
+    let changed = before.is_some_and(|before| before.edition != now.edition);
+    (taken && (changed || event.contains(" edition "))).then_some(&now.edition)
+}
+
+/// The answer, what is told with it, whose place was taken and what edition a card brought.
+fn answered(steps: &[Step], row: usize, event: &str, octets: &str) -> String {
+    let step = &steps[row];
+    let told = if step.told.is_empty() { String::new() } else { format!(": {}", step.told) };
+    let old = (0..2).find_map(|which| given(steps, row, which));
+    let place = old.map_or(String::new(), |(old, _)| format!("; takes the place of {old}"));
+    let edition = edition(steps, row, event);
+    let order = edition.map_or(String::new(), |number| format!("; identities by edition {number}"));
+    format!("{}{told}{place}{order}", named(step, octets))
+}
+
+/// An event's row: its lines, and where they stand.
+struct Row {
+    heading: Vec<String>,
+    label: String,
+    answer: Vec<String>,
+    comment: Vec<String>,
+    /// Where the heading begins, where the event does, and where the row ends.
+    top: usize,
+    y: usize,
+    bottom: usize,
+}
+
+impl Row {
+    fn below(top: usize, steps: &[Step], place: usize, label: &str, notes: &Notes) -> Row {
+        let (event, octets) = parted(label);
+        let (above, behind) = notes.events.get(place).map_or((&[][..], ""), |(a, b)| (a, b));
+        let heading = above.iter().flat_map(|text| wrapped(text, HEADING_ROOM)).collect::<Vec<_>>();
+        let answer = wrapped(&answered(steps, place, event, octets), SMALL_ROOM);
+        let comment = wrapped(behind, SMALL_ROOM);
+        let y = top + if heading.is_empty() { 0 } else { heading.len() * LINE + LINE / 2 };
+        let bottom = y + ROW + (answer.len() + comment.len()) * SMALL;
+        let label = shortened(&format!("{} {event}", place + 1), LABEL_ROOM);
+        Row { heading, label, answer, comment, top, y, bottom }
+    }
+}
+
+/// What is drawn.
+struct Sheet<'a> {
+    title: String,
+    about: Vec<String>,
+    steps: &'a [Step],
+    /// Where the rows begin.
+    top: usize,
+    rows: Vec<Row>,
+}
+
+/// The title, and the paragraphs below it.
+fn titled(notes: &Notes, steps: &[Step]) -> (String, Vec<String>) {
+    let mut title = "What the replay makes of both accesses".to_string();
+    let mut paragraphs = notes.head.iter().filter(|text| !text.is_empty()).cloned();
+    let mut about = Vec::new();
+    if let Some(first) = paragraphs.next() {
+        let (sentence, rest) = sentence(&first);
+        title = sentence.into();
+        about.push(rest.to_string());
+    }
+    about.extend(paragraphs);
+    about.retain(|text| !text.is_empty());
+    if let Some(step) = steps.first().filter(|step| step.limits != COMMON) {
+        let [card, ban, n1] = &step.limits;
+        about.push(format!("Limits: card counter {card}, ban counter {ban}, N1 counter {n1}."));
+    }
+    (title, about)
+}
+
+impl Sheet<'_> {
+    fn of<'a>(labels: &[&str], steps: &'a [Step], notes: &Notes) -> Sheet<'a> {
+        let (title, about) = titled(notes, steps);
+        let titles = wrapped(&title, TITLE_ROOM).len().max(1) - 1;
+        let below: usize = about.iter().map(|text| wrapped(text, ABOUT_ROOM).len()).sum();
+        let top = TOP + titles * TITLE + below * LINE;
+        let mut rows: Vec<Row> = Vec::new();
+        for place in 0..steps.len() {
+            let above = rows.last().map_or(top, |row| row.bottom);
+            let label = labels.get(place).copied().unwrap_or("");
+            rows.push(Row::below(above, steps, place, label, notes));
+        }
+        Sheet { title, about, steps, top, rows }
+    }
+
+    fn bottom(&self) -> usize {
+        self.rows.last().map_or(self.top, |row| row.bottom)
+    }
+
+    fn each(&self) -> impl Iterator<Item = (&Row, &Step)> {
+        self.rows.iter().zip(self.steps)
+    }
+
+    /// Whether any step is so.
+    fn any(&self, test: impl Fn(&Step) -> bool) -> bool {
+        self.steps.iter().any(test)
+    }
+
+    fn waits(&self, which: usize) -> bool {
+        self.any(|step| step.access[which].t3346)
+    }
+
+    /// Each network that an access ever held an entry of.
+    fn held(&self) -> Vec<(usize, &String)> {
+        let mut lanes: Vec<(usize, &String)> = Vec::new();
+        for step in self.steps {
+            for (which, access) in step.access.iter().enumerate() {
+                lanes.extend(access.entries.keys().map(|name| (which, name)));
+            }
+        }
+        lanes.sort();
+        lanes.dedup();
+        lanes
+    }
+}
+
+/// What XML takes: no control characters, and none of its own.
+fn escaped(text: &str) -> String {
+    let mut out = String::new();
+    for letter in text.chars() {
+        match letter {
+            '&' => out.push_str("&amp;"),
+            '<' => out.push_str("&lt;"),
+            '>' => out.push_str("&gt;"),
+            '\u{FFFE}' | '\u{FFFF}' => out.push(char::REPLACEMENT_CHARACTER),
+            _ if letter.is_control() => out.push(char::REPLACEMENT_CHARACTER),
+            _ => out.push(letter),
+        }
+    }
+    out
+}
+
+/// The SVG text and how to add to it.
+struct Picture(String);
+
+impl Picture {
+    /// Beside an event.
+    fn bar(&mut self, x: usize, row: &Row, width: usize, fill: &str) {
+        let (y, height) = (row.y, row.bottom - row.y);
+        let _ = writeln!(
+            self.0,
+            r#"<rect x="{x}" y="{y}" width="{width}" height="{height}" fill="{fill}"/>"#
+        );
+    }
+
+    fn text(&mut self, x: usize, y: usize, style: &str, text: &str) {
+        let text = escaped(text);
+        if !text.is_empty() {
+            let _ = writeln!(self.0, r#"<text x="{x}" y="{y}" {style}>{text}</text>"#);
+        }
+    }
+
+    /// Lines from `y` on, each so much below the one before; where the next would stand.
+    fn lines(
+        &mut self,
+        (x, y): (usize, usize),
+        high: usize,
+        style: &str,
+        lines: &[String],
+    ) -> usize {
+        for (place, line) in lines.iter().enumerate() {
+            self.text(x, y + place * high, style, line);
+        }
+        y + lines.len() * high
+    }
+}
+
+fn head(picture: &mut Picture, x: usize, sheet: &Sheet, [first, second]: [&str; 2]) {
+    picture.text(x + 6, sheet.top - 26, r#"font-weight="bold""#, first);
+    picture.text(x + 6, sheet.top - 10, r##"fill="#555""##, second);
+}
+
+/// An access's state with its number where it is another than before, and small below it the
+/// update that is pending and the counters that are not 0.
+fn state_lane(picture: &mut Picture, x: usize, which: usize, sheet: &Sheet) {
+    head(picture, x, sheet, [&format!("access {which}"), ACCESSES[which]]);
+    let mut before = None;
+    for (row, step) in sheet.each() {
+        let held = &step.access[which];
+        let (name, fill) = STATES[held.state];
+        let update = UPDATES.get(held.kind.wrapping_sub(2)).filter(|_| held.state == 4);
+        picture.bar(x, row, STATE - 8, update.map_or(fill, |_| UPDATING));
+        if before.replace(held.state) != Some(held.state) || row.top < row.y {
+            picture.text(x + 6, row.y + 12, "", &format!("{} {name}", held.state));
+        }
+        let mut small: Vec<String> = update.iter().map(|name| name.to_string()).collect();
+        if held.attempts != "0" {
+            small.push(format!("tries {}", held.attempts));
+        }
+        if held.cards != "0" {
+            small.push(format!("card {}/{}", held.cards, step.limits[0]));
+        }
+        let style = r##"font-size="10" fill="#555""##;
+        picture.text(x + 6, row.y + 23, style, &small.join(", "));
+    }
+}
+
+fn clock_lane(picture: &mut Picture, x: usize, sheet: &Sheet) {
+    head(picture, x, sheet, ["T3247", "and area lists"]);
+    for (row, step) in sheet.each() {
+        if step.t3247 {
+            picture.bar(x, row, 14, "#674ea7");
+        }
+        let areas = [("roaming", step.areas[0]), ("regional", step.areas[1])];
+        let text = areas.iter().filter(|(_, n)| *n != 0).map(|(name, n)| format!("{name} {n}"));
+        let text: Vec<String> = text.collect();
+        picture.text(x + 20, row.y + 12, r#"font-size="10""#, &text.join(" "));
+    }
+}
+
+/// T3512 as a bar beside that of a periodic update that is due.
+fn period_lane(picture: &mut Picture, x: usize, sheet: &Sheet) {
+    head(picture, x, sheet, ["T3512", "and periodic update due"]);
+    for (row, step) in sheet.each() {
+        if step.t3512 {
+            picture.bar(x, row, 14, "#0b7285");
+        }
+        if step.due {
+            picture.bar(x + 16, row, 14, "#f1c232");
+            picture.text(x + 36, row.y + 12, r#"font-size="10""#, "due");
+        }
+    }
+}
+
+fn wait_lane(picture: &mut Picture, x: usize, which: usize, sheet: &Sheet) {
+    head(picture, x, sheet, ["T3346", &format!("on access {which}")]);
+    for (row, _) in sheet.each().filter(|(_, step)| step.access[which].t3346) {
+        picture.bar(x, row, 14, "#a0522d");
+    }
+}
+
+fn entry_lane(picture: &mut Picture, x: usize, (which, network): (usize, &str), sheet: &Sheet) {
+    head(picture, x, sheet, [network, &format!("on access {which}")]);
+    for (place, (row, step)) in sheet.each().enumerate() {
+        let gone = given(sheet.steps, place, which).filter(|(old, _)| *old == network);
+        if let Some((_, new)) = gone {
             let style = r##"font-size="10" fill="#555""##;
-            picture.text(x + 6, y + 17, style, &format!("place given up to {new}"));
+            picture.text(x + 6, row.y + 12, style, &format!("place given up to {new}"));
         }
         let Some(entry) = step.access[which].entries.get(network) else { continue };
-        let fill = match entry.marks.as_str() {
-            "F-" => "#e06666",
-            "-N" => "#f6b26b",
-            "FN" => "#a61c00",
-            _ => "#eeeeee",
+        let (fill, style) = match entry.marks.as_str() {
+            "F-" => ("#e06666", ""),
+            "-N" => ("#f6b26b", ""),
+            "FN" => ("#a61c00", r#"fill="white""#),
+            _ => ("#eeeeee", ""),
         };
-        picture.bar(x, y, LANE - 8, fill);
+        picture.bar(x, row, LANE - 8, fill);
         let mut text = format!("ban {}/{}", entry.ban, step.limits[1]);
         if entry.n1 != "0" {
             let _ = write!(text, " N1 {}/{}", entry.n1, step.limits[2]);
@@ -333,143 +638,144 @@ fn entry_lane(picture: &mut Picture, x: usize, which: usize, network: &str, step
         if entry.by_card() {
             text.push_str(" (card)");
         }
-        picture.text(x + 6, y + 17, "", &text);
+        picture.text(x + 6, row.y + 12, style, &text);
     }
 }
 
-/// An event's text, and from the comment behind it the octets around the one at fault.
-fn parted(label: &str) -> (&str, &str) {
-    let (event, comment) = label.split_once("  # ").unwrap_or((label, ""));
-    (event, comment.rsplit_once(": ").map_or("", |(_, octets)| octets))
-}
-
-/// The edition of a taken card that has one, or that takes the record back to the first.
-fn edition<'a>(steps: &'a [Step], row: usize, event: &str) -> Option<&'a str> {
-    let (now, before) = (&steps[row], row.checked_sub(1).map(|row| &steps[row]));
-    let taken = now.answer.0 == 0 && event.starts_with("card ");
-    let changed = before.is_some_and(|before| before.edition != now.edition);
-    (taken && (changed || event.contains(" edition "))).then_some(&now.edition)
-}
-
-/// The answer in words, and the octet at fault or else what is told, whose place was taken and what
-/// edition a card brought.
-fn answered(steps: &[Step], row: usize, event: &str, octets: &str) -> String {
-    let step = &steps[row];
-    let (number, words) = step.answer;
-    if FAULTS.contains(&number) {
-        return format!("{number} at {}, {words}: {octets}", step.at);
+/// All columns behind the events; where they end.
+fn lanes(picture: &mut Picture, sheet: &Sheet) -> usize {
+    let mut x = EVENT;
+    for which in 0..2 {
+        state_lane(picture, x, which, sheet);
+        x += STATE;
     }
-    let told = if step.told.is_empty() { String::new() } else { format!(": {}", step.told) };
-    let old = (0..2).find_map(|which| given(steps, row, which));
-    let place = old.map_or(String::new(), |(old, _)| format!("; takes the place of {old}"));
-    let edition = edition(steps, row, event);
-    let order = edition.map_or(String::new(), |number| format!("; identities by edition {number}"));
-    format!("{number} {words}{told}{place}{order}")
+    clock_lane(picture, x, sheet);
+    x += LANE;
+    if sheet.any(|step| step.t3512 || step.due) {
+        period_lane(picture, x, sheet);
+        x += LANE;
+    }
+    for which in (0..2).filter(|which| sheet.waits(*which)) {
+        wait_lane(picture, x, which, sheet);
+        x += LANE;
+    }
+    for (which, network) in sheet.held() {
+        entry_lane(picture, x, (which, network), sheet);
+        x += LANE;
+    }
+    x
 }
 
-fn events(picture: &mut Picture, labels: &[&str], steps: &[Step]) {
-    head(picture, 0, "event", "answer, timers and requests below");
-    for (row, step) in steps.iter().enumerate() {
-        let y = TOP + row * ROW;
-        let (event, octets) = parted(labels.get(row).copied().unwrap_or(""));
-        let short: String = if event.chars().count() > 62 {
-            event.chars().take(60).chain("..".chars()).collect()
-        } else {
-            event.into()
-        };
-        picture.text(6, y + 12, "", &format!("{} {short}", row + 1));
-        let colour = if step.answer.0 == 0 { "#38761d" } else { "#990000" };
+/// An event's label stands before its heading and further left than all else in its column.
+fn events(picture: &mut Picture, sheet: &Sheet) {
+    head(picture, 0, sheet, ["event", "answer, timers and requests below"]);
+    for (row, step) in sheet.each() {
+        picture.text(6, row.y + 12, "", &row.label);
+        picture.lines((8, row.top + 18), LINE, r#"font-weight="bold""#, &row.heading);
+        let colour = if step.answer == 0 { "#38761d" } else { "#990000" };
         let style = format!(r#"font-size="10" fill="{colour}""#);
-        picture.text(24, y + 23, &style, &answered(steps, row, event, octets));
+        let next = picture.lines((24, row.y + 23), SMALL, &style, &row.answer);
+        let style = r##"font-size="10" font-style="italic" fill="#555""##;
+        picture.lines((24, next), SMALL, style, &row.comment);
     }
 }
 
-/// T3346's colour is named where it has a lane, the card's bans and places given up where there
-/// are some.
-fn legend(picture: &mut Picture, y: usize, waits: bool, card: bool, gone: bool) {
-    let rows = "Counters stand against their limits. A row shows the record after its event; rows are events, not times.";
-    let mut colours = String::from("Red: forbidden. Orange: N1 not allowed. Dark red: both. Grey: entry without a mark. Violet: T3247 runs. Teal: T3512 runs. Yellow: due.");
-    if waits {
-        colours.push_str(" Brown: T3346 runs.");
+/// Short forms and colours are named where they are drawn; below which line it ends.
+fn legend(picture: &mut Picture, sheet: &Sheet, width: usize) -> usize {
+    let tries = |step: &Step| step.access.iter().any(|held| held.attempts != "0");
+    let cards = |step: &Step| step.access.iter().any(|held| held.cards != "0");
+    let by_card = |step: &Step| step.access[0].entries.values().any(Entry::by_card);
+    let gone = |row| (0..2).any(|which| given(sheet.steps, row, which).is_some());
+    let rows = [
+        (true, "Answers and states have the numbers that regrun prints. Counters stand against their limits."),
+        (sheet.any(tries), "tries: the attempt counter."),
+        (sheet.any(cards), "card: the card counter."),
+        (true, "A row shows the record after its event; rows are events, not times."),
+    ];
+    let colours = [
+        (true, "Red: forbidden. Orange: N1 not allowed. Dark red: both. Grey: entry without a mark. Violet: T3247 runs. Teal: T3512 runs. Yellow: due."),
+        (sheet.waits(0) || sheet.waits(1), "Brown: T3346 runs."),
+        (sheet.any(by_card), "(card): the card's own ban, which T3247 does not lift."),
+        ((0..sheet.rows.len()).any(gone), "A network that gave up its place is forgotten, counters too."),
+    ];
+    let mut y = sheet.bottom() + 20;
+    for sentences in [rows, colours] {
+        let named = sentences.iter().filter(|(drawn, _)| *drawn).map(|(_, text)| *text);
+        let text = named.collect::<Vec<_>>().join(" ");
+        let lines = wrapped(&text, room(width - 12, 11));
+        y = picture.lines((6, y), LINE, r##"font-size="11" fill="#333""##, &lines);
     }
-    if card {
-        colours.push_str(" (card): the card's own ban, which T3247 does not lift.");
-    }
-    if gone {
-        colours.push_str(" A network that gave up its place is forgotten, counters too.");
-    }
-    for (place, text) in [rows, &colours].iter().enumerate() {
-        picture.text(6, y + 20 + place * 16, r##"font-size="11" fill="#333""##, text);
-    }
+    y
 }
 
-/// Each network that an access ever held an entry of.
-fn held(steps: &[Step]) -> Vec<(usize, &String)> {
-    let mut lanes: Vec<(usize, &String)> = Vec::new();
-    for step in steps {
-        for (which, access) in step.access.iter().enumerate() {
-            lanes.extend(access.entries.keys().map(|name| (which, name)));
-        }
+fn draw(labels: &[&str], steps: &[Step], notes: &Notes) -> String {
+    let sheet = Sheet::of(labels, steps, notes);
+    let mut picture = Picture(String::new());
+    let style = r#"font-size="16" font-weight="bold""#;
+    let mut y = picture.lines((6, 24), TITLE, style, &wrapped(&sheet.title, TITLE_ROOM));
+    for text in &sheet.about {
+        y = picture.lines((6, y), LINE, r##"fill="#333""##, &wrapped(text, ABOUT_ROOM));
     }
-    lanes.sort();
-    lanes.dedup();
-    lanes
-}
-
-fn draw(labels: &[&str], steps: &[Step]) -> String {
-    let lanes = held(steps);
-    let period = steps.iter().any(|step| step.t3512 || step.due);
-    let waits: Vec<usize> =
-        (0..2).filter(|which| steps.iter().any(|step| step.access[*which].t3346)).collect();
-    let clocks = 3 + period as usize;
-    let first = EVENT + (clocks + waits.len()) * LANE;
-    let width = (first + lanes.len() * LANE + 8).max(780);
-    let bottom = TOP + steps.len() * ROW;
-    let mut picture = Picture(String::from("<svg xmlns=\"http://www.w3.org/2000/svg\" "));
-    let _ = write!(picture.0, r#"width="{width}" height="{}" "#, bottom + 48);
-    picture.0.push_str("font-family=\"sans-serif\" font-size=\"12\">\n");
-    picture.0.push_str("<rect width=\"100%\" height=\"100%\" fill=\"white\"/>\n");
-    let title = "What the replay makes of both accesses";
-    picture.text(6, 24, r#"font-size="16" font-weight="bold""#, title);
-    state_lane(&mut picture, EVENT, 0, steps);
-    state_lane(&mut picture, EVENT + LANE, 1, steps);
-    clock_lane(&mut picture, EVENT + 2 * LANE, steps);
-    if period {
-        period_lane(&mut picture, EVENT + 3 * LANE, steps);
-    }
-    for (place, which) in waits.iter().enumerate() {
-        wait_lane(&mut picture, EVENT + (clocks + place) * LANE, *which, steps);
-    }
-    for (place, (which, name)) in lanes.iter().enumerate() {
-        entry_lane(&mut picture, first + place * LANE, *which, name, steps);
-    }
-    for row in 0..=steps.len() {
-        let y = TOP + row * ROW;
+    let width = lanes(&mut picture, &sheet) + 8;
+    let tops = sheet.rows.iter().map(|row| row.top);
+    for y in tops.chain([sheet.bottom()]) {
         let _ = writeln!(picture.0, r##"<path d="M0 {y}H{width}" stroke="#dddddd"/>"##);
     }
-    events(&mut picture, labels, steps);
-    let card = steps.iter().any(|step| step.access[0].entries.values().any(Entry::by_card));
-    let gone = |row| (0..2).any(|which| given(steps, row, which).is_some());
-    legend(&mut picture, bottom, !waits.is_empty(), card, (0..steps.len()).any(gone));
-    picture.0.push_str("</svg>\n");
-    picture.0
+    events(&mut picture, &sheet);
+    let height = legend(&mut picture, &sheet, width) - LINE + 12;
+    let mut svg = String::from("<svg xmlns=\"http://www.w3.org/2000/svg\" ");
+    let _ = write!(svg, r#"width="{width}" height="{height}" "#);
+    svg.push_str("font-family=\"sans-serif\" font-size=\"12\">\n");
+    let _ = writeln!(svg, "<title>{}</title>", escaped(&sheet.title));
+    if !sheet.about.is_empty() {
+        let _ = writeln!(svg, "<desc>{}</desc>", escaped(&sheet.about.join(" ")));
+    }
+    svg.push_str("<rect width=\"100%\" height=\"100%\" fill=\"white\"/>\n");
+    format!("{svg}{}</svg>\n", picture.0)
+}
+
+fn words(labels: &[&str], steps: &[Step]) -> String {
+    let mut text = String::new();
+    for (place, step) in steps.iter().enumerate() {
+        let (event, octets) = parted(labels.get(place).copied().unwrap_or(""));
+        let _ = write!(text, "{} {event}: {}", place + 1, named(step, octets));
+        for (name, held) in ACCESSES.iter().zip(&step.access) {
+            let _ = write!(text, "; {name} {} {}", held.state, STATES[held.state].0);
+        }
+        let _ = writeln!(text, "; T3247 {}", if step.t3247 { "running" } else { "not running" });
+    }
+    text
+}
+
+fn file(named: &str) -> Parsed<String> {
+    std::fs::read_to_string(named).map_err(|error| format!("{named}: {error}"))
 }
 
 fn job() -> Parsed<String> {
-    let named = std::env::args().nth(1).ok_or("name the file with the events' text")?;
-    let labels = std::fs::read_to_string(&named).map_err(|error| format!("{named}: {error}"))?;
-    let mut full = String::new();
+    let given: Vec<String> = std::env::args().skip(1).collect();
+    let (way, events, scenario) = match &given[..] {
+        [way, events] => (way, events, String::new()),
+        [way, events, scenario] => (way, events, file(scenario)?),
+        _ => {
+            return Err(
+                "say draw or words, the file with the events' text, and a scenario or none".into()
+            )
+        }
+    };
+    let (labels, mut full) = (file(events)?, String::new());
     io::stdin().read_to_string(&mut full).map_err(|error| error.to_string())?;
-    let steps = steps(&full)?;
-    Ok(draw(&labels.lines().collect::<Vec<_>>(), &steps))
+    let (labels, steps) = (labels.lines().collect::<Vec<_>>(), steps(&full)?);
+    match way.as_str() {
+        "draw" => Ok(draw(&labels, &steps, &Notes::read(&scenario))),
+        "words" => Ok(words(&labels, &steps)),
+        other => Err(format!("`{other}` is neither draw nor words")),
+    }
 }
 
 fn main() -> ExitCode {
-    match job() {
-        Ok(svg) => {
-            print!("{svg}");
-            ExitCode::SUCCESS
-        }
+    let written = |text: String| io::stdout().write_all(text.as_bytes());
+    match job().and_then(|text| written(text).map_err(|error| error.to_string())) {
+        Ok(()) => ExitCode::SUCCESS,
         Err(error) => {
             eprintln!("timeline: {error}");
             ExitCode::FAILURE

@@ -41,7 +41,8 @@ fn log(events: &[&str]) -> Vec<u8> {
 fn told(log: &[u8], words: &str) -> String {
     let words: Vec<String> = words.split(' ').map(String::from).collect();
     let mut output = crate::Output::new(vec![]);
-    let result = crate::explain(log, &mut output, &crate::question(&words).unwrap());
+    let asked = crate::question(&words).unwrap();
+    let result = crate::explain(log, &mut output, &asked, crate::fresh(crate::LIMITS));
     output.flush().unwrap();
     let text = String::from_utf8(output.sink).unwrap();
     let last = text.lines().last().unwrap_or("");
