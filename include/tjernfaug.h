@@ -20,8 +20,8 @@ extern "C" {
 #endif
 
 /* This header's version: 10000 times the major number, 100 times the minor one, and the patch. */
-#define TJERNFAUG_VERSION 1100
-#define TJERNFAUG_VERSION_TEXT "0.11.0"
+#define TJERNFAUG_VERSION 1200
+#define TJERNFAUG_VERSION_TEXT "0.12.0"
 
 /* The library's: TJERNFAUG_VERSION of the header that belongs to it. */
 uint32_t tjernfaug_version(void);
@@ -40,7 +40,7 @@ enum tjernfaug_kind {
     TJERNFAUG_KIND_CARD_EDITION = 11,
 };
 
-/* The answers. A call that gives a number, or else says why not, adds REFUSED to its answer. No call here answers 3 or 19, which are for reading a request. */
+/* The answers. A call that gives a number, or else says why not, adds REFUSED to its answer. No call here answers 3 or 19, which are for reading a request, nor 21 or 22, which are for explaining a log. */
 enum tjernfaug_answer {
     TJERNFAUG_ANSWER_TAKEN = 0,
     TJERNFAUG_ANSWER_RANGE = 1,
@@ -63,6 +63,8 @@ enum tjernfaug_answer {
     TJERNFAUG_ANSWER_UNKNOWN_ELEMENT = 18,
     TJERNFAUG_ANSWER_THIRD_LEVEL = 19,
     TJERNFAUG_ANSWER_WAITING = 20,
+    TJERNFAUG_ANSWER_VERSION = 23,
+    TJERNFAUG_ANSWER_DAMAGED = 24,
     TJERNFAUG_REFUSED = 256,
 };
 
@@ -261,7 +263,7 @@ struct tjernfaug_timers {
 /*
  * What firmware is to do after an event: the timers of access 0 and 1, T3247, T3512, and the requests, each 0 for none, else 1 plus the access that it is meant for.
  * offset: which octet of a message was bad, counted from 0 in the message and not in the event's body; 0 where the answer is none of 13 to 18.
- * The octets behind update have no meaning and may change at any event.
+ * changed: 1 if the record is another than before the event, and so to be saved, else 0. A timer that ran out in a round always changed it.
  */
 struct tjernfaug_notice {
     uint64_t offset;
@@ -272,6 +274,7 @@ struct tjernfaug_notice {
     uint32_t restart;
     uint32_t leave;
     uint32_t update;
+    uint32_t changed;
 };
 
 /*
@@ -465,6 +468,35 @@ enum { TJERNFAUG_LONGEST_LIST = 48 };
  */
 uint32_t tjernfaug_forbidden(const struct tjernfaug_record *r, uint8_t *file, uint64_t len);
 
+/* The length of an image, on every processor: for the size of a buffer and of a slot in flash. */
+enum { TJERNFAUG_IMAGE = 1392 };
+
+/*
+ * The image of a record, its deadlines and a serial, from buffer[0] on: what is kept over a power cut. The layout is fixed octet by octet, whatever the processor's order and padding
+ * (docs/FIRMWARE.md has it): a mark, the layout's version, the length, the serial, the record, the table, and over all of it CRC-32. Numbers have their lowest octet first.
+ * The serial is any number of yours; of two images it tells the later one, see tjernfaug_later. Where you keep no table, lend one of zeros.
+ * The answer's number; r, t and what lies behind the image stay as they were, and for every answer but 0 the whole buffer does:
+ *    1  r is invalid: what was saved could not be loaded
+ *   12  the buffer is shorter than TJERNFAUG_IMAGE
+ */
+uint32_t tjernfaug_save(const struct tjernfaug_record *r, const struct tjernfaug_deadlines *t, uint32_t serial, uint8_t *buffer, uint64_t len);
+
+/*
+ * The record, the deadlines and the serial of the image at octets[0], over what r, t and *serial held. Any octets may be lent, also an empty slot; those behind the image play no part.
+ * What tjernfaug_save wrote of a valid record loads back equal. An image in which one octet is another is damaged.
+ * The answer's number, and for every answer but 0 all that is lent is as it was:
+ *   24  damaged: no image, or one that is cut or changed: its mark, its length or its checksum does not hold
+ *   23  a whole image of another version of the layout
+ *    1  a whole image of this version, but its record is invalid
+ */
+uint32_t tjernfaug_load(struct tjernfaug_record *r, struct tjernfaug_deadlines *t, uint32_t *serial, const uint8_t *octets, uint64_t len);
+
+/* Whether serial a comes behind b, on a count that wraps. */
+static inline int tjernfaug_later(uint32_t a, uint32_t b)
+{
+    return a != b && (uint32_t)(a - b) < 0x80000000u;
+}
+
 /* Numbers in plain words, "unknown" for all others. Of a call that adds REFUSED, take it off first. */
 static inline const char *tjernfaug_kind_name(uint32_t kind)
 {
@@ -499,6 +531,10 @@ static inline const char *tjernfaug_answer_name(uint32_t answer)
         "an unknown element that must be understood",
         "a request on a third level",
         "the network has asked for time",
+        "unknown",
+        "unknown",
+        "an image of another version",
+        "a damaged image",
     };
     return answer < sizeof names / sizeof *names ? names[answer] : "unknown";
 }

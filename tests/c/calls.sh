@@ -29,6 +29,24 @@ device() {
     tests/start "${REGRUN:-target/bin/regrun}" <build/device.log | diff build/device.states -
 }
 
+# slots LIBRARIES COMPILER [WORDS]: the two slots of docs/FIRMWARE.md, the blocks of the page that begin with an image and, further in, with a record, with the power cut at every octet;
+# and with one slot alone, which has to fail.
+slots() {
+    awk '/^    static uint8_t image\[/ { print substr($0, 5) }
+        /^        static struct tjernfaug_record record;/ { found = 1 }
+        found && NF && substr($0, 1, 8) != "        " { exit }
+        found { print substr($0, 9) }' docs/FIRMWARE.md >build/slots.h
+    "${@:2}" "${strict[@]}" -Ibuild -O2 -o build/slots tests/c/slots.c "$1/libfirmware.a"
+    tests/start build/slots
+    "${@:2}" "${strict[@]}" -Ibuild -O2 -DSAME_SLOT -o build/slots tests/c/slots.c "$1/libfirmware.a"
+    if tests/start build/slots >build/slots.txt; then
+        echo "slots: all comes back from one slot alone, so that the run shows nothing" >&2
+        return 1
+    fi
+    grep -q ': none came back$' build/slots.txt || { cat build/slots.txt >&2; return 1; }
+    echo "slots: with one slot alone none comes back, as it has to be"
+}
+
 # fuzzer: the program that draws what goes through the calls. fuzz SECONDS LIBRARIES COMPILER [WORDS]: runs it.
 fuzzer() { rustc --edition 2021 -O -D warnings -o build/fuzz tests/c/fuzz.rs; }
 fuzz() {

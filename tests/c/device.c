@@ -8,10 +8,11 @@
  * Last it is told to call in after 413 days, and does.
  * Its ten timers have their deadlines on a clock of 32 bits that soon wraps, and again every fifty days; they run out in asking rounds alone, up to 600 s apart. For every other one it
  * sleeps no longer than the library says, and that one is not late at all. It writes what it was told, and what ran out, to a log, from which the lab's program replays the same states.
+ * When an event or a round has changed the record, it saves an image. Behind the power cut, and now and then between two rounds, as if its software had been restarted, it has nothing
+ * else, and goes on with what it loads.
  * Usage: device LOG; the states go to standard output as the lab's program prints them.
  */
 #include <inttypes.h>
-#include <stddef.h>
 #include <stdio.h>
 #include <string.h>
 #include "tjernfaug.h"
@@ -45,15 +46,17 @@ struct device {
     struct tjernfaug_deadlines table;
     struct tjernfaug_notice notice;
     struct tjernfaug_ran ran[TJERNFAUG_MOST_RAN];
-    uint32_t clock, rounds, waits;
+    uint32_t clock, rounds, waits, serial;
     uint64_t passed;
+    uint8_t image[TJERNFAUG_IMAGE];
     uint8_t body[TJERNFAUG_LONGEST_CARD_EDITION];
     FILE *log;
     unsigned events;
 };
 
-/* A thousand seconds before the clock wraps; the numbers that a round's list has; the longest lap; and how long the device waits for its next round, 600 s at most. */
-enum { WORDS = TJERNFAUG_MOST_RAN * TJERNFAUG_RAN_WORDS };
+/* A thousand seconds before the clock wraps; the numbers that a round's list has; the longest lap; and how long the device waits for its next round, 600 s at most. Behind so many
+ * rounds the software is restarted, and behind so many the table is saved, which is every week at the latest. */
+enum { WORDS = TJERNFAUG_MOST_RAN * TJERNFAUG_RAN_WORDS, RESTART = 97, WEEK = 1000 };
 static const uint32_t begin = UINT32_MAX - 999999, lap = 2147483647, gaps[] = {600000, 1, 599999, 600000, 234567};
 
 /* Those timers have a deadline which the record holds as running. */
@@ -62,6 +65,32 @@ static int fits(const struct device *d)
     const struct tjernfaug_access *a = &d->record.hot.a0, *b = &d->record.hot.a1;
     const uint8_t runs[TJERNFAUG_SLOTS] = {a->t3510, b->t3510, a->t3511, b->t3511, a->t3502, b->t3502, a->t3346, b->t3346, d->record.hot.dev.t3512, d->record.hot.dev.t3247};
     return memcmp(d->table.held, runs, sizeof runs) == 0;
+}
+
+/* The record's octets in an image. */
+enum { RECORD = 12, TABLE = 1258 };
+
+static int saves(struct device *d)
+{
+    return tjernfaug_save(&d->record, &d->table, ++d->serial, d->image, sizeof d->image) == TJERNFAUG_ANSWER_TAKEN;
+}
+
+/* Saves the record if it was changed. Then it is another than in the last image, and else the same. */
+static int keeps(struct device *d, uint32_t changed)
+{
+    uint8_t next[TJERNFAUG_IMAGE];
+    const int right = tjernfaug_save(&d->record, &d->table, d->serial, next, sizeof next) == TJERNFAUG_ANSWER_TAKEN;
+    const uint32_t other = memcmp(next + RECORD, d->image + RECORD, TABLE - RECORD) != 0;
+    return right && other == changed && (!changed || saves(d));
+}
+
+/* Begins with what was saved, and nothing else. */
+static int boots(struct device *d)
+{
+    uint32_t serial = 0;
+    memset(&d->record, 0xA5, sizeof d->record);
+    memset(&d->table, 0xA5, sizeof d->table);
+    return tjernfaug_load(&d->record, &d->table, &serial, d->image, sizeof d->image) == TJERNFAUG_ANSWER_TAKEN && serial == d->serial && fits(d);
 }
 
 /* Logs an event. */
@@ -78,7 +107,7 @@ static void show(struct device *d, uint32_t answer, const struct tjernfaug_hot *
     printf("%u %u %u %u %u\n", ++d->events, answer, hot->a0.state, hot->a1.state, hot->dev.t3247);
 }
 
-/* Logs the event, hands it over, shows it, and gives the timers their deadlines; of a message at fault it says which octet was bad. */
+/* Logs the event, hands it over, shows it, gives the timers their deadlines, and saves; of a message at fault it says which octet was bad. */
 static uint32_t hand(struct device *d, uint32_t kind, const uint8_t *body, uint64_t len)
 {
     note(d, kind, body, len);
@@ -86,7 +115,7 @@ static uint32_t hand(struct device *d, uint32_t kind, const uint8_t *body, uint6
     show(d, answer, &d->record.hot);
     if (answer >= TJERNFAUG_ANSWER_CUT && answer <= TJERNFAUG_ANSWER_UNKNOWN_ELEMENT)
         fprintf(stderr, "device: octet %" PRIu64 ": %s\n", d->notice.offset, tjernfaug_answer_name(answer));
-    return tjernfaug_arm(&d->table, d->clock, &d->notice) == TJERNFAUG_ANSWER_TAKEN && fits(d) ? answer : TJERNFAUG_REFUSED;
+    return tjernfaug_arm(&d->table, d->clock, &d->notice) == TJERNFAUG_ANSWER_TAKEN && fits(d) && keeps(d, d->notice.changed) ? answer : TJERNFAUG_REFUSED;
 }
 
 static int taken(uint32_t answer)
@@ -135,7 +164,7 @@ static int replays(struct device *d, struct tjernfaug_record *before, const stru
     note(d, TJERNFAUG_KIND_TIMER, d->body, len);
     const uint32_t answer = tjernfaug_event(before, TJERNFAUG_KIND_TIMER, d->body, len, &d->notice);
     show(d, answer, &before->hot);
-    return taken(answer) && memcmp(&ran->notice, &d->notice, offsetof(struct tjernfaug_notice, update) + sizeof d->notice.update) == 0;
+    return taken(answer) && ran->notice.changed == 1 && memcmp(&ran->notice, &d->notice, sizeof d->notice) == 0;
 }
 
 /* An asking round: how many timers ran out, the first of them in d->ran[0]. */
@@ -146,7 +175,7 @@ static uint32_t asks(struct device *d)
     int right = count <= TJERNFAUG_MOST_RAN && fits(d);
     for (uint32_t i = 0; right && i < count; i++)
         right = replays(d, &before, &d->ran[i]);
-    return right ? count : TJERNFAUG_REFUSED;
+    return right && (count == 0 || keeps(d, 1)) ? count : TJERNFAUG_REFUSED;
 }
 
 /*
@@ -164,8 +193,10 @@ static int wait(struct device *d, uint32_t slot, uint64_t seconds)
             return 0;
         d->clock += gap;
         d->passed += gap;
+        if (d->rounds % RESTART == 0 && !boots(d))
+            return 0;
         const uint32_t count = asks(d);
-        if (count > TJERNFAUG_MOST_RAN)
+        if (count > TJERNFAUG_MOST_RAN || (d->rounds % WEEK == 0 && !saves(d)))
             return 0;
         for (uint32_t i = 0; i < count; i++)
             if (d->ran[i].slot == slot) {
@@ -335,11 +366,13 @@ static uint32_t card_of(struct device *d, uint8_t edition)
     return hand(d, TJERNFAUG_KIND_CARD_EDITION, d->body, tjernfaug_body_card_edition(edition, HOME, suci, sizeof suci, d->body, sizeof d->body));
 }
 
-/* A power cut, which the record outlives and the table does not: they have parted, and no round is taken, until the power event has stopped all timers. */
+/* A power cut, which the image outlives. The clock has begun anew, so that the table is made zero: they have parted, and no round is taken, until the power event has stopped all
+ * timers. */
 static int cut(struct device *d)
 {
+    const int booted = boots(d);
     memset(&d->table, 0, sizeof d->table);
-    return d->record.hot.dev.t3512 == 1 && tjernfaug_round(&d->record, &d->table, d->clock, d->ran, WORDS) == TJERNFAUG_REFUSED + TJERNFAUG_ANSWER_RANGE
+    return booted && d->record.hot.dev.t3512 == 1 && tjernfaug_round(&d->record, &d->table, d->clock, d->ran, WORDS) == TJERNFAUG_REFUSED + TJERNFAUG_ANSWER_RANGE
         && taken(hand(d, TJERNFAUG_KIND_POWER, d->body, TJERNFAUG_BODY_POWER)) && tjernfaug_ask(&d->table, d->clock) == TJERNFAUG_NONE_DUE
         && tjernfaug_wait(&d->table, d->clock) == TJERNFAUG_LONGEST_WAIT
         && tjernfaug_round(&d->record, &d->table, d->clock, d->ran, WORDS - 1) == TJERNFAUG_REFUSED + TJERNFAUG_ANSWER_SHORT && asks(d) == 0;
@@ -381,7 +414,7 @@ int main(int argc, char **argv)
     if (argc != 2 || !(d.log = fopen(argv[1], "wb")))
         return 2;
     d.clock = begin;
-    int right = taken(opened(&d.record));
+    int right = taken(opened(&d.record)) && saves(&d);
     for (size_t i = 0; right && i < sizeof story / sizeof *story; i++) {
         right = story[i].part(&d);
         fprintf(stderr, "device: %s%s, after %" PRIu64 " s\n", right ? "" : "wrong: ", story[i].told, d.passed / 1000);

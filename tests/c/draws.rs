@@ -1,7 +1,8 @@
 // The calls that the fuzz run makes, drawn: on a record that lives on events which are often right, and on records changed from it.
 use crate::deadlines::WAIT as LONGEST;
+use crate::image::{checksum, LENGTH};
 use crate::second::{self, triple, CAccess, CEntries, CNotice, CRecord, CTable, Plain, CS1};
-use crate::{ARM, ASK, ATTACH, BAR, CARD, CAUSE, CELLS, EDITION, EVENT, FORBIDDEN, FROM_S1, IMPORT, LAP, NEW, REQUEST, ROUND, UNUSED, WAIT, WORDS};
+use crate::{ARM, ASK, ATTACH, BAR, CARD, CAUSE, CELLS, EDITION, EVENT, FORBIDDEN, FROM_S1, IMPORT, LAP, LOAD, NEW, REQUEST, ROUND, SAVE, UNUSED, WAIT, WORDS};
 
 const BODY: u32 = 96;
 /// Above the longest request.
@@ -26,6 +27,7 @@ pub struct Ask {
     pub notice: CNotice,
     pub s1: CS1,
     pub length: u64,
+    pub serial: u32,
     pub table: CTable,
     pub arrays: [Vec<u8>; 2],
     /// The place over access 0 that the event's network is to take from another.
@@ -94,8 +96,8 @@ impl Draw {
         self.scatter(notice.octets_mut());
         self.scatter(s1.octets_mut());
         self.scatter(table.octets_mut());
-        let length = self.wide();
-        Ask { call, gaps: self.octet(256), small: [0; 3], kind: 0, record, notice, s1, length, table, arrays: [vec![], vec![]], takes: None }
+        let (length, serial) = (self.wide(), self.next());
+        Ask { call, gaps: self.octet(256), small: [0; 3], kind: 0, record, notice, s1, length, serial, table, arrays: [vec![], vec![]], takes: None }
     }
 
     fn hand(&mut self, record: CRecord, (kind, body): (u32, Vec<u8>)) -> Ask {
@@ -728,6 +730,90 @@ fn clocked(d: &mut Draw, live: &CRecord, full: &CRecord, broken: &CRecord) -> Ve
     calls
 }
 
+/// A save of a record and any table, into a buffer that is just long enough, longer, or, in two of five, shorter.
+fn saving(d: &mut Draw, record: CRecord) -> Ask {
+    let (more, less) = (LENGTH as u32 + 1 + d.below(64), d.below(LENGTH as u32));
+    let len = [LENGTH as u32, LENGTH as u32, more, LENGTH as u32 - 1, [0, less][d.below(2) as usize]][d.below(5) as usize];
+    Ask { kind: d.next(), arrays: [d.octets(len), vec![]], ..d.ask(SAVE, record) }
+}
+
+/// The octets as an image of this version and length, cut or filled up by any octets, with its checksum where that length has it; there is none below twelve.
+fn told(d: &mut Draw, mut octets: Vec<u8>, version: u16, len: u16) -> Vec<u8> {
+    octets.truncate(len as usize - 4);
+    octets.extend(d.octets((len as usize - 4 - octets.len()) as u32));
+    octets[4..8].copy_from_slice(&[version.to_le_bytes(), len.to_le_bytes()].concat());
+    sealed(octets)
+}
+
+fn sealed(mut octets: Vec<u8>) -> Vec<u8> {
+    octets.extend(checksum(&octets).to_le_bytes());
+    octets
+}
+
+/// An image of eleven octets in which a checksum would hold that lies over the length's high octet, which is 0.
+fn overlaid(d: &mut Draw, octets: &[u8]) -> Vec<u8> {
+    let (mut short, first) = (octets[..8].to_vec(), d.next() as u16);
+    short[6] = 11;
+    for more in 0..=u16::MAX {
+        short[4..6].copy_from_slice(&first.wrapping_add(more).to_le_bytes());
+        if let [0, rest @ ..] = checksum(&short[..7]).to_le_bytes() {
+            return [&short[..7], &[0], &rest].concat();
+        }
+    }
+    short
+}
+
+/// An image with one octet of its first `end` bent, to another one, and a checksum that holds.
+fn mended(d: &mut Draw, mut octets: Vec<u8>, end: u32) -> Vec<u8> {
+    octets.truncate(LENGTH - 4);
+    let at = d.below(end) as usize;
+    octets[at] = bent(d, octets[at]);
+    sealed(octets)
+}
+
+/// What is left of an image: all of it; cut, often by one octet or to a few; up to three octets of it bent; its mark, its version, its length or any octet another one, with a checksum that holds;
+/// octets that were never an image.
+fn worn(d: &mut Draw, image: Vec<u8>) -> Vec<u8> {
+    let (any, len, version) = (d.below(LENGTH as u32) as usize, 12 + d.below(1500) as u16, d.next() as u16);
+    let about = [12, 13, LENGTH as u16 - 1, LENGTH as u16 + 1, 65535, len][d.below(6) as usize];
+    let mut octets = image;
+    match d.below(16) {
+        0 => octets.truncate([LENGTH - 1, any, any % 12, 0][d.below(4) as usize]),
+        1 | 2 => {
+            for _ in 0..1 + d.below(3) {
+                let at = [any, d.below(12) as usize, LENGTH - 1 - d.below(4) as usize][d.below(3) as usize];
+                octets[at] = bent(d, octets[at]);
+            }
+        }
+        3 => octets = mended(d, octets, 4),
+        4 => octets = told(d, octets, [0, 2, 256, version][version as usize % 4], LENGTH as u16),
+        5 => octets = told(d, octets, [0, 2, 256, version][version as usize % 4], about),
+        6 => octets = told(d, octets, 1, about),
+        7 => octets = overlaid(d, &octets),
+        8 => octets = [vec![0; any], vec![0xFF; any], d.octets(any as u32)][any % 3].clone(),
+        9 | 10 => octets = mended(d, octets, LENGTH as u32 - 4),
+        _ => {}
+    }
+    octets
+}
+
+/// A load of what is left of a record's image, half the time with any octets behind it, over another record.
+fn loading(d: &mut Draw, record: &CRecord, over: CRecord) -> Ask {
+    let (now, serial) = (time(d), d.next());
+    let table = odd_table(d, record, now);
+    let image = worn(d, second::image_of(record, &table, serial));
+    let behind = d.below(2) * d.below(64);
+    let octets = [image, d.octets(behind)].concat();
+    Ask { arrays: [octets, vec![]], ..d.ask(LOAD, over) }
+}
+
+/// The calls of a round that are about images.
+fn stored(d: &mut Draw, live: &CRecord, full: &CRecord, broken: &CRecord, scattered: &CRecord) -> Vec<Ask> {
+    let mut calls: Vec<Ask> = [live, full, broken].map(|record| saving(d, *record)).into();
+    calls.extend([(live, *full), (full, *live), (full, *scattered), (broken, *full)].map(|(record, over)| loading(d, record, over)));
+    calls
+}
+
 /// The record with one octet of its first `end` bent.
 fn changed(d: &mut Draw, live: &CRecord, end: usize) -> CRecord {
     let (mut r, at) = (*live, d.below(end as u32) as usize);
@@ -780,5 +866,6 @@ pub fn round(d: &mut Draw, live: &CRecord) -> Vec<Ask> {
     calls.extend([marked, misranked].map(|record| forbidden(d, record)));
     calls.extend(requests(d, live, &full, [one, misranked, odd], access));
     calls.extend(clocked(d, live, &full, &broken));
+    calls.extend(stored(d, live, &full, &broken, &scattered));
     calls
 }

@@ -2,15 +2,16 @@
 // Held: the header's layout, answer 1 exactly where the record is invalid by a second reading of document 01, a refusal's record unchanged, nothing written outside what is lent,
 // for a valid record the answer, the notice, the record and the request of the second program, which reads that request back as the record's, by its container where it is to have one,
 // also with what a device brings from 4G, its choice among the cells heard, its file of forbidden networks, the fault of a message by a reading of R-1 alone, for the event and
-// for the reject reader, and the deadlines that a notice gives, the timer that is due, what runs out in an asking round, and how long firmware may sleep.
+// for the reject reader, the deadlines that a notice gives, the timer that is due, what runs out in an asking round, and how long firmware may sleep; that a notice tells whether
+// any field of the record is another, and the image of a record octet by octet, what it loads back to and why not.
 //
 // Usage: fuzz SECONDS SEED PROGRAM [ARGUMENTS]
-// The program is tests/c/lend.c. First it tells how many octets a record, a notice, the facts of 4G, a length and a table of deadlines have without their gaps, and the header's longest
-// request, most cells, longest list, longest attach message and longest request with one, the numbers of a timer that ran out, how many of these there are at most, no slot's number, and
-// the longest wait.
+// The program is tests/c/lend.c. First it tells how many octets a record, a notice, the facts of 4G, a length, a serial and a table of deadlines have without their gaps, and the
+// header's longest request, most cells, longest list, longest attach message and longest request with one, the numbers of a timer that ran out, how many of these there are at most, no
+// slot's number, the longest wait, and an image's length.
 // A call goes to it as one octet each for the call (0 to have the answers so far), what fills the gaps and six small numbers (three limits, the access, or how many numbers of the
-// second array are not lent), then the kind or the clock's time and the lengths of two arrays, then the record, the notice, the facts, the length, the table and the arrays; back come
-// the answer, how many octets were written before what is lent, and all of these as they then are.
+// second array are not lent), then the kind, the clock's time or the serial to be saved and the lengths of two arrays, then the record, the notice, the facts, the length, the serial,
+// the table and the arrays; back come the answer, how many octets were written before what is lent, and all of these as they then are.
 // Numbers have four octets, the low one first, in the two lists of cells and in that of a round too.
 // Cases are numbered from SEED on, and each draws by its number alone. With 0 seconds the case SEED runs alone.
 #![allow(dead_code)]
@@ -25,6 +26,9 @@ mod editions;
 mod faults;
 #[path = "../../docs/src/identity.rs"]
 mod identity;
+#[path = "../../docs/src/image.rs"]
+mod image;
+mod images;
 #[path = "../../docs/src/log.rs"]
 mod log;
 #[path = "../../docs/src/message.rs"]
@@ -58,6 +62,8 @@ pub const ARM: u8 = 8;
 pub const ASK: u8 = 9;
 pub const ROUND: u8 = 10;
 pub const WAIT: u8 = 11;
+pub const SAVE: u8 = 12;
+pub const LOAD: u8 = 13;
 /// The kinds of a card, the second R-7's.
 pub const CARD: u32 = 1;
 pub const EDITION: u32 = 11;
@@ -65,7 +71,7 @@ pub const EDITION: u32 = 11;
 pub const IMPORT: u32 = 10;
 /// A place of the card's file without a network.
 pub const UNUSED: u32 = 0xFFFFFF;
-/// Answers that no event has: they are for requests, and 12 for cells and files.
+/// Answers that no event has: they are for requests, and 12 for cells, files and images.
 const NEVER: [u32; 3] = [3, 12, 19];
 /// The place of T3346 among an access's timers in the notice.
 const T3346: usize = 3;
@@ -95,6 +101,7 @@ struct Got {
     notice: CNotice,
     s1: CS1,
     length: u64,
+    serial: u32,
     table: CTable,
     arrays: [Vec<u8>; 2],
 }
@@ -136,6 +143,7 @@ struct Tally {
     ranks: [u64; 4],
     editions: editions::Tally,
     rounds: rounds::Tally,
+    images: images::Tally,
 }
 
 fn fail(what: &str) -> ! {
@@ -160,8 +168,8 @@ impl Ask {
         for n in [self.kind, self.arrays[0].len() as u32, self.arrays[1].len() as u32] {
             to.extend(n.to_le_bytes());
         }
-        let length = self.length.to_le_bytes();
-        for part in [self.record.octets(), self.notice.octets(), self.s1.octets(), &length, self.table.octets(), &self.arrays[0], &self.arrays[1]] {
+        let (length, serial) = (self.length.to_le_bytes(), self.serial.to_le_bytes());
+        for part in [self.record.octets(), self.notice.octets(), self.s1.octets(), &length, &serial, self.table.octets(), &self.arrays[0], &self.arrays[1]] {
             to.extend(part);
         }
     }
@@ -170,12 +178,13 @@ impl Ask {
         let (answer, harm) = (number(from)?, number(from)?);
         let (Ask { record, notice, s1, table, .. }, arrays, mut length) = (self, self.arrays.clone(), [0; 8]);
         let (record, notice, s1, table) = (*record, *notice, *s1, *table);
-        let mut got = Got { answer, harm, record, notice, s1, length: 0, table, arrays };
+        let mut got = Got { answer, harm, record, notice, s1, length: 0, serial: 0, table, arrays };
         from.read_exact(got.record.octets_mut())?;
         from.read_exact(got.notice.octets_mut())?;
         from.read_exact(got.s1.octets_mut())?;
         from.read_exact(&mut length)?;
         got.length = u64::from_le_bytes(length);
+        got.serial = number(from)?;
         from.read_exact(got.table.octets_mut())?;
         from.read_exact(&mut got.arrays[0])?;
         from.read_exact(&mut got.arrays[1])?;
@@ -208,6 +217,8 @@ impl Ask {
                 let (call, Table { slots }) = (["arm", "ask", "round", "wait"][(self.call - ARM) as usize], second::table_in(&self.table));
                 format!("{call} at {}, {} numbers lent, table {slots:?}", self.kind, self.words())
             }
+            SAVE => format!("save with serial {} into {} octets", self.kind, self.arrays[0].len()),
+            LOAD => format!("load of {} octets, {}..", self.arrays[0].len(), hex(&self.arrays[0][..self.arrays[0].len().min(12)])),
             _ => format!("request over access {}, buffer of {}", self.small[0], self.arrays[0].len()),
         }
     }
@@ -219,13 +230,13 @@ impl Side {
         let mut child = started.unwrap_or_else(|error| fail(&format!("{}: {error}", words[0])));
         let (input, output) = (child.stdin.take().unwrap(), child.stdout.take().unwrap());
         let mut side = Side { child, input, output: BufReader::with_capacity(65536, output) };
-        let octets = size_of::<CRecord>() + size_of::<CNotice>() + size_of::<CS1>() + size_of::<u64>() + size_of::<CTable>();
+        let octets = size_of::<CRecord>() + size_of::<CNotice>() + size_of::<CS1>() + size_of::<u64>() + size_of::<u32>() + size_of::<CTable>();
         if number(&mut side.output).ok() != Some(octets as u32) {
             fail("the C side does not start, or its record, notice, facts or table have other fields");
         }
-        let numbers = [LONGEST[1], cells::MOST as u32, LIST, ATTACH, MAPPED[1], RAN, deadlines::MOST as u32, deadlines::NONE as u32, deadlines::WAIT];
+        let numbers = [LONGEST[1], cells::MOST as u32, LIST, ATTACH, MAPPED[1], RAN, deadlines::MOST as u32, deadlines::NONE as u32, deadlines::WAIT, image::LENGTH as u32];
         if numbers.map(|_| number(&mut side.output).ok()) != numbers.map(Some) {
-            fail("the header has another longest request, list or attach message, other most cells, other numbers of a round, or another longest wait");
+            fail("the header has another longest request, list or attach message, other most cells, other numbers of a round, another longest wait, or another length of an image");
         }
         side
     }
@@ -282,12 +293,14 @@ fn judge_event(ask: &Ask, got: &Got) -> Result<(), String> {
     if valid(was) {
         let (answer, notice, record) = second::event(was, ask.kind, &ask.arrays[0]);
         equal("the answer", got.answer, answer)?;
-        alike("the notice", got.notice.octets(), notice.octets())?;
+        hold(got.notice.changed >= notice.changed, "what the record holds is another, and the notice does not say so")?;
+        alike("the notice", got.notice.octets(), CNotice { changed: got.notice.changed, ..notice }.octets())?;
         hold(valid(now), "the event made the record invalid")?;
         alike("the record", second::tidy(now).octets(), record.octets())?;
     } else {
         equal("the answer to an invalid record", got.answer, 1)?;
     }
+    images::judge_change(ask, got)?;
     hold(got.answer <= 20 && !NEVER.contains(&got.answer), "there is no such answer")?;
     if got.answer != 0 {
         alike("the refused record", now.octets(), was.octets())?;
@@ -631,17 +644,18 @@ fn judge(ask: &Ask, got: &Got) -> Result<(), String> {
     if ask.call != EVENT {
         alike("the notice, which is not lent,", got.notice.octets(), ask.notice.octets())?;
     }
-    if ask.call != REQUEST && ask.call != FORBIDDEN {
+    if ![REQUEST, FORBIDDEN, SAVE].contains(&ask.call) {
         alike("the first array", &got.arrays[0], &ask.arrays[0])?;
     }
     if ![CELLS, FROM_S1, ROUND].contains(&ask.call) {
         alike("the second array", &got.arrays[1], &ask.arrays[1])?;
     }
-    if ![ARM, ASK, ROUND, WAIT].contains(&ask.call) {
+    if ![ARM, ASK, ROUND, WAIT, SAVE, LOAD].contains(&ask.call) {
         alike("the table, which is not lent,", got.table.octets(), ask.table.octets())?;
     }
     alike("what comes from 4G", got.s1.octets(), ask.s1.octets())?;
     hold(ask.call == FROM_S1 || got.length == ask.length, "the length, which is not lent, is another")?;
+    hold(ask.call == LOAD || got.serial == ask.serial, "the serial, which is not lent, is another")?;
     match ask.call {
         NEW => judge_new(ask, got),
         EVENT => judge_event(ask, got),
@@ -653,6 +667,8 @@ fn judge(ask: &Ask, got: &Got) -> Result<(), String> {
         ASK => rounds::judge_ask(ask, got),
         ROUND => rounds::judge_round(ask, got),
         WAIT => rounds::judge_wait(ask, got),
+        SAVE => images::judge_save(ask, got),
+        LOAD => images::judge_load(ask, got),
         _ => judge_request(ask, got),
     }
 }
@@ -672,6 +688,7 @@ fn count(ask: &Ask, got: &Got, tally: &mut Tally) {
     }
     tally.editions.count(ask, got);
     tally.rounds.count(ask, got);
+    tally.images.count(ask, got);
     if ask.call == CAUSE {
         tally.causes[got.answer.saturating_sub(268).min(6) as usize] += 1;
     }
@@ -777,7 +794,7 @@ fn main() {
         group(&mut side, words, first..first + LIVES, &mut tally);
     }
     side.end();
-    let Tally { cases, answers, causes, invalid, news, made, requests, written, deeds, waits, rest, bars, shapes, refusals, choices, imports, files, places, ranks, editions, rounds } = tally;
+    let Tally { cases, answers, causes, invalid, news, made, requests, written, deeds, waits, rest, bars, shapes, refusals, choices, imports, files, places, ranks, editions, rounds, images } = tally;
     println!("fuzz: {cases} cases, {} events, {invalid} of them on an invalid record", answers.iter().sum::<u64>());
     println!("fuzz: {made} of {news} new records made, {written} of {requests} requests written");
     for (shape, [written, fitted, longest, lacked]) in ["no container", "a container"].iter().zip(shapes) {
@@ -789,11 +806,12 @@ fn main() {
     show_places(places, ranks);
     editions.show();
     rounds.show();
+    images.show();
     println!("fuzz: answers 0 to 20 came {answers:?} times, a reject's cause and 269 to 274 {causes:?} times");
     let missing = (0..21).any(|answer| answers[answer] == 0 && !NEVER.contains(&(answer as u32)));
     let seen = [&causes[..], &deeds, &waits, &rest, &bars, shapes.as_flattened(), &refusals, &choices, &imports, &files, &places, &ranks, &[invalid, made, news - made]].concat();
-    let unseen = seen.contains(&0) || editions.unseen() || rounds.unseen();
+    let unseen = seen.contains(&0) || editions.unseen() || rounds.unseen() || images.unseen();
     if seconds > 0 && (missing || unseen) {
-        fail("some answer, deed, shape of a request, choice of cells, import, card's file, place given up, rank, edition or deadline never came");
+        fail("some answer, deed, shape of a request, choice of cells, import, card's file, place given up, rank, edition, deadline, change or image never came");
     }
 }

@@ -1,6 +1,6 @@
 /*
- * What include/tjernfaug.h has beside the library's calls, as C and as C++: the names of numbers, the timers in a row, how a table of deadlines lies, networks by their digits, and
- * the bodies of events, each octet for octet by the event log's form, in every buffer from none to one that is too long.
+ * What include/tjernfaug.h has beside the library's calls, as C and as C++: the names of numbers, the timers in a row, how a table of deadlines lies, which of two serials is the later
+ * one, networks by their digits, and the bodies of events, each octet for octet by the event log's form, in every buffer from none to one that is too long.
  */
 #include "tjernfaug.h"
 #include <stddef.h>
@@ -43,26 +43,30 @@ static void kinds(void)
     spelled(tjernfaug_kind_name(beyond), "unknown");
 }
 
-/* By document 01, R-1, R-3 and R-6: each number from 0 to 20 has a name of its own. */
+/* By document 01, R-1, R-3 and R-6: each number from 0 to 20 has a name of its own, and so have those of an image. 21 and 22 are no call's. */
 static void answers(void)
 {
     static const uint32_t numbers[] = {
         TJERNFAUG_ANSWER_TAKEN, TJERNFAUG_ANSWER_RANGE, TJERNFAUG_ANSWER_IGNORED, TJERNFAUG_ANSWER_LAYOUT, TJERNFAUG_ANSWER_FULL, TJERNFAUG_ANSWER_NO_CARD, TJERNFAUG_ANSWER_STATE,
         TJERNFAUG_ANSWER_SAME_NETWORK, TJERNFAUG_ANSWER_NETWORK_LISTED, TJERNFAUG_ANSWER_AREA_LISTED, TJERNFAUG_ANSWER_UNPROTECTED, TJERNFAUG_ANSWER_NOT_RUNNING, TJERNFAUG_ANSWER_SHORT,
         TJERNFAUG_ANSWER_CUT, TJERNFAUG_ANSWER_FIRST_OCTET, TJERNFAUG_ANSWER_SECOND_OCTET, TJERNFAUG_ANSWER_MESSAGE_TYPE, TJERNFAUG_ANSWER_PAST_END, TJERNFAUG_ANSWER_UNKNOWN_ELEMENT,
-        TJERNFAUG_ANSWER_THIRD_LEVEL, TJERNFAUG_ANSWER_WAITING,
+        TJERNFAUG_ANSWER_THIRD_LEVEL, TJERNFAUG_ANSWER_WAITING, TJERNFAUG_ANSWER_VERSION, TJERNFAUG_ANSWER_DAMAGED,
     };
-    for (uint32_t i = 0; i <= 20; i++) {
-        expect("answer", numbers[i], i);
-        expect("an answer without a name", strcmp(tjernfaug_answer_name(i), "unknown") == 0, 0);
+    for (uint32_t i = 0; i < 23; i++) {
+        expect("answer", numbers[i], i <= 20 ? i : i + 2);
+        expect("an answer without a name", strcmp(tjernfaug_answer_name(numbers[i]), "unknown") == 0, 0);
         for (uint32_t j = 0; j < i; j++)
-            expect("two answers of one name", strcmp(tjernfaug_answer_name(i), tjernfaug_answer_name(j)) == 0, 0);
+            expect("two answers of one name", strcmp(tjernfaug_answer_name(numbers[i]), tjernfaug_answer_name(numbers[j])) == 0, 0);
     }
     spelled(tjernfaug_answer_name(TJERNFAUG_ANSWER_TAKEN), "taken");
     spelled(tjernfaug_answer_name(TJERNFAUG_REFUSED + TJERNFAUG_ANSWER_SHORT - TJERNFAUG_REFUSED), "buffer too short");
     spelled(tjernfaug_answer_name(TJERNFAUG_ANSWER_UNKNOWN_ELEMENT), "an unknown element that must be understood");
     spelled(tjernfaug_answer_name(TJERNFAUG_ANSWER_WAITING), "the network has asked for time");
+    spelled(tjernfaug_answer_name(TJERNFAUG_ANSWER_VERSION), "an image of another version");
+    spelled(tjernfaug_answer_name(TJERNFAUG_ANSWER_DAMAGED), "a damaged image");
     spelled(tjernfaug_answer_name(21), "unknown");
+    spelled(tjernfaug_answer_name(22), "unknown");
+    spelled(tjernfaug_answer_name(25), "unknown");
     spelled(tjernfaug_answer_name(beyond), "unknown");
     expect("refused", TJERNFAUG_REFUSED, 256);
 }
@@ -154,7 +158,28 @@ static void deadlines(void)
     expect("its T3247", offsetof(struct tjernfaug_ran, notice.t3247), 4 * 20);
     expect("its T3512", offsetof(struct tjernfaug_ran, notice.t3512), 4 * 22);
     expect("its restart", offsetof(struct tjernfaug_ran, notice.restart), 4 * 24);
+    expect("its leave", offsetof(struct tjernfaug_ran, notice.leave), 4 * 25);
     expect("its update", offsetof(struct tjernfaug_ran, notice.update), 4 * 26);
+    expect("whether it changed the record", offsetof(struct tjernfaug_ran, notice.changed), 4 * 27);
+    expect("a notice's octets", sizeof(struct tjernfaug_notice), offsetof(struct tjernfaug_notice, changed) + 4);
+}
+
+/* A serial is behind those of the half of all numbers that comes before it. The one that is just half of them away is on neither side. */
+static void serials(void)
+{
+    static const uint32_t from[] = {0, 1, 5, 0x7FFFFFFF, 0x80000000, 0xDEADBEEF, UINT32_MAX - 1, UINT32_MAX};
+    static const uint32_t ahead[] = {1, 2, 1000, 0x7FFFFFFE, 0x7FFFFFFF};
+    for (size_t i = 0; i < sizeof from / sizeof *from; i++) {
+        expect("a serial and itself", (uint64_t)tjernfaug_later(from[i], from[i]), 0);
+        expect("half of all ahead", (uint64_t)tjernfaug_later(from[i] + 0x80000000, from[i]), 0);
+        expect("half of all back", (uint64_t)tjernfaug_later(from[i], from[i] + 0x80000000), 0);
+        for (size_t j = 0; j < sizeof ahead / sizeof *ahead; j++) {
+            expect("a later serial", (uint64_t)tjernfaug_later(from[i] + ahead[j], from[i]), 1);
+            expect("an earlier serial", (uint64_t)tjernfaug_later(from[i], from[i] + ahead[j]), 0);
+        }
+    }
+    expect("across the wrap", (uint64_t)tjernfaug_later(0, UINT32_MAX), 1);
+    expect("an image's octets", TJERNFAUG_IMAGE, 1392);
 }
 
 /* The text that a number has, and that nothing is written behind it. */
@@ -316,6 +341,7 @@ int main(void)
     timers();
     slots();
     deadlines();
+    serials();
     networks();
     bodies();
     in_place();

@@ -1,7 +1,7 @@
 /*
  * The C side of the fuzz run: makes each call that standard input asks for and writes what came of it, as tests/c/fuzz.rs says.
  * What is lent ends where nothing may be read or written, and octets that must stay lie before it. A record, a notice, the facts of 4G and a table of deadlines go in and out field by
- * field, by the header's names, and with them the length that a call stores.
+ * field, by the header's names, and with them the length and the serial that calls store.
  */
 #define _DEFAULT_SOURCE
 #include <stddef.h>
@@ -11,11 +11,12 @@
 #include <sys/mman.h>
 #include "tjernfaug.h"
 
-enum { FLUSH, NEW, EVENT, REQUEST, CAUSE, CELLS, FORBIDDEN, FROM_S1, ARM, ASK, ROUND, WAIT };
-enum { RECORD, NOTICE, FACTS, LENGTH, TABLE, FIRST, SECOND, ROOMS };
+enum { FLUSH, NEW, EVENT, REQUEST, CAUSE, CELLS, FORBIDDEN, FROM_S1, ARM, ASK, ROUND, WAIT, SAVE, LOAD };
+enum { RECORD, NOTICE, FACTS, LENGTH, SERIAL, TABLE, FIRST, SECOND, ROOMS };
 enum { ROOM = 262144, GUARD = 64, MARK = 0x5A };
 
-/* What a call is asked with, ahead of the record, the notice, the facts, the length, the table and the octets of one or two arrays. kind is the clock's time too. */
+/* What a call is asked with, ahead of the record, the notice, the facts, the length, the serial, the table and the octets of one or two arrays. kind is the clock's time too, and the
+ * serial of an image to be saved. */
 struct head {
     uint8_t call;
     uint8_t gaps;
@@ -40,9 +41,9 @@ static const struct { size_t room, at, len; } fields[] = {
     AT(hot.dev.t3247), AT(hot.dev.t3512), AT(hot.dev.due), AT(hot.dev.capability), AT(hot.dev.security), AT(hot.dev.roaming), AT(hot.dev.regional), AT(hot.dev.edition),
     ACCESS(hot.a0), ACCESS(hot.a1), ENTRIES(e0), ENTRIES(e1), AT(roaming), AT(regional),
     AT(guti0), AT(guti1), AT(equivalents0), AT(equivalents1), AT(suci), AT(capability), AT(security),
-    TOLD(offset), TIMERS(c0), TIMERS(c1), TIMER(t3247), TIMER(t3512), TOLD(restart), TOLD(leave), TOLD(update),
+    TOLD(offset), TIMERS(c0), TIMERS(c1), TIMER(t3247), TIMER(t3512), TOLD(restart), TOLD(leave), TOLD(update), TOLD(changed),
     FACT(registered), FACT(n26), FACT(context), FACT(valid), FACT(native), FACT(guti), {LENGTH, 0, sizeof(uint64_t)},
-    COLUMN(rests), COLUMN(ends), COLUMN(held),
+    {SERIAL, 0, sizeof(uint32_t)}, COLUMN(rests), COLUMN(ends), COLUMN(held),
 };
 
 enum { FIELDS = sizeof fields / sizeof *fields };
@@ -51,7 +52,8 @@ static uint8_t *ends[ROOMS], *lent[ROOMS];
 static size_t lens[ROOMS];
 
 /* All of them without their gaps. */
-static uint8_t plain[sizeof(struct tjernfaug_record) + sizeof(struct tjernfaug_notice) + sizeof(struct tjernfaug_s1) + sizeof(uint64_t) + sizeof(struct tjernfaug_deadlines)];
+static uint8_t plain[sizeof(struct tjernfaug_record) + sizeof(struct tjernfaug_notice) + sizeof(struct tjernfaug_s1) + sizeof(uint64_t) + sizeof(uint32_t)
+                     + sizeof(struct tjernfaug_deadlines)];
 static uint32_t octets;
 
 static void get(void *at, size_t len)
@@ -79,7 +81,8 @@ static uint8_t *room(void)
 static void lay(const struct head *h)
 {
     const size_t sizes[ROOMS] = {
-        sizeof(struct tjernfaug_record), sizeof(struct tjernfaug_notice), sizeof(struct tjernfaug_s1), sizeof(uint64_t), sizeof(struct tjernfaug_deadlines), h->lens[0], h->lens[1],
+        sizeof(struct tjernfaug_record), sizeof(struct tjernfaug_notice), sizeof(struct tjernfaug_s1), sizeof(uint64_t), sizeof(uint32_t), sizeof(struct tjernfaug_deadlines),
+        h->lens[0], h->lens[1],
     };
     for (size_t i = 0; i < ROOMS; i++) {
         if (sizes[i] > ROOM - GUARD)
@@ -140,6 +143,8 @@ static uint32_t call(const struct head *h)
     case ASK: return tjernfaug_ask(t, h->kind);
     case ROUND: return round_of(r, t, h->kind, h->small[0]);
     case WAIT: return tjernfaug_wait(t, h->kind);
+    case SAVE: return tjernfaug_save(r, t, h->kind, lent[FIRST], lens[FIRST]);
+    case LOAD: return tjernfaug_load(r, t, (uint32_t *)lent[SERIAL], lent[FIRST], lens[FIRST]);
     default: exit(2);
     }
 }
@@ -172,7 +177,7 @@ int main(void)
     setvbuf(stdout, NULL, _IOFBF, ROOM);
     const uint32_t sizes[] = {
         octets, TJERNFAUG_LONGEST_REQUEST, TJERNFAUG_MOST_CELLS, TJERNFAUG_LONGEST_LIST, TJERNFAUG_LONGEST_ATTACH, TJERNFAUG_LONGEST_REQUEST_FROM_S1,
-        TJERNFAUG_RAN_WORDS, TJERNFAUG_MOST_RAN, TJERNFAUG_NONE_DUE, TJERNFAUG_LONGEST_WAIT,
+        TJERNFAUG_RAN_WORDS, TJERNFAUG_MOST_RAN, TJERNFAUG_NONE_DUE, TJERNFAUG_LONGEST_WAIT, TJERNFAUG_IMAGE,
     };
     put(sizes, sizeof sizes);
     fflush(stdout);

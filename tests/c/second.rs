@@ -2,7 +2,9 @@
 use crate::record::{Access, Areas, Change, Entry, Limits, List, Listed, Record, Reply, INITIAL, RANGE, T3247, T3346, T3502, T3510, T3511, T3512};
 use crate::deadlines::{self, Slot, Table};
 use crate::identity::S1;
-use crate::{card, cells, log, request};
+use crate::image::{Fields, Saved};
+use crate::valid::valid;
+use crate::{card, cells, image, log, request};
 
 // The structs of include/tjernfaug.h without their gaps.
 #[repr(C, packed)]
@@ -83,6 +85,7 @@ pub struct CNotice {
     pub t3247: [u32; 2],
     pub t3512: [u32; 2],
     pub requests: [u32; 3],
+    pub changed: u32,
 }
 
 /// The facts in the header's order: registered, n26, context, valid, native.
@@ -300,7 +303,7 @@ fn told(change: Change) -> [u32; 2] {
     }
 }
 
-fn notice_out(p: &Reply) -> CNotice {
+fn notice_out(p: &Reply, changed: bool) -> CNotice {
     let clocks = |a: usize| [T3510, T3511, T3502, T3346].map(|timer| told(p.timers[timer + a]));
     let request = |asked: Option<u8>| asked.map_or(0, |access| 1 + access as u32);
     CNotice {
@@ -309,7 +312,77 @@ fn notice_out(p: &Reply) -> CNotice {
         t3247: told(p.timers[T3247]),
         t3512: told(p.timers[T3512]),
         requests: [p.restart, p.leave, p.update].map(request),
+        changed: changed as u32,
     }
+}
+
+/// From one of C's structs to that of an image with the same names, and back.
+macro_rules! by_name {
+    ($there:ident $back:ident $c:ident $saved:ident { $($field:ident)* }) => {
+        fn $there(from: $c) -> image::$saved {
+            image::$saved { $($field: from.$field),* }
+        }
+
+        fn $back(from: image::$saved) -> $c {
+            $c { $($field: from.$field),* }
+        }
+    };
+}
+
+by_name!(access_saved access_loaded CAccess Access {
+    net code lastnet lastcode t3502length uplink sessions state status attempts cardcounter t3510 t3511 t3502 guti visited ksi equivalents entries regtype t3346
+});
+by_name!(entries_saved entries_loaded CEntries Entries { nets bans n1s forbidden barred ranks });
+by_name!(table_saved table_loaded CTable Columns { rests ends held });
+
+fn device_saved(d: CDevice) -> image::Device {
+    let CDevice { home, t3512length, card, suci, limits: [cardlimit, banlimit, n1limit], t3247, t3512, due, capability, security, roaming, regional, edition } = d;
+    image::Device { home, t3512length, card, suci, cardlimit, banlimit, n1limit, t3247, t3512, due, capability, security, roaming, regional, edition }
+}
+
+fn device_loaded(d: image::Device) -> CDevice {
+    let image::Device { home, t3512length, card, suci, cardlimit, banlimit, n1limit, t3247, t3512, due, capability, security, roaming, regional, edition } = d;
+    CDevice { home, t3512length, card, suci, limits: [cardlimit, banlimit, n1limit], t3247, t3512, due, capability, security, roaming, regional, edition }
+}
+
+/// All fields, in use or not.
+fn fields(r: &CRecord) -> Fields {
+    let CRecord { dev, access, entries, roaming, regional, guti, equivalents, suci, capability, security } = *r;
+    let (device, access, entries) = (device_saved(dev), access.map(access_saved), entries.map(entries_saved));
+    Fields { device, access, entries, roaming, regional, guti, equivalents, suci, capability, security }
+}
+
+fn record_of(f: &Fields) -> CRecord {
+    let Fields { device, access, entries, roaming, regional, guti, equivalents, suci, capability, security } = *f;
+    let (dev, access, entries) = (device_loaded(device), access.map(access_loaded), entries.map(entries_loaded));
+    CRecord { dev, access, entries, roaming, regional, guti, equivalents, suci, capability, security }
+}
+
+/// Whether a record is another than before, in any field.
+pub fn changed(was: &CRecord, now: &CRecord) -> bool {
+    image::changed(&fields(was), &fields(now))
+}
+
+fn saved(r: &CRecord, t: &CTable, serial: u32) -> Saved {
+    Saved { serial, record: fields(r), table: table_saved(*t) }
+}
+
+/// The image of any record, valid or not.
+pub fn image_of(r: &CRecord, t: &CTable, serial: u32) -> Vec<u8> {
+    let mut octets = vec![0; image::LENGTH];
+    image::save(&saved(r, t, serial), |_| true, &mut octets);
+    octets
+}
+
+/// The image into the buffer: the answer.
+pub fn save(r: &CRecord, t: &CTable, serial: u32, buffer: &mut [u8]) -> u32 {
+    image::save(&saved(r, t, serial), |f| valid(&record_of(f)), buffer) as u32
+}
+
+/// The image's record, table and serial, or the answer.
+pub fn load(octets: &[u8]) -> Result<(CRecord, CTable, u32), u32> {
+    let Saved { serial, record, table } = image::load(octets, |f| valid(&record_of(f))).map_err(u32::from)?;
+    Ok((record_of(&record), table_loaded(table), serial))
 }
 
 pub fn table_in(t: &CTable) -> Table {
@@ -336,13 +409,14 @@ pub fn tidy(r: &CRecord) -> CRecord {
     record_out(&record_in(r))
 }
 
-/// An event: the answer, the notice, the record after it.
+/// An event: the answer, the notice, the record after it. What the notice says of a change is by what is held.
 pub fn event(r: &CRecord, kind: u32, body: &[u8]) -> (u32, CNotice, CRecord) {
     let mut octets = (kind as u16).to_le_bytes().to_vec();
     octets.extend_from_slice(body);
-    let mut held = record_in(r);
+    let (mut held, before) = (record_in(r), tidy(r));
     let reply = if kind < 65536 { log::apply(&mut held, &octets) } else { Reply::of(RANGE) };
-    (reply.answer as u32, notice_out(&reply), record_out(&held))
+    let after = record_out(&held);
+    (reply.answer as u32, notice_out(&reply, changed(&before, &after)), after)
 }
 
 /// How much was written, or 256 plus the answer.
@@ -413,9 +487,9 @@ pub fn wait(t: &CTable, now: u32) -> (u32, CTable) {
     (table_in(t).wait(now), *t)
 }
 
-/// A round's numbers for a timer that ran out: its slot, 0, and the notice in numbers of 32 bits, with a 0 behind it.
+/// A round's numbers for a timer that ran out: its slot, 0, and the notice in numbers of 32 bits. It has always changed the record, since that timer ran before.
 fn ran_out(ran: &deadlines::Ran) -> Vec<u8> {
-    [&(ran.slot as u64).to_le_bytes()[..], notice_out(&ran.reply).octets(), &[0; 4]].concat()
+    [&(ran.slot as u64).to_le_bytes()[..], notice_out(&ran.reply, true).octets()].concat()
 }
 
 pub fn fits(r: &CRecord, t: &CTable) -> bool {

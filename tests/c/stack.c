@@ -32,6 +32,10 @@ static struct tjernfaug_deadlines table;
 static struct tjernfaug_ran ran[TJERNFAUG_MOST_RAN + 1];
 static uint32_t now;
 
+/* An image and its serial. */
+static uint8_t image[TJERNFAUG_IMAGE + 1];
+static uint32_t serial;
+
 static void nothing(void) { answer = 0; }
 static void new(void) { answer = tjernfaug_new(&record, limit, limit, limit, octets, len, octets, 8); }
 static void event(void) { answer = tjernfaug_event(&record, kind, buffer, len, &notice); }
@@ -43,6 +47,8 @@ static void arm(void) { answer = tjernfaug_arm(&table, now, &notice); }
 static void ask(void) { answer = tjernfaug_ask(&table, now); }
 static void round_of(void) { answer = tjernfaug_round(&record, &table, now, ran, len); }
 static void rest(void) { answer = tjernfaug_wait(&table, now); }
+static void save(void) { answer = tjernfaug_save(&record, &table, serial, image, len); }
+static void load(void) { answer = tjernfaug_load(&record, &table, &serial, image, len); }
 static void cause(void) { answer = reject_cause(buffer, len); }
 static void seconds(void) { answer = timer_seconds(limit); }
 
@@ -277,6 +283,23 @@ static void tables(void (*call)(void))
     }
 }
 
+/* A save or a load of an image of all the records, in buffers that are too short, just long enough and longer; of some the last octet but one is another, and of some the version. */
+static void images(void (*call)(void))
+{
+    static const size_t lens[] = {0, TJERNFAUG_IMAGE - 1, TJERNFAUG_IMAGE, sizeof image};
+    for (unsigned i = 0; i < ROUNDS * 4 * 3; i++) {
+        lay(i / 12);
+        set(i % WAYS);
+        tjernfaug_save(&record, &table, i, image, sizeof image);
+        image[TJERNFAUG_IMAGE - 2] ^= i / 4 % 3 == 1;
+        image[4] ^= i / 4 % 3 == 2;
+        len = lens[i % 4];
+        on(call);
+    }
+}
+
+static void saved(void) { images(save); }
+static void loaded(void) { images(load); }
 static void asked(void) { tables(ask); }
 static void rested(void) { tables(rest); }
 
@@ -297,7 +320,7 @@ static void armed(void)
 /* The bounds, in octets. docs/FIRMWARE.md says the same, which tests/archives sees. Beside them the last answer that is no refusal. */
 static const struct { const char *name; size_t bound; uint32_t last; void (*cases)(void); } calls[] = {
     {"tjernfaug_new", 2048, 0, news},
-    {"tjernfaug_event", 6656, 0, events},
+    {"tjernfaug_event", 10240, 0, events},
     {"tjernfaug_arm", 1536, 0, armed},
     {"tjernfaug_ask", 1024, 10, asked},
     {"tjernfaug_round", 6656, 12, asking},
@@ -306,6 +329,8 @@ static const struct { const char *name; size_t bound; uint32_t last; void (*case
     {"tjernfaug_request_from_s1", 5632, 0, requests_from_s1},
     {"tjernfaug_cells", 3072, 255, choices},
     {"tjernfaug_forbidden", 2560, 255, files},
+    {"tjernfaug_save", 4608, 0, saved},
+    {"tjernfaug_load", 8192, 0, loaded},
     {"reject_cause", 1024, 255, readings},
     {"timer_seconds", 256, 65535, timers},
 };

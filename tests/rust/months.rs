@@ -88,7 +88,7 @@ struct CNotice {
     t3247: [u32; 2],
     t3512: [u32; 2],
     requests: [u32; 3],
-    gap: u32,
+    changed: u32,
 }
 
 #[repr(C)]
@@ -123,7 +123,7 @@ extern "C" {
 }
 
 impl CNotice {
-    const UNTOLD: CNotice = CNotice { offset: 99, clocks: [[[99; 2]; 4]; 2], t3247: [99; 2], t3512: [99; 2], requests: [99; 3], gap: 99 };
+    const UNTOLD: CNotice = CNotice { offset: 99, clocks: [[[99; 2]; 4]; 2], t3247: [99; 2], t3512: [99; 2], requests: [99; 3], changed: 99 };
 
     fn told(&self) -> Told {
         let change = |[told, seconds]: [u32; 2]| match told {
@@ -171,6 +171,9 @@ impl Board for Library {
         if unsafe { tjernfaug_arm(&mut self.table, now, &notice) } != 0 {
             fail("the library refuses its own notice");
         }
+        if notice.changed > u32::from(answer == 0) {
+            fail(&format!("the library tells a change of {} with answer {answer}", notice.changed));
+        }
         (answer, notice.told())
     }
 
@@ -188,6 +191,9 @@ impl Board for Library {
         let (named, behind) = ran.split_at(count);
         if behind.iter().any(|place| *place != untouched) {
             fail("the library writes behind what ran out");
+        }
+        if named.iter().any(|one| one.notice.changed != 1) {
+            fail("the library tells of a timer that ran out and changed nothing");
         }
         named.iter().map(|one| (one.slot as usize, one.notice.told())).collect()
     }

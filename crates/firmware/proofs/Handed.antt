@@ -28,7 +28,7 @@ unfolding askedNumber askedWord
 asked-same No = refl
 asked-same (On access) = refl
 
--- of every event that a round hands out (rounds/proofs/Handed: ran-taken)
-pub ran-notice : (x : Ran) → x .reply .answer ≡ Taken → ranWords x ≡ x .at ∷ 0 ∷ noticeWords (noticeOf (x .reply))
+-- of every event that a round hands out (rounds/proofs/Handed: ran-taken), which changed the record (rounds/proofs/Changed: ran-changes)
+pub ran-notice : (x : Ran) → x .reply .answer ≡ Taken → ranWords x ≡ x .at ∷ 0 ∷ noticeWords (noticeOf 1 (x .reply))
 unfolding ranWords requestWords noticeWords noticeOf faultOffset
 ran-notice x e = rw (e, timers-same (x .reply .c0), timers-same (x .reply .c1), timer-same (x .reply .t3247), timer-same (x .reply .t3512), asked-same (x .reply .restart), asked-same (x .reply .leave), asked-same (x .reply .update))

@@ -22,9 +22,9 @@ unfolding areTold timersOf
 are-told c = rw (is-told (c .t3510), is-told (c .t3511), is-told (c .t3502), is-told (c .t3346))
 
 -- the notice of a reply is one
-pub is-notice : (p : Reply) → isNotice (noticeOf p) ≡ true
+pub is-notice : (changed : ℕ) (p : Reply) → isNotice (noticeOf changed p) ≡ true
 unfolding isNotice noticeOf
-is-notice p = rw (are-told (p .c0), are-told (p .c1), is-told (p .t3512), is-told (p .t3247))
+is-notice changed p = rw (are-told (p .c0), are-told (p .c1), is-told (p .t3512), is-told (p .t3247))
 
 told-back : (t : Told) → toldFrom (timerNotice t) ≡ t
 unfolding toldFrom timerNotice
@@ -37,10 +37,10 @@ unfolding clocksFrom timersOf
 clocks-back c = rw (told-back (c .t3510), told-back (c .t3511), told-back (c .t3502), told-back (c .t3346))
 
 -- and tells of the ten timers what the reply told
-pub tolds-back : (p : Reply) → toldsFrom (noticeOf p) ≡ toldsOf (p .c0) (p .c1) (p .t3512) (p .t3247)
+pub tolds-back : (changed : ℕ) (p : Reply) → toldsFrom (noticeOf changed p) ≡ toldsOf (p .c0) (p .c1) (p .t3512) (p .t3247)
 unfolding toldsFrom noticeOf
-tolds-back p = rw (clocks-back (p .c0), clocks-back (p .c1), told-back (p .t3512), told-back (p .t3247))
+tolds-back changed p = rw (clocks-back (p .c0), clocks-back (p .c1), told-back (p .t3512), told-back (p .t3247))
 
-pub arms : (p : Reply) (t : Table) (now : ℕ) → armedBy t now (noticeOf p) ≡ record { answer = 0; next = armed now (toldsOf (p .c0) (p .c1) (p .t3512) (p .t3247)) t }
+pub arms : (changed : ℕ) (p : Reply) (t : Table) (now : ℕ) → armedBy t now (noticeOf changed p) ≡ record { answer = 0; next = armed now (toldsOf (p .c0) (p .c1) (p .t3512) (p .t3247)) t }
 unfolding armedBy
-arms p t now = rw (is-notice p, tolds-back p)
+arms changed p t now = rw (is-notice changed p, tolds-back changed p)

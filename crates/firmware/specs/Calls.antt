@@ -17,6 +17,7 @@ use Rattle.cells.specs.declared.Chosen.{Chosen}
 use Rattle.cells.specs.Cells.{choiceOf}
 use Rattle.usim.specs.declared.Listed.{Listed}
 use Rattle.usim.specs.Usim.{listedOf}
+use Rattle.image.specs.Same.{changedOf}
 use Rattle.firmware.specs.declared.Opened.{Opened}
 use Rattle.firmware.specs.declared.Taken.{Taken}
 use Rattle.firmware.specs.declared.Wrote.{Wrote}
@@ -29,12 +30,13 @@ newBy r m = record { answer = numberOf (m .answer); next = cond (isTaken (m .ans
 unfoldable pub newOf : Record → ℕ → ℕ → ℕ → List ℕ → List ℕ → Opened
 newOf r cardlimit banlimit n1limit capability security = newBy r (madeOf cardlimit banlimit n1limit capability security)
 
-unfoldable pub heardBy : Outcome → Taken
-heardBy o = record { answer = numberOf (o .reply .answer); notice = noticeOf (o .reply); next = o .next }
+-- the notice tells whether the record behind the event is another
+unfoldable pub heardBy : Record → Outcome → Taken
+heardBy r o = record { answer = numberOf (o .reply .answer); notice = noticeOf (changedOf r (o .next)) (o .reply); next = o .next }
 
 -- a kind and a body are an event and the octets beside it
 unfoldable pub heardAs : Record → ℕ → List ℕ → Taken
-heardAs r kind body = heardBy (stepOf r (eventOf kind body) (besideOf kind body))
+heardAs r kind body = heardBy r (stepOf r (eventOf kind body) (besideOf kind body))
 
 -- a number, or 256 plus the refusal's
 abbrev pub numberOr : Answer → ℕ → ℕ
@@ -72,6 +74,6 @@ filedBy l = numberOr (l .answer) (l .count)
 unfoldable pub filedOf : Record → ℕ → ℕ
 filedOf r n = filedBy (listedOf r n)
 
--- 0.11.0: ten thousand times the first number, a hundred times the second, and the third
+-- 0.12.0: ten thousand times the first number, a hundred times the second, and the third
 abbrev pub version : ℕ
-version = 1100
+version = 1200

@@ -63,7 +63,7 @@ passedBy o = record { count = numberOr (o .answer) (o .count); next = o .next; t
 unfoldable pub passedOf : Record → Table → ℕ → ℕ → Passed
 passedOf r t now n = passedBy (roundOf r t now n)
 
--- A notice as the numbers of 32 bits that C's struct has: the offset is two of them, and one fills it.
+-- A notice as the numbers of 32 bits that C's struct has: the offset is two of them.
 unfoldable pub timerWords : Timer → List ℕ
 timerWords t = t .told ∷ t .seconds ∷ []
 
@@ -78,4 +78,4 @@ noticeWords n =
     ++ timerWords (n .t3247)
     ++ timerWords (n .t3512)
     ++ (n .restart ∷ n .leave ∷ n .update ∷ [])
-    ++ (0 ∷ [])
+    ++ (n .changed ∷ [])

@@ -2,3 +2,4 @@
 pub mod Notice
 pub mod Calls
 pub mod Clock
+pub mod Storage

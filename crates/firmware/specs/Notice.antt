@@ -29,9 +29,9 @@ unfoldable pub askedNumber : Asked → ℕ
 askedNumber No = 0
 askedNumber (On access) = 1 + access
 
--- R-1's refusals tell "the offset from 0 of the octet at fault", counted in the message; it is 0 beside every other answer
-unfoldable pub noticeOf : Reply → Notice
-noticeOf p = record {
+-- what an event's reply tells, and whether it changed the record: R-1's refusals tell "the offset from 0 of the octet at fault", counted in the message; it is 0 beside every other answer
+unfoldable pub noticeOf : ℕ → Reply → Notice
+noticeOf changed p = record {
   offset = faultOffset (p .answer);
   c0 = timersOf (p .c0);
   c1 = timersOf (p .c1);
@@ -40,4 +40,5 @@ noticeOf p = record {
   restart = askedNumber (p .restart);
   leave = askedNumber (p .leave);
   update = askedNumber (p .update);
+  changed = changed;
 }

@@ -48,6 +48,12 @@ fn opened(
     }
 }
 
+fn changed(same: bool) -> u32
+    ensures { λ o. ⌜ o ≡ cond same 0 1 ⌝ }
+{
+    if same { 0 } else { 1 }
+}
+
 fn taken(r: Record, kind: u32, body: &[u8]) -> Taken
     ensures { λ o. ⌜ o ≡ heardAs r kind (now (body .entry)) ⌝ }
 {
@@ -57,7 +63,8 @@ fn taken(r: Record, kind: u32, body: &[u8]) -> Taken
     let reply = o.reply;
     let next = o.next;
     let n = reply.answer;
-    let notice = notice_of(reply);
+    let changed = changed(image::same(r, next));
+    let notice = notice_of(changed, reply);
     let answer = record::number(n);
     Taken {
         answer: answer as u32,
@@ -216,5 +223,5 @@ pub extern "C" fn timer_seconds(octet: u8) -> u32
 pub extern "C" fn tjernfaug_version() -> u32
     ensures { λ r. ⌜ r ≡ version ⌝ }
 {
-    1100
+    1200
 }

@@ -5,6 +5,7 @@ use record::Record;
 mod calls;
 mod clock;
 mod lent;
+mod storage;
 mod told;
 
 pub use calls::reject_cause;
@@ -21,6 +22,8 @@ pub use clock::tjernfaug_ask;
 pub use clock::tjernfaug_round;
 pub use clock::tjernfaug_wait;
 pub use lent::handle;
+pub use storage::tjernfaug_load;
+pub use storage::tjernfaug_save;
 
 // What is told of a timer: 0 left, 1 stopped, 2 started, and then for how many seconds.
 #[repr(C)]
@@ -38,7 +41,7 @@ pub struct Timers {
 }
 
 // A reply but for its answer, as numbers. The offset is of the octet at fault in a message, 0 where the answer is none of 13 to 18.
-// A request is 0 for none, else 1 plus the access that it is meant for.
+// A request is 0 for none, else 1 plus the access that it is meant for. Changed is 1 if the record is another than before, else 0.
 #[repr(C)]
 pub struct Notice {
     pub offset: usize,
@@ -49,6 +52,7 @@ pub struct Notice {
     pub restart: u32,
     pub leave: u32,
     pub update: u32,
+    pub changed: u32,
 }
 
 // The answer to a new record by its number, and the record after it.
@@ -87,4 +91,12 @@ pub struct Passed {
     pub count: u32,
     pub next: Record,
     pub table: Table,
+}
+
+// The answer to octets that were to be loaded by its number, and the record, the table and the serial after it.
+pub struct Regained {
+    pub answer: u32,
+    pub next: Record,
+    pub table: Table,
+    pub serial: u32,
 }

@@ -53,8 +53,8 @@ fn request_of(a: Asked) -> u32
     }
 }
 
-pub(crate) fn notice_of(p: Reply) -> Notice
-    ensures { λ r. ⌜ r ≡ noticeOf p ⌝ }
+pub(crate) fn notice_of(changed: u32, p: Reply) -> Notice
+    ensures { λ r. ⌜ r ≡ noticeOf changed p ⌝ }
 {
     let answer = p.answer;
     let t = p.c0;
@@ -81,5 +81,6 @@ pub(crate) fn notice_of(p: Reply) -> Notice
         restart,
         leave,
         update,
+        changed,
     }
 }

@@ -3,5 +3,6 @@ pub mod Arrays
 pub mod Lists
 pub mod One
 pub mod Seek
+pub mod Splice
 pub mod Tests
 pub mod Zip

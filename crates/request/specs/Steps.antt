@@ -3,7 +3,7 @@ use Prim.Native.Nat.{ℕ, _+_, _≤_}
 use mathlib.Core.Path.{_≡_}
 use mathlib.Core.Bool.{Bool, true, cond}
 use mathlib.Core.List.{List, [], _∷_, _++_}
-use lib.ListN.{length, take, drop}
+use lib.ListN.{length, take}
 use lib.Dec.{leb, eqb}
 use Rattle.laws.specs.Upto.{over}
 use Rattle.record.specs.Tests.{either}
@@ -15,15 +15,6 @@ use Rattle.request.specs.Layout.Form.{shortForm, longForm, plainForm}
 use Rattle.request.specs.Writing.{lastOf, uplinkOf, sessionsOf, sayingOf}
 use Rattle.request.specs.declared.sending.Lengths.{Lengths}
 use Rattle.request.specs.declared.Written.{Written}
-
--- octets put over those of a buffer from a place on
-unfoldable pub spliced : List ℕ → ℕ → List ℕ → List ℕ
-spliced buffer at octets = (take at buffer ++ octets) ++ drop (at + length octets) buffer
-
--- a buffer after octets are put at a place of it, and the place behind them
-pub record Put (buffer : List ℕ) (at : ℕ) (octets after : List ℕ) (next : ℕ) : Type 0 where
-  pub holds : after ≡ spliced buffer at octets
-  pub goes : next ≡ at + length octets
 
 -- 52, 40 and 50, one behind the other; what stands before 77; and 77, 2B and 70
 unfoldable pub tailOctets : List ℕ → List ℕ → List ℕ → List ℕ

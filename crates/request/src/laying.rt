@@ -7,7 +7,8 @@ ghost use lib.ListN.{length};
 ghost use Rattle.request.specs.Layout.{withLead, itemOctets, openingHead, octetsOf};
 ghost use Rattle.request.specs.Layout.Form.{shortForm, longForm, plainForm};
 ghost use Rattle.request.specs.Writing.{sayingOf};
-ghost use Rattle.request.specs.Steps.{Put, tailOctets, frontOctets, rearOctets, requestSize, Small};
+ghost use Rattle.laws.specs.Splice.{Put};
+ghost use Rattle.request.specs.Steps.{tailOctets, frontOctets, rearOctets, requestSize, Small};
 
 // Octets from a place on; the place behind them is handed back.
 pub(crate) fn put(buffer: &mut [u8], at: usize, src: &[u8]) -> usize

@@ -16,7 +16,8 @@ ghost use lib.ListN.{length, take};
 ghost use Rattle.request.specs.Layout.{octetsOf, nested, layout};
 ghost use Rattle.networks.specs.Networks.{octets3};
 ghost use Rattle.request.specs.Writing.{octets2, lastOf, uplinkOf, sessionsOf, sayingOf};
-ghost use Rattle.request.specs.Steps.{Put, requestSize, heldLengths, sentOf, sentOver, Small, Sendable};
+ghost use Rattle.laws.specs.Splice.{Put};
+ghost use Rattle.request.specs.Steps.{requestSize, heldLengths, sentOf, sentOver, Small, Sendable};
 
 // How many octets there are of each piece behind the identity.
 struct Lengths {

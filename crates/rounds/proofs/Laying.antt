@@ -46,7 +46,7 @@ clocks-laid at c out u v w x e f g h =
     (join (at + 4) _ _ v w x (at + 6) (omega arith) g h))
 
 pub ran-laid : (at slot : ℕ) (p : Reply) (out a b c d e f g : List ℕ) → a ≡ laid at (slot ∷ 0 ∷ 0 ∷ 0 ∷ []) out → b ≡ laid (at + 4) (clocksWords (p .c0)) a → c ≡ laid (at + 12) (clocksWords (p .c1)) b → d ≡ laid (at + 20) (timerWords (p .t3247)) c
-    → e ≡ laid (at + 22) (timerWords (p .t3512)) d → f ≡ laid (at + 24) (requestWords p) e → g ≡ set f (at + 27) 0 → g ≡ laid at (ranWords (record { at = slot; reply = p })) out
+    → e ≡ laid (at + 22) (timerWords (p .t3512)) d → f ≡ laid (at + 24) (requestWords p) e → g ≡ set f (at + 27) 1 → g ≡ laid at (ranWords (record { at = slot; reply = p })) out
 unfolding ranWords clocksWords requestWords
 ran-laid at slot p out a b c d e f g h i j k l m n =
     join at (slot ∷ 0 ∷ 0 ∷ 0 ∷ []) _ out a g (at + 4) (omega arith) h
@@ -54,7 +54,7 @@ ran-laid at slot p out a b c d e f g h i j k l m n =
     (join (at + 12) (clocksWords (p .c1)) _ b c g (at + 20) (omega arith) j
     (join (at + 20) (timerWords (p .t3247)) _ c d g (at + 22) (omega arith) k
     (join (at + 22) (timerWords (p .t3512)) _ d e g (at + 24) (omega arith) l
-    (join (at + 24) (requestWords p) _ e f g (at + 27) (omega arith) m (one-laid (at + 27) 0 f g n))))))
+    (join (at + 24) (requestWords p) _ e f g (at + 27) (omega arith) m (one-laid (at + 27) 1 f g n))))))
 
 pub words-size : (x : Ran) → length (ranWords x) ≡ 28
 unfolding ranWords clocksWords requestWords

@@ -1,4 +1,4 @@
--- Laws of a round: what a timer's running does, the numbers laid, and timer after timer; that the table stays fit, that a round ends and names each slot once at most; the theorem of rounds over true time,
+-- Laws of a round: what a timer's running does, the numbers laid, and timer after timer; that the table stays fit, that each timer changes the record, that a round ends and names each slot once at most; the theorem of rounds over true time,
 -- and that nobody oversleeps.
 pub mod Running
 pub mod Laying
@@ -8,6 +8,7 @@ pub mod Matched
 pub mod Outs
 pub mod Chance
 pub mod Handed
+pub mod Changed
 pub mod Bound
 pub mod Once
 pub mod Lives

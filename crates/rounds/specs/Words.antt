@@ -39,7 +39,8 @@ askedWord (On access) = 1 + access
 unfoldable pub requestWords : Reply → List ℕ
 requestWords p = askedWord (p .restart) ∷ askedWord (p .leave) ∷ askedWord (p .update) ∷ []
 
--- behind the slot and at the end stands a number that fills the struct; the offset, two of them, is 0, since a timer that ran out is no message
+-- behind the slot stands a number that fills the struct; the offset, two of them, is 0, since a timer that ran out is no message; at the end stands that the
+-- record changed (proofs/Changed)
 unfoldable pub ranWords : Ran → List ℕ
 ranWords x =
     (x .at ∷ 0 ∷ 0 ∷ 0 ∷ [])
@@ -48,7 +49,7 @@ ranWords x =
     ++ timerWords (x .reply .t3247)
     ++ timerWords (x .reply .t3512)
     ++ requestWords (x .reply)
-    ++ (0 ∷ [])
+    ++ (1 ∷ [])
 
 unfoldable pub roundWords : List Ran → List ℕ
 roundWords [] = []

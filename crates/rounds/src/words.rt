@@ -97,6 +97,7 @@ fn lay_head(at: usize, slot: u32, words: &mut [u32])
     lay_three(at + 1, 0, 0, 0, words);
 }
 
+// At the end 1: a timer that runs out changes the record (proofs/Changed).
 pub(crate) fn lay_ran(at: usize, slot: u32, p: Reply, words: &mut [u32])
     requires { ⌜ at + 27 < 18446744073709551616 ⌝ }
     ensures { λ r. ⌜ now (words .exit) ≡ laid at (ranWords (record { at = slot; reply = p })) (now (words .entry)) ⌝ }
@@ -111,5 +112,5 @@ pub(crate) fn lay_ran(at: usize, slot: u32, p: Reply, words: &mut [u32])
     let t3512 = p.t3512;
     lay_timer(at + 22, t3512, words);
     lay_requests(at + 24, p, words);
-    lay(at + 27, 0, words);
+    lay(at + 27, 1, words);
 }

@@ -1,6 +1,6 @@
 -- The head, then the identity: two pieces are one. Assumes nothing.
 use native.Mathlib.Omega.{arith}
-use Rattle.request.proofs.Pieces.{join}
+use Rattle.laws.proofs.Splice.{join}
 use borrow.Author.Needs.{needs}
 use Rattle.request.proofs.laying.begin.Statement.{statement}
 use Rattle.request.proofs.laying.begin.Tie as tie

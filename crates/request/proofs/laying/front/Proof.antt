@@ -3,7 +3,8 @@ use Prim.Native.Nat.{_≤_}
 use native.Mathlib.Omega.{arith}
 use lib.ListN.{length}
 use Rattle.request.specs.Steps.{frontOctets}
-use Rattle.request.proofs.Pieces.{join, opens, spread}
+use Rattle.laws.proofs.Splice.{join}
+use Rattle.request.proofs.Pieces.{opens, spread}
 use borrow.Author.Needs.{needs}
 use Rattle.request.proofs.laying.front.Statement.{statement}
 use Rattle.request.proofs.laying.front.Tie as tie

@@ -1,6 +1,7 @@
 -- Two pieces are one, and no contents are no piece. Assumes nothing.
 use native.Mathlib.Omega.{arith}
-use Rattle.request.proofs.Pieces.{join, none, lead-none, lead-some, lead-long}
+use Rattle.laws.proofs.Splice.{join, none}
+use Rattle.request.proofs.Pieces.{lead-none, lead-some, lead-long}
 use borrow.Author.Needs.{needs}
 use Rattle.request.proofs.laying.item.Statement.{statement}
 use Rattle.request.proofs.laying.item.Tie as tie

@@ -1,7 +1,8 @@
 -- What stands before 77, then 77, 2B and 70: two pieces are one. Assumes nothing.
 use native.Mathlib.Omega.{arith}
 use Rattle.request.specs.Writing.{sayingOf}
-use Rattle.request.proofs.Pieces.{join, in-order, parts-long, lengths}
+use Rattle.laws.proofs.Splice.{join}
+use Rattle.request.proofs.Pieces.{in-order, parts-long, lengths}
 use borrow.Author.Needs.{needs}
 use Rattle.request.proofs.laying.level.Statement.{statement}
 use Rattle.request.proofs.laying.level.Tie as tie

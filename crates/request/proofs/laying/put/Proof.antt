@@ -5,7 +5,7 @@ use native.Mathlib.Omega.{arith}
 use native.Mathlib.Numerals.{add-one}
 use lib.ListN.{length, length-set}
 use lib.Seq.{paste, paste-zero, paste-suc}
-use Rattle.request.proofs.Pieces.{copied}
+use Rattle.laws.proofs.Splice.{copied}
 use borrow.Author.Needs.{needs}
 use Rattle.request.proofs.laying.put.Statement.{statement}
 use Rattle.request.proofs.laying.put.Tie as tie

@@ -1,7 +1,8 @@
 -- The elements, one behind the other. Assumes nothing.
 use native.Mathlib.Omega.{arith}
 use Rattle.request.specs.Steps.{rearOctets}
-use Rattle.request.proofs.Pieces.{join, spread-rear}
+use Rattle.laws.proofs.Splice.{join}
+use Rattle.request.proofs.Pieces.{spread-rear}
 use borrow.Author.Needs.{needs}
 use Rattle.request.proofs.laying.rear.Statement.{statement}
 use Rattle.request.proofs.laying.rear.Tie as tie

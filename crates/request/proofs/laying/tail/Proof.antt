@@ -1,7 +1,8 @@
 -- The elements, one behind the other. Assumes nothing.
 use native.Mathlib.Omega.{arith}
 use Rattle.request.specs.Steps.{tailOctets}
-use Rattle.request.proofs.Pieces.{join, spread-tail}
+use Rattle.laws.proofs.Splice.{join}
+use Rattle.request.proofs.Pieces.{spread-tail}
 use borrow.Author.Needs.{needs}
 use Rattle.request.proofs.laying.tail.Statement.{statement}
 use Rattle.request.proofs.laying.tail.Tie as tie

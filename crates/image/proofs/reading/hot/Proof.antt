@@ -1,0 +1,21 @@
+-- The device and both accesses are read at their places. Assumes nothing.
+use borrow.Author.Needs.{needs}
+use Rattle.image.specs.Layout.{hotAt}
+use Rattle.image.proofs.reading.hot.Statement.{statement}
+use Rattle.image.proofs.reading.hot.Tie as tie
+
+device-requires : tie.Need-device-requires
+device-requires c κs = search needs
+
+access-requires : tie.Need-access-requires
+access-requires c κs = search needs
+
+access-requires-2 : tie.Need-access-requires-2
+access-requires-2 c κs = search needs
+
+returns : tie.Need-returns
+unfolding hotAt
+returns c = cc
+
+pub hot-spec : {M : Type 1} → statement M
+hot-spec = tie.close (tie.spec device-requires access-requires access-requires-2 returns)
