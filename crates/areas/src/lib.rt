@@ -1,10 +1,11 @@
 // A list of forty areas as numbers, the oldest first: twice the area, and one more where its mark is protected.
+#![tactic(auto)]
 ghost use Rattle.std.specs.Prelude.{◌≡◌, cond, [], ◌∷◌, ◌++◌, ◌≤◌, ◌<◌, ◌^◌, eqb, length, drop};
 ghost use Rattle.laws.specs.Upto.{seek_to};
 ghost use Rattle.areas.specs.Areas.{area_of, same_area, is_protected, areas_held, listed_in, marked, placed, placed_count, stayed, swept_list, list_after, count_after};
 
 // What an event does to a list: a reject puts an area there, T3247 out, all areas clear. An area is a network and a code.
-#[derive(Drop)]
+#[derive(Clone, Copy)]
 pub enum Task {
     Nothing,
     Put { net: u32, code: u32, protected: u8 },

@@ -1,4 +1,5 @@
 // Of the networks heard those that neither mark of an access bars, in the order heard, each once.
+#![tactic(auto)]
 ghost use Rattle.std.specs.Prelude.{◌≡◌, cond, ◌≤◌, eqb, length};
 ghost use Rattle.laws.specs.Upto.{over, all_to};
 ghost use Rattle.record.specs.Tests.{is_short};
@@ -11,7 +12,7 @@ use record::{Answer, Record, access_of, and, not, or};
 const MOST: usize = 64;
 
 // An answer, and how many networks were written.
-#[derive(Drop)]
+#[derive(Clone, Copy)]
 pub struct Chosen {
     pub answer: Answer,
     pub count: usize,

@@ -1,4 +1,5 @@
 // Deadlines on one 32-bit millisecond clock that wraps (R-13): a table of ten timers beside the record, what a reply makes of it, which timer is due, and for how long nobody has to ask.
+#![tactic(auto)]
 mod arming;
 mod asking;
 mod slots;
@@ -9,7 +10,7 @@ pub use asking::{ask, place};
 pub use waiting::wait;
 
 // One timer: held or not, the deadline at which its lap ends, and the milliseconds that rest after that lap.
-#[derive(Drop)]
+#[derive(Clone, Copy)]
 pub struct Slot {
     pub held: u8,
     pub ends: u32,
@@ -18,7 +19,7 @@ pub struct Slot {
 
 // Slots in the order of ties: T3510, T3511, T3502, T3346, of access 0 and of access 1 each, T3512, T3247. Any octets are a table; all zero, no timer has a deadline.
 #[repr(C)]
-#[derive(Drop)]
+#[derive(Clone, Copy)]
 pub struct Table {
     pub rests: [u64; 10],
     pub ends: [u32; 10],
@@ -26,14 +27,14 @@ pub struct Table {
 }
 
 // The slot furthest past its deadline so far, and one more than how far, in milliseconds.
-#[derive(Drop)]
+#[derive(Clone, Copy)]
 pub struct Best {
     pub at: usize,
     pub most: u64,
 }
 
 // The slot of the timer that is due.
-#[derive(Drop)]
+#[derive(Clone, Copy)]
 pub enum Named {
     Timer(usize),
     Nothing,

@@ -1,5 +1,6 @@
 // Effects of a taken event: numbers, timers, work on the arrays, requests. Where an access's numbers are handed on whole they are asked for
 // afresh: a local that is used twice would be copied.
+#![tactic(auto)]
 use areas::Task;
 use entries::Deed;
 use messages::Accept;
@@ -21,7 +22,7 @@ pub use rejects::reject_effect;
 pub use starts::{key_effect, start_effect, stop_over_0, update_effect};
 
 // What is kept of the octets: an accept's GUTI and equivalents, a card's SUCI.
-#[derive(Drop)]
+#[derive(Clone, Copy)]
 pub enum Keep {
     Nothing,
     Gift(Accept),
@@ -29,7 +30,7 @@ pub enum Keep {
 }
 
 // What is to be done on the entries of the event's access and of the other one, on the two area lists, and what is kept.
-#[derive(Drop)]
+#[derive(Clone, Copy)]
 pub struct Work {
     pub mine: Deed,
     pub theirs: Deed,
@@ -39,7 +40,7 @@ pub struct Work {
 }
 
 // A taken event: the device's numbers, the turns of access 0 and 1, T3247, T3512, the work, and whether a restart is asked. The turns are sorted out at each event, so that an access that it leaves alone is handed on as it is.
-#[derive(Drop)]
+#[derive(Clone, Copy)]
 pub struct Sides {
     pub dev: Device,
     pub t0: Turn,

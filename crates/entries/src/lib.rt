@@ -1,4 +1,5 @@
 // One access's sixteen network entries, as columns of numbers: searched, struck, lifted and cleared in place.
+#![tactic(auto)]
 ghost use Rattle.std.specs.Prelude.{◌≡◌, cond, [], ◌≤◌, replicate};
 ghost use Rattle.laws.specs.Bounds.{one_more};
 ghost use Rattle.laws.specs.Upto.{upto, seek_to};
@@ -13,7 +14,7 @@ pub use order::{last_when, leaver};
 
 // Dense from 0 to a count that the access keeps; behind it nothing is looked at. Ranks are the order of the last marking: how many were marked earlier.
 #[repr(C)]
-#[derive(Drop)]
+#[derive(Clone, Copy)]
 pub struct Entries {
     pub nets: [u32; 16],
     pub bans: [u8; 16],
@@ -25,7 +26,7 @@ pub struct Entries {
 
 // What stands in the entries about one network: its place, else the first free one, and its marks; a seventeenth's is that of the one that gives up its own. About an import's file: whether it is one, and the first free
 // place once its networks have theirs.
-#[derive(Drop)]
+#[derive(Clone, Copy)]
 pub struct Seen {
     pub at: usize,
     pub found: bool,
@@ -34,7 +35,7 @@ pub struct Seen {
 }
 
 // Where a network is written down.
-#[derive(Drop)]
+#[derive(Clone, Copy)]
 pub struct Seat {
     pub at: usize,
     pub found: bool,
@@ -44,7 +45,7 @@ pub struct Seat {
 
 // What an event does to an access's entries: a reject that bans the network, one that bars it from N1, an accept, a protected 27
 // over the other access, an import, T3247 out, a power cycle, a card change.
-#[derive(Drop)]
+#[derive(Clone, Copy)]
 pub enum Deed {
     Nothing,
     Ban(Seat),

@@ -2,7 +2,7 @@
 use messages::octet;
 
 // Not fit: no such form. What has the form may still be no network code or no access.
-#[derive(Drop)]
+#[derive(Clone, Copy)]
 pub(crate) struct Question {
     pub(crate) fit: bool,
     pub(crate) net: u32,

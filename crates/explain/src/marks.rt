@@ -3,7 +3,7 @@ use chronicle::{Account, Mark};
 use record::and;
 
 // The event that lifted it last and the counter before it; the last event since it was set that might have lifted it and did not, and the counter then. 0 is no event.
-#[derive(Drop)]
+#[derive(Clone, Copy)]
 pub(crate) struct Trace {
     pub(crate) lifted: usize,
     pub(crate) before: u8,

@@ -1,4 +1,5 @@
 // The record lent to firmware: one call takes an event and updates the record in place, and the calls that C makes.
+#![tactic(auto)]
 use deadlines::Table;
 use record::Record;
 
@@ -18,14 +19,14 @@ pub use storage::{tjernfaug_load, tjernfaug_save};
 
 // What is told of a timer: 0 left, 1 stopped, 2 started, and then for how many seconds.
 #[repr(C)]
-#[derive(Drop)]
+#[derive(Clone, Copy)]
 pub struct Timer {
     pub told: u32,
     pub seconds: u32,
 }
 
 #[repr(C)]
-#[derive(Drop)]
+#[derive(Clone, Copy)]
 pub struct Timers {
     pub t3510: Timer,
     pub t3511: Timer,
@@ -36,7 +37,7 @@ pub struct Timers {
 // A reply but for its answer, as numbers. The offset is of the octet at fault in a message, 0 where the answer is none of 13 to 18.
 // A request is 0 for none, else 1 plus the access that it is meant for. Changed is 1 if the record is another than before, else 0.
 #[repr(C)]
-#[derive(Drop)]
+#[derive(Clone, Copy)]
 pub struct Notice {
     pub offset: usize,
     pub c0: Timers,
@@ -50,14 +51,14 @@ pub struct Notice {
 }
 
 // The answer to a new record by its number, and the record after it.
-#[derive(Drop)]
+#[derive(Clone, Copy)]
 pub struct Opened {
     pub answer: u32,
     pub next: Record,
 }
 
 // An event's answer by its number, what is told, and the record after it.
-#[derive(Drop)]
+#[derive(Clone, Copy)]
 pub struct Taken {
     pub answer: u32,
     pub notice: Notice,
@@ -65,28 +66,28 @@ pub struct Taken {
 }
 
 // The answer to a request by its number, and how many octets were written: 0 with a refusal.
-#[derive(Drop)]
+#[derive(Clone, Copy)]
 pub struct Wrote {
     pub answer: u32,
     pub len: u64,
 }
 
 // The answer to a notice that arms a table, and the table after it.
-#[derive(Drop)]
+#[derive(Clone, Copy)]
 pub struct Armed {
     pub answer: u32,
     pub next: Table,
 }
 
 // The slot of the timer due, 10 for none, and the table after the ask.
-#[derive(Drop)]
+#[derive(Clone, Copy)]
 pub struct Sought {
     pub slot: u32,
     pub next: Table,
 }
 
 // How many timers ran out in a round, or 256 plus the refusal's number, and the record and the table after it.
-#[derive(Drop)]
+#[derive(Clone, Copy)]
 pub struct Passed {
     pub count: u32,
     pub next: Record,
@@ -94,7 +95,7 @@ pub struct Passed {
 }
 
 // The answer to octets that were to be loaded by its number, and the record, the table and the serial after it.
-#[derive(Drop)]
+#[derive(Clone, Copy)]
 pub struct Regained {
     pub answer: u32,
     pub next: Record,

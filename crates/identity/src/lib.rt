@@ -1,4 +1,5 @@
 // The identity that a request opens with: a GUTI or the SUCI, handed back as a part of what held it, or a GUTI mapped from a 4G-GUTI, by value.
+#![tactic(auto)]
 ghost use Rattle.std.specs.Prelude.{◌≡◌, ◌≤◌, length, eqb};
 ghost use Rattle.laws.specs.Upto.{seek_to};
 ghost use Rattle.identity.specs.Identity.{guti_net, equivalents_held, is_among};
@@ -14,7 +15,7 @@ pub use mapping::{is_mapped, map};
 // What is lent from S1 mode at the write of a request, each fact 0 for no or any other number for yes: was registered there, was told that interworking without N26
 // is not supported, holds an EPS security context, a valid 4G-GUTI, a native one; and the 4G-GUTI: network, MME group, MME code and M-TMSI.
 #[repr(C)]
-#[derive(Drop)]
+#[derive(Clone, Copy)]
 pub struct S1 {
     pub registered: u8,
     pub n26: u8,

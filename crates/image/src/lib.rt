@@ -1,4 +1,5 @@
 // The record and its deadlines as octets that outlive a power cut: a fixed layout with a version and a checksum, saved and loaded; and whether an event changed the record at all.
+#![tactic(auto)]
 use deadlines::Table;
 use record::Record;
 
@@ -14,7 +15,7 @@ pub use loading::{load, number};
 pub use saving::save;
 
 // What octets are found to be: an image that was loaded, one whose record is not valid, one of another version, or none that holds.
-#[derive(Drop)]
+#[derive(Clone, Copy)]
 pub enum Verdict {
     Loaded,
     Invalid,
@@ -23,7 +24,7 @@ pub enum Verdict {
 }
 
 // The verdict, and the record, the table and the serial loaded: those lent where it is refused.
-#[derive(Drop)]
+#[derive(Clone, Copy)]
 pub struct Found {
     pub verdict: Verdict,
     pub next: Record,

@@ -1,1 +1,2 @@
 // Definitions over arrays of numbers, and their laws: no code.
+#![tactic(auto)]

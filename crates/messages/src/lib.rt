@@ -1,4 +1,5 @@
 // Messages from the network: the reading of an accept or a reject, and the calls for C firmware.
+#![tactic(auto)]
 ghost use Rattle.std.specs.Prelude.{◌≡◌, cond, false, ◌≤◌, get_or};
 ghost use Rattle.octets.specs.Element.{Elements, elements_from, first_of};
 ghost use Rattle.timers.specs.Timer.{span2_of};
@@ -8,7 +9,7 @@ use octets::{Ending, Fault, Part, Wanted, wide, word};
 use timers::Span;
 
 // Offsets are in the message; what is absent is 0 there.
-#[derive(Drop)]
+#[derive(Clone, Copy)]
 pub struct Accept {
     pub result: u8,
     // a GUTI is given, and its ten octets lie at guti
@@ -26,14 +27,14 @@ pub struct Accept {
 }
 
 // T3346 is so many seconds long: 0 where it is absent, zero or deactivated.
-#[derive(Drop)]
+#[derive(Clone, Copy)]
 pub struct Reject {
     pub cause: u8,
     pub t3346length: u16,
 }
 
 // A refusal has its fault and the fault's offset.
-#[derive(Drop)]
+#[derive(Clone, Copy)]
 pub enum Reading {
     Accept(Accept),
     Reject(Reject),

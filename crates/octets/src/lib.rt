@@ -1,4 +1,5 @@
 // Optional elements of a message: the formats, one element at a place, the walker, and the first elements with given identifiers.
+#![tactic(auto)]
 ghost use Rattle.std.specs.Prelude.{◌≡◌, Bool, true, cond, ℕ, ◌<◌, ◌≤◌, length, get_or, drop};
 ghost use Rattle.octets.specs.Element.{Format, format_of, code_of, lead_by, contents_by, element_at, after_of, walked_at, Elements, elements_from, absent, wanted_of, gather_of};
 ghost use Rattle.octets.specs.Element.Elements.{over, element};
@@ -8,7 +9,7 @@ mod formats;
 use formats::FORMATS;
 
 // Why a message is malformed: cut short, its first or second octet, its type, an element past the end, an element that must be understood.
-#[derive(Drop)]
+#[derive(Clone, Copy)]
 pub enum Fault {
     Cut,
     First,
@@ -18,7 +19,7 @@ pub enum Fault {
     Strange,
 }
 
-#[derive(Drop)]
+#[derive(Clone, Copy)]
 pub enum Element {
     End,
     Bad(Fault),
@@ -31,7 +32,7 @@ pub enum Element {
 }
 
 // The contents of an element that was found, or none.
-#[derive(Drop)]
+#[derive(Clone, Copy)]
 pub struct Part {
     pub held: bool,
     pub start: usize,
@@ -39,21 +40,21 @@ pub struct Part {
 }
 
 // An identifier that is looked for, or none.
-#[derive(Drop)]
+#[derive(Clone, Copy)]
 pub enum Wanted {
     Nothing,
     Id(u8),
 }
 
 // How elements end: with the message, or with a fault and its offset.
-#[derive(Drop)]
+#[derive(Clone, Copy)]
 pub enum Ending {
     Broken(Fault, usize),
     Whole,
 }
 
 // How a message's elements end, and the first ones with four identifiers before that.
-#[derive(Drop)]
+#[derive(Clone, Copy)]
 pub struct Gathered {
     pub end: Ending,
     pub first: Part,
@@ -191,14 +192,14 @@ fn after(e: Element, at: usize) -> usize
 }
 
 // A walker keeps the message and its place in one value, and steps over elements.
-#[derive(Drop)]
+#[derive(Clone, Copy)]
 pub struct Walker<'a> {
     pub msg: &'a [u8],
     pub at: usize,
 }
 
 // What a walker saw at its place, and the place that it stepped to.
-#[derive(Drop)]
+#[derive(Clone, Copy)]
 pub struct Walked {
     pub here: Element,
     pub next: usize,

@@ -1,4 +1,5 @@
 // The registration record: what document 01 holds, as numbers and arrays of numbers, so that any octets lent are a record.
+#![tactic(auto)]
 use entries::Entries;
 use octets::Fault;
 
@@ -22,7 +23,7 @@ pub use sides::{access_of, hot_with, other_of};
 // update is; edition, 1 to 3, by which text a request's identity is chosen. Here and below the widest fields come first: no gaps
 // between them, so that a copy is a few wide moves.
 #[repr(C)]
-#[derive(Drop)]
+#[derive(Clone, Copy)]
 pub struct Device {
     pub home: u32,
     pub t3512length: u32,
@@ -53,7 +54,7 @@ pub const U3: u8 = 3;
 // 3 periodic); uplink and sessions are its octets of 40 and 50, the first one low: session i is bit i. guti and visited say
 // whether a GUTI and a last area are held.
 #[repr(C)]
-#[derive(Drop)]
+#[derive(Clone, Copy)]
 pub struct Access {
     pub net: u32,
     pub code: u32,
@@ -80,7 +81,7 @@ pub struct Access {
 
 // What every event reads and may change: small, and handed on by value.
 #[repr(C)]
-#[derive(Drop)]
+#[derive(Clone, Copy)]
 pub struct Hot {
     pub dev: Device,
     pub a0: Access,
@@ -89,7 +90,7 @@ pub struct Hot {
 
 // What a caller holds, by value or lent.
 #[repr(C)]
-#[derive(Drop)]
+#[derive(Clone, Copy)]
 pub struct Record {
     pub hot: Hot,
     pub e0: Entries,
@@ -106,7 +107,7 @@ pub struct Record {
 }
 
 // The reply numbers' cases, in their order.
-#[derive(Drop)]
+#[derive(Clone, Copy)]
 pub enum Answer {
     Taken,
     Range,
@@ -124,7 +125,7 @@ pub enum Answer {
     Waiting,
 }
 
-#[derive(Drop)]
+#[derive(Clone, Copy)]
 pub struct Made {
     pub answer: Answer,
     pub made: Record,

@@ -1,4 +1,5 @@
 // The registration request: its writing and its reading.
+#![tactic(auto)]
 use octets::{Fault, Part};
 use record::Answer;
 
@@ -11,7 +12,7 @@ pub use reading::{number, offset, read};
 pub use writing::{no_s1, write};
 
 // What a request says, each part as an offset and a length in its octets.
-#[derive(Drop)]
+#[derive(Clone, Copy)]
 pub struct Request {
     pub regtype: u8,
     pub ksi: u8,
@@ -27,7 +28,7 @@ pub struct Request {
 }
 
 // A refusal is a fault and its offset, a third level and its 71's offset, or a well-formed request that breaks the layout.
-#[derive(Drop)]
+#[derive(Clone, Copy)]
 pub enum Asking {
     Request(Request),
     Bad(Fault, usize),
@@ -36,7 +37,7 @@ pub enum Asking {
 }
 
 // An answer, and how many octets were written.
-#[derive(Drop)]
+#[derive(Clone, Copy)]
 pub struct Written {
     pub answer: Answer,
     pub len: usize,

@@ -12,7 +12,7 @@ use octets::wide;
 use record::{Access, Answer, Device, or};
 
 // How many octets there are of each piece behind the identity.
-#[derive(Drop)]
+#[derive(Clone, Copy)]
 struct Lengths {
     capability: usize,
     security: usize,

@@ -1,4 +1,5 @@
 // Writes requests of records of each shape into buffers of different lengths, and prints the buffers.
+#![tactic(auto)]
 use sent::{length, lent, long, sent};
 use shapes::{bits, facts, fresh, made, message, short, varied};
 

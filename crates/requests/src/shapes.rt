@@ -3,7 +3,7 @@ use identity::S1;
 use record::{Access, Hot, Record};
 
 // What a record holds: octets of the SUCI and the capabilities; of each access the same numbers.
-#[derive(Drop)]
+#[derive(Clone, Copy)]
 pub struct Shape {
     pub suci: u8,
     pub capability: u8,

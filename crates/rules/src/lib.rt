@@ -1,4 +1,5 @@
 // What an event is answered and what it plans: decided on the record's numbers, what stands about a network, and the message's reading.
+#![tactic(auto)]
 use effects::Work;
 use record::{Answer, Hot};
 use turns::{Clocks, Draws, Told};
@@ -18,7 +19,7 @@ pub use replies::refused_reply;
 pub use work::{has_work, work_plan};
 
 // A card's SUCI, a message's octets and the file of an import come beside the event.
-#[derive(Drop)]
+#[derive(Clone, Copy)]
 pub enum Event {
     Card {
         edition: u8,
@@ -57,13 +58,13 @@ pub enum Event {
 }
 
 // A request to the caller, and the access that it is meant for.
-#[derive(Drop)]
+#[derive(Clone, Copy)]
 pub enum Asked {
     No,
     On(u8),
 }
 
-#[derive(Drop)]
+#[derive(Clone, Copy)]
 pub struct Reply {
     pub answer: Answer,
     pub c0: Clocks,
@@ -76,7 +77,7 @@ pub struct Reply {
 }
 
 // The network whose entry is looked up before an event is decided, or the file whose networks are.
-#[derive(Drop)]
+#[derive(Clone, Copy)]
 pub enum Ask {
     Nothing,
     Network { access: u8, net: u32 },
@@ -84,14 +85,14 @@ pub enum Ask {
 }
 
 // The area that is looked up in the lists.
-#[derive(Drop)]
+#[derive(Clone, Copy)]
 pub enum Site {
     Nothing,
     Area { net: u32, code: u32 },
 }
 
 // What an event comes to: the reply, the numbers after it but for the area lists' counts, the work on the arrays, and the event's own access.
-#[derive(Drop)]
+#[derive(Clone, Copy)]
 pub struct Plan {
     pub reply: Reply,
     pub hot: Hot,

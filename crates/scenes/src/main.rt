@@ -1,5 +1,6 @@
 // Prints the whole reply and the whole record after each event of the log on standard input, as the second program does with
 // `--full`: docs/src/full.rs says what stands on a line.
+#![tactic(auto)]
 ghost use Rattle.std.specs.Prelude.{◌<◌};
 
 use libc::STDOUT_FILENO;
@@ -9,7 +10,7 @@ mod frames;
 mod show;
 
 // The record after an event, and how many octets of the log it took: 0 at the end, 1 where the log is bad.
-#[derive(Drop)]
+#[derive(Clone, Copy)]
 struct Turn {
     next: Record,
     used: u64,

@@ -1,4 +1,5 @@
 // What an event makes of one access's numbers and timers: the rows of document 01, each by its own words.
+#![tactic(auto)]
 use record::Access;
 
 mod flags;
@@ -15,14 +16,14 @@ pub use turns::{
 };
 
 // What an event does to a timer: nothing, stop it, or run it for so many seconds.
-#[derive(Drop)]
+#[derive(Clone, Copy)]
 pub enum Order {
     Leave,
     Stop,
     Run(u32),
 }
 
-#[derive(Drop)]
+#[derive(Clone, Copy)]
 pub struct Orders {
     pub t3510: Order,
     pub t3511: Order,
@@ -31,14 +32,14 @@ pub struct Orders {
 }
 
 // What the caller is told of a timer.
-#[derive(Drop)]
+#[derive(Clone, Copy)]
 pub enum Told {
     Left,
     Stopped,
     Started(u32),
 }
 
-#[derive(Drop)]
+#[derive(Clone, Copy)]
 pub struct Clocks {
     pub t3510: Told,
     pub t3511: Told,
@@ -47,14 +48,14 @@ pub struct Clocks {
 }
 
 // An access's numbers after an event, and what becomes of its timers.
-#[derive(Drop)]
+#[derive(Clone, Copy)]
 pub struct Turn {
     pub access: Access,
     pub orders: Orders,
 }
 
 // The rows of the table of rejects, in their order.
-#[derive(Drop)]
+#[derive(Clone, Copy)]
 pub enum Row {
     CardBelow,
     CardLimit,
@@ -69,7 +70,7 @@ pub enum Row {
 }
 
 // What a message comes with: a draw for T3247, and one for T3346 where the message's own time is not protected.
-#[derive(Drop)]
+#[derive(Clone, Copy)]
 pub struct Draws {
     pub t3247: u16,
     pub t3346: u16,

@@ -1,4 +1,5 @@
 // The networks that access 0 forbids, written as the card's file has them: three octets each, in entry order, then FF to the end.
+#![tactic(auto)]
 ghost use Rattle.std.specs.Prelude.{◌≡◌, [], ◌++◌, ◌+◌, ◌*◌, ◌-◌, ◌/◌, ◌%◌, ◌<◌, ◌≤◌, length, set, take, replicate};
 ghost use Rattle.laws.specs.Upto.{over};
 ghost use Rattle.networks.specs.Networks.{octets_of};
@@ -7,7 +8,7 @@ ghost use Rattle.usim.specs.Usim as usim;
 use record::{Answer, Record};
 
 // An answer, and how many networks were written.
-#[derive(Drop)]
+#[derive(Clone, Copy)]
 pub struct Listed {
     pub answer: Answer,
     pub count: usize,

@@ -1,0 +1,23 @@
+-- `admit` meets its contract: each column by its callee's. Assumes nothing.
+use mathlib.Core.Path.{refl}
+use Rattle.entries.specs.Places.{place_in, has_entry}
+use Rattle.entries.specs.Entries.{imported}
+use Rattle.entries.proofs.Laws.{fresh, otherwise}
+use Rattle.entries.proofs.import.admit.Goals as goal
+
+pub returns : goal.returns
+unfolding has_entry place_in imported
+returns c =
+    let p = rw (
+      c.grow.ensures,
+      c.put_when-4.ensures,
+      c.put_when-3.ensures,
+      c.put.ensures,
+      c.put_when-2.ensures,
+      c.put_when.ensures,
+      c.put_net.ensures,
+      c.find-at.ensures,
+      c.size-n.ensures.value,
+    )
+    (refl, simp (fresh, otherwise)) in
+    record { value = p.0; ranks_after = p.1 }

@@ -1,0 +1,14 @@
+-- A record that is not valid is not loaded. Assumes nothing.
+use mathlib.Core.Path.{sym, ap, ◌∙◌}
+use borrow.Author.Tests.{not-true, not-false}
+use Rattle.ranges.specs.Valid.{valid_of}
+use Rattle.image.specs.Image.{opened_of}
+use Rattle.image.proofs.loading.opened.Goals as goal
+
+pub returns-then-not-valid : goal.returns-then-not-valid
+unfolding opened_of
+returns-then-not-valid c = rw (sym (c.valid.ensures ∙ ap valid_of c.record_at-next.ensures) ∙ not-true _ c.if-not-valid.taken) c.kept.ensures
+
+pub returns : goal.returns
+unfolding opened_of
+returns c = rw (sym (c.valid.ensures ∙ ap valid_of c.record_at-next.ensures) ∙ not-false _ c.if-not-valid.left) (c.kept-2.ensures ∙ rw (c.word.ensures, c.table_at-table.ensures, c.record_at-next.ensures))

@@ -1,0 +1,13 @@
+-- The elements passed all hold; the first that does not decides it. Assumes nothing.
+use mathlib.Core.Path.{◌≡◌}
+use mathlib.Core.Bool.{true}
+use Prim.Native.Nat.{◌≤◌, ◌-◌}
+use Rattle.ranges.specs.Valid.{is_below}
+use Rattle.laws.specs.Upto.{all_to}
+use Rattle.ranges.proofs.columns.below.Given as goal
+
+abbrev pub invariant-loop-i : goal.invariant-loop-i
+invariant-loop-i l = (l.i ≤ l.count) × (all_to (is_below l.count) l.i l.xs ≡ true)
+
+abbrev pub decreases-loop-i : goal.decreases-loop-i
+decreases-loop-i l = l.count - l.i

@@ -1,0 +1,7 @@
+-- What is gathered says how the elements end and whether the layout is kept. Assumes nothing.
+use Rattle.request.proofs.Gathers.{around-so}
+use Rattle.request.proofs.reading.around.Goals as goal
+
+-- LOOK
+pub returns : goal.returns
+returns c = around-so _ _ _ _ _ _ c.identity_len-n.ensures.0 c.fits2.ensures c.enclosed.ensures

@@ -1,0 +1,11 @@
+-- The test of the answer picks the plan. Assumes nothing.
+use Rattle.rules.specs.Plan.{decided_by}
+use Rattle.rules.proofs.numbers.key_plan.Goals as goal
+
+pub returns-then-taken : goal.returns-then-taken
+unfolding decided_by
+returns-then-taken c = rw (← c.key_answer-n.ensures, ← c.taken.ensures, c.if-taken.true) c.key_taken.ensures
+
+pub returns : goal.returns
+unfolding decided_by
+returns c = rw (← c.key_answer-n.ensures, ← c.taken.ensures, c.if-taken.false) c.refused_plan.ensures

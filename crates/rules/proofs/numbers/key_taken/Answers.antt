@@ -1,0 +1,16 @@
+-- Each part is what its function ensures; together they are the plan of its turn. Assumes nothing.
+use mathlib.Core.Bool.{false}
+use Rattle.turns.specs.declared.Order.TheVariants.{Leave}
+use Rattle.turns.specs.Timers.{flag_after, told_of}
+use Rattle.turns.specs.Turns.{key_set}
+use Rattle.record.specs.Sides.{access_of}
+use Rattle.effects.specs.Effects.{key_effect, ticked}
+use Rattle.rules.specs.Sides.{turn_plan}
+use Rattle.rules.proofs.Turned.{turn-plan}
+use Rattle.rules.proofs.numbers.key_taken.Goals as goal
+
+pub returns : goal.returns
+unfolding key_effect turn_plan flag_after told_of ticked
+returns c =     let start = c.args in
+    rw (c.turn_reply-reply.ensures, c.hot_with-hot.ensures, c.idle-work.ensures, c.clocked.ensures, c.key_set-t.ensures, c.access_of.ensures)
+    (turn-plan start.h start.w start.h.dev (key_set start.set (access_of start.h start.w)) Leave false)

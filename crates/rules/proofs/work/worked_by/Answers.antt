@@ -1,0 +1,31 @@
+-- The test of the answer picks the plan; a taken event goes by access, which makes the same plan, an import with its own share behind. Assumes nothing.
+use mathlib.Core.Path.{sym, ◌∙◌}
+use mathlib.Core.Bool.{false≢true}
+use Rattle.rules.specs.Plan.{decided_by}
+use Rattle.rules.proofs.Sorted.{sorted, with-import, import-fits}
+use Rattle.rules.proofs.work.worked_by.Goals as goal
+
+pub work_effect-x-requires : goal.work_effect-x-requires
+work_effect-x-requires c = record { fits = c.requires.fits (sym c.taken.ensures ∙ c.if-taken.true); read = c.requires.read }
+
+pub entries_if-requires : goal.entries_if-requires
+entries_if-requires c i = import-fits _ _ _ (sym c.imports-import.ensures ∙ i) (c.requires.fits (sym c.taken.ensures ∙ c.if-taken.true))
+
+pub returns-then-taken : goal.returns-then-taken
+unfolding decided_by
+returns-then-taken c = record { value = λ i. rw (
+    ← c.taken.ensures,
+    c.if-taken.true,
+    c.taken_plan.ensures,
+    c.import_effect-y.ensures,
+    c.entries_if.ensures,
+    c.work_effect-x.ensures i,
+    c.imports-import.ensures,
+    c.access_in-w.ensures,
+    with-import _ _ _ c.args.e,
+    sorted,
+  ); value_2 = (λ f. absurd (false≢true (sym f ∙ sym c.taken.ensures ∙ c.if-taken.true)), ) }
+
+pub returns : goal.returns
+unfolding decided_by
+returns c = record { value = λ i. rw (← c.taken.ensures, c.if-taken.false, ← c.access_in-w.ensures) c.refused_plan.ensures; value_2 = λ f. rw (← c.access_in-w.ensures) c.refused_plan.ensures }
