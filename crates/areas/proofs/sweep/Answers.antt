@@ -10,13 +10,14 @@ use Rattle.areas.proofs.sweep.Goals as goal
 pub loop-i-init : goal.loop-i-init
 loop-i-init c = (search rules, search rules, kept-none is_protected _)
 
+-- OLD loop-i-preserved c =     let l = c.loop-i in
+-- OLD     let s = c.is_protected.ensures in
+-- OLD     ⊎_elim
+-- OLD     (λ w. (search rules, omega (arith, w.2), kept_more is_protected _ l.i l.j l.list l.invariant.2 l.invariant.1 refl _ _ (sym s ∙ w.0.taken) w.2 w.1))
+-- OLD     (λ w. (search rules, omega (arith, w.2), kept-skip is_protected _ l.i l.j l.list l.invariant.2 l.invariant.1 _ _ (sym s ∙ w.0.left) w.2 w.1))
+-- OLD     c.if-is_protected.branch
 pub loop-i-preserved : goal.loop-i-preserved
-loop-i-preserved c =     let l = c.loop-i in
-    let s = c.is_protected.ensures in
-    ⊎_elim
-    (λ w. (search rules, omega (arith, w.2), kept_more is_protected _ l.i l.j l.list l.invariant.2 l.invariant.1 refl _ _ (sym s ∙ w.0.taken) w.2 w.1))
-    (λ w. (search rules, omega (arith, w.2), kept-skip is_protected _ l.i l.j l.list l.invariant.2 l.invariant.1 _ _ (sym s ∙ w.0.left) w.2 w.1))
-    c.if-is_protected.branch
+loop-i-preserved c = ?
 
 pub returns : goal.returns
 unfolding swept_list stayed

@@ -1,7 +1,7 @@
 use Prim.Native.Nat.{◌-◌}
 use mathlib.Core.Path.{refl, sym, ◌∙◌, ap}
 use native.Mathlib.Omega.{arith}
-use borrow.Author.Tests.{not-false}
+use borrow.Author.Rules.{rules}
 use Rattle.octets.specs.Element.{gather_of}
 use Rattle.octets.proofs.Elements.{single}
 use Rattle.octets.proofs.skipped.Goals as goal
@@ -13,10 +13,10 @@ pub loop-at-init : goal.loop-at-init
 loop-at-init c = (omega arith, λ request f h. refl)
 
 pub returns-then-msg-at-lt128 : goal.returns-then-msg-at-lt128
-returns-then-msg-at-lt128 c =     (c.loop-at.invariant.0, λ request. c.loop-at.invariant.1 request (gather_of _ _ _ _) (c.plain.ensures (not-false _ c.if-not-plain.false)))
+returns-then-msg-at-lt128 c = (c.loop-at.invariant.0, λ request. c.loop-at.invariant.1 request (gather_of c.args.x c.args.y c.args.z c.args.u) (c.plain.ensures (search rules)))
 
 pub loop-at-preserved : goal.loop-at-preserved
 loop-at-preserved c = (omega arith, λ request f h. sym (h _ _ _ _ c.if-msg-at-lt128.false) ∙ ap f (sym (single request _ _ c.loop-at-test.true c.if-msg-at-lt128.false)) ∙ c.loop-at.invariant.1 request f h)
 
 pub returns : goal.returns
-returns c = (c.loop-at.invariant.0, λ request. c.loop-at.invariant.1 request (gather_of _ _ _ _) (c.plain.ensures (not-false _ c.if-not-plain.false)))
+returns c = (c.loop-at.invariant.0, λ request. c.loop-at.invariant.1 request (gather_of c.args.x c.args.y c.args.z c.args.u) (c.plain.ensures (search rules)))
