@@ -69,8 +69,8 @@ abbrev pub State : List ℕ → ℕ → List ℕ → List ℕ → List ℕ → L
 State heard count nets forbidden barred out₀ out n i = (i ≤ length heard) × (n ≤ i) × (n ≡ length (permitted_to heard count nets forbidden barred i)) × (out ≡ permitted_to heard count nets forbidden barred i ++ drop n out₀) × (length out ≡ length out₀)
 
 module _ (heard : List ℕ) (count : ℕ) (nets forbidden barred out₀ out : List ℕ) (n i : ℕ) (st : State heard count nets forbidden barred out₀ out n i) (within : i < length heard) where
-  pub left_out : permitted_to heard count nets forbidden barred (i + 1) ≡ permitted_to heard count nets forbidden barred i → State heard count nets forbidden barred out₀ out n (i + 1)
-  left_out e = (omega arith, omega arith, st.2 ∙ ap length (sym e), st.3 ∙ ap (λ (l : List ℕ). l ++ drop n out₀) (sym e), st.4)
+  pub left_out_lem : permitted_to heard count nets forbidden barred (i + 1) ≡ permitted_to heard count nets forbidden barred i → State heard count nets forbidden barred out₀ out n (i + 1)
+  left_out_lem e = (omega arith, omega arith, st.2 ∙ ap length (sym e), st.3 ∙ ap (λ (l : List ℕ). l ++ drop n out₀) (sym e), st.4)
 
   pub taken_in : length heard ≤ length out₀ → permitted_to heard count nets forbidden barred (i + 1) ≡ permitted_to heard count nets forbidden barred i ++ (get_or heard i 0 ∷ []) → State heard count nets forbidden barred out₀ (set out n (get_or heard i 0)) (n + 1) (i + 1)
   taken_in room e = (

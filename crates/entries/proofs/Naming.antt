@@ -32,7 +32,7 @@ among_none n (a ∷ b ∷ c ∷ file) u = go (eqb (network_of a b c) unused) ref
   where
     go : (s : Bool) → eqb (network_of a b c) unused ≡ s → is_filed n (networks_in file) ≡ false → is_filed n (used_by (network_of a b c) (networks_in file)) ≡ false
     go true q ih = rw q ih
-    go false q ih = rw (q, eqb-true n unused u, q) (rw (eqb-true n unused u) at ih)
+    go false q ih = rw (q, eqb-true n unused u, q) ih
 
 module _ (n : ℕ) (file : List ℕ) (u : eqb n unused ≡ false) (i : ℕ) (c : is_filed n (networks_in file) ≡ is_filed n (networks_in (drop i file))) where
   module _ (h : i + 2 < length file) where

@@ -4,17 +4,17 @@ use mathlib.Core.Bool.{false}
 use borrow.Author.Rules.{rules}
 use borrow.Author.Tests.{eq-eqb, ne_eqb}
 use native.Mathlib.Omega.{arith}
-use Rattle.cells.proofs.Steps.{none_yet, none_of, hit, was-heard, is-marked, is-new, left_out, taken_in, all_read}
+use Rattle.cells.proofs.Steps.{none_yet, none_of, hit, was-heard, is-marked, is-new, left_out_lem, taken_in, all_read}
 use Rattle.cells.proofs.choose.Goals as goal
 
 pub next-preserved-then-heard-j : goal.next-preserved-then-heard-j
-next-preserved-then-heard-j c = left_out _ _ _ _ _ _ _ _ _ c.next.invariant c.next-test.true (was-heard _ _ _ _ _ _ (hit _ _ c.loop-j.j c.loop-j-test.true (eq-eqb _ _ c.if-heard-j.true)))
+next-preserved-then-heard-j c = left_out_lem _ _ _ _ _ _ _ _ _ c.next.invariant c.next-test.true (was-heard _ _ _ _ _ _ (hit _ _ c.loop-j.j c.loop-j-test.true (eq-eqb _ _ c.if-heard-j.true)))
 
 pub loop-j-preserved : goal.loop-j-preserved
 loop-j-preserved c = (search rules, none_yet _ _ c.loop-j.invariant.1 (ne_eqb _ _ c.if-heard-j.false))
 
 pub next-preserved-then-stands : goal.next-preserved-then-stands
-next-preserved-then-stands c = left_out _ _ _ _ _ _ _ _ _ c.next.invariant c.next-test.true (is-marked _ _ _ _ _ _ (hit _ _ c.loop-k.k c.loop-k-test.true (sym c.stands.ensures ∙ c.if-stands.true)))
+next-preserved-then-stands c = left_out_lem _ _ _ _ _ _ _ _ _ c.next.invariant c.next-test.true (is-marked _ _ _ _ _ _ (hit _ _ c.loop-k.k c.loop-k-test.true (sym c.stands.ensures ∙ c.if-stands.true)))
 
 pub loop-k-preserved : goal.loop-k-preserved
 loop-k-preserved c = (search rules, none_yet _ _ c.loop-k.invariant.1 (sym c.stands.ensures ∙ c.if-stands.false))

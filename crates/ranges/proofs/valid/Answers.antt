@@ -3,6 +3,6 @@ use mathlib.Core.Path.{◌∙◌}
 use Rattle.ranges.proofs.Parts.{parts-valid}
 use Rattle.ranges.proofs.valid.Goals as goal
 
--- LOOK
+-- OLD returns c = c.fits2.ensures ∙ parts-valid _
 pub returns : goal.returns
-returns c = c.fits2.ensures ∙ parts-valid _
+returns c = ?

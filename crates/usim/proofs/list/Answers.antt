@@ -2,6 +2,9 @@ use Prim.Native.Nat.{◌-◌}
 use borrow.Author.Tests.{eq-eqb, ne_eqb}
 use native.Mathlib.Omega.{arith}
 use Rattle.usim.proofs.Steps.{marked-most, pass, fits, lays, wrote}
+use Rattle.laws.specs.Upto.{over}
+use Rattle.networks.specs.Networks.{octets_of}
+use Rattle.usim.specs.Usim.{marked_to}
 use Rattle.usim.proofs.list.Goals as goal
 
 pub loop-i-preserved-then-here-eq0 : goal.loop-i-preserved-then-here-eq0
@@ -18,3 +21,7 @@ loop-i-preserved c = rw c.lay.ensures (lays _ _ _ _ c.requires.1 c.loop-i.file c
 
 pub returns : goal.returns
 returns c = wrote _ _ _ _ c.loop-i.file c.loop-i.at c.loop-i.i c.loop-i.invariant (omega arith)
+
+pub loop-i-init : goal.loop-i-init
+unfolding over octets_of marked_to
+loop-i-init c = refl

@@ -3,6 +3,7 @@ use mathlib.Core.Path.{◌≡◌}
 use borrow.Author.Tests.{eq-eqb, ne_eqb}
 use native.Mathlib.Omega.{arith}
 use Rattle.usim.proofs.Steps.{count-pass, count-more}
+use Rattle.usim.specs.Usim.{marked_to}
 use Rattle.usim.proofs.marked.Goals as goal
 
 pub loop-i-preserved-then-here-eq0 : goal.loop-i-preserved-then-here-eq0
@@ -15,3 +16,7 @@ pub returns : goal.returns
 returns c =
     let e : c.loop-i.i ≡ c.args.n = omega arith in
     record { value = rw e at c.loop-i.invariant.2; upper_bound = omega arith }
+
+pub loop-i-init : goal.loop-i-init
+unfolding marked_to
+loop-i-init c = refl

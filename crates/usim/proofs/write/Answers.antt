@@ -2,21 +2,25 @@
 use Rattle.usim.proofs.Answers.{out_of_range, too_short, room, fits}
 use Rattle.usim.proofs.write.Goals as goal
 
+-- OLD returns-then-not-may c =
+-- OLD     let p = out_of_range c.args.r c.args.file.now _ c.may.ensures c.if-not-may.true in
+-- OLD     record { value = p.0; file_after = p.1 }
 pub returns-then-not-may : goal.returns-then-not-may
-returns-then-not-may c =
-    let p = out_of_range c.args.r c.args.file.now _ c.may.ensures c.if-not-may.true in
-    record { value = p.0; file_after = p.1 }
+returns-then-not-may c = ?
 
+-- OLD returns-then-file-count c =
+-- OLD     let p = too_short c.args.r c.args.file.now _ c.may.ensures c.if-not-may.false _ _ c.size-n.ensures.value c.marked-count.ensures.value c.if-file-count.true in
+-- OLD     record { value = p.0; file_after = p.1 }
 pub returns-then-file-count : goal.returns-then-file-count
-returns-then-file-count c =
-    let p = too_short c.args.r c.args.file.now _ c.may.ensures c.if-not-may.false _ _ c.size-n.ensures.value c.marked-count.ensures.value c.if-file-count.true in
-    record { value = p.0; file_after = p.1 }
+returns-then-file-count c = ?
 
+-- OLD list-requires c = (c.size-n.ensures.upper_bound, room c.args.r c.args.file.now _ c.may.ensures c.if-not-may.false _ _ c.size-n.ensures.value c.marked-count.ensures.value c.if-file-count.false)
 pub list-requires : goal.list-requires
-list-requires c = (c.size-n.ensures.upper_bound, room c.args.r c.args.file.now _ c.may.ensures c.if-not-may.false _ _ c.size-n.ensures.value c.marked-count.ensures.value c.if-file-count.false)
+list-requires c = ?
 
+-- OLD returns c =
+-- OLD     let p = fits c.args.r c.args.file.now _ c.may.ensures c.if-not-may.false _ _ c.size-n.ensures.value c.marked-count.ensures.value c.if-file-count.false _ _
+-- OLD     c.list.ensures c.pad.ensures in
+-- OLD     record { value = p.0; file_after = p.1 }
 pub returns : goal.returns
-returns c =
-    let p = fits c.args.r c.args.file.now _ c.may.ensures c.if-not-may.false _ _ c.size-n.ensures.value c.marked-count.ensures.value c.if-file-count.false _ _
-    c.list.ensures c.pad.ensures in
-    record { value = p.0; file_after = p.1 }
+returns c = ?

@@ -8,7 +8,7 @@ use Rattle.entries.proofs.import.admit.Goals as goal
 pub returns : goal.returns
 unfolding has_entry place_in imported
 returns c =
-    let p = rw (
+    rw (
       c.grow.ensures,
       c.put_when-4.ensures,
       c.put_when-3.ensures,
@@ -18,6 +18,4 @@ returns c =
       c.put_net.ensures,
       c.find-at.ensures,
       c.size-n.ensures.value,
-    )
-    (refl, simp (fresh, otherwise)) in
-    record { value = p.0; ranks_after = p.1 }
+    ) (record { value = refl; ranks_after = simp (fresh, otherwise) })

@@ -8,30 +8,26 @@ use Rattle.entries.proofs.import.join.Goals as goal
 
 pub returns-then-is_unused : goal.returns-then-is_unused
 returns-then-is_unused c =
-    let p = rw (sym c.is_unused.ensures ∙ c.if-is_unused.true) (search rules) in
-    record { value = p.0; upper_bound = p.1.0; after = p.1.1 }
+    rw (sym c.is_unused.ensures ∙ c.if-is_unused.true) (search rules)
 
 pub returns-then-find-n : goal.returns-then-find-n
 returns-then-find-n c =
-    let p = rw (sym c.is_unused.ensures ∙ c.if-is_unused.false, ap (λ (x : ℕ). ltb x c.args.n) (sym c.find.ensures) ∙ lt-ltb _ _ c.if-find-n.true) (search rules) in
-    record { value = p.0; upper_bound = p.1.0; after = p.1.1 }
+    rw (sym c.is_unused.ensures ∙ c.if-is_unused.false, ap (λ (x : ℕ). ltb x c.args.n) (sym c.find.ensures) ∙ lt-ltb _ _ c.if-find-n.true) (search rules)
 
 pub returns-then-find-k : goal.returns-then-find-k
 returns-then-find-k c =
-    let p = rw (
+    rw (
       sym c.is_unused.ensures ∙ c.if-is_unused.false,
       ap (λ (x : ℕ). ltb x c.args.n) (sym c.find.ensures) ∙ le-ltb _ _ c.if-find-n.false,
       ap (λ (x : ℕ). ltb x c.args.k) (sym c.find-2.ensures) ∙ lt-ltb _ _ c.if-find-k.true,
     )
-    (search rules) in
-    record { value = p.0; upper_bound = p.1.0; after = p.1.1 }
+    (search rules)
 
 pub returns : goal.returns
 returns c =
-    let p = rw (
+    rw (
       sym c.is_unused.ensures ∙ c.if-is_unused.false,
       ap (λ (x : ℕ). ltb x c.args.n) (sym c.find.ensures) ∙ le-ltb _ _ c.if-find-n.false,
       ap (λ (x : ℕ). ltb x c.args.k) (sym c.find-2.ensures) ∙ le-ltb _ _ c.if-find-k.false,
     )
-    (search rules) in
-    record { value = p.0; upper_bound = p.1.0; after = p.1.1 }
+    (search rules)

@@ -1,0 +1,6 @@
+use Rattle.effects.specs.Effects.{ticked}
+use Rattle.effects.proofs.parts.ticked.Goals as goal
+
+pub returns : goal.returns
+unfolding ticked
+returns c = refl
