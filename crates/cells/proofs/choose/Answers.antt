@@ -5,6 +5,8 @@ use borrow.Author.Rules.{rules}
 use borrow.Author.Tests.{eq-eqb, ne_eqb}
 use native.Mathlib.Omega.{arith}
 use Rattle.cells.proofs.Steps.{none_yet, none_of, hit, was-heard, is-marked, is-new, left_out_lem, taken_in, all_read}
+use Rattle.cells.specs.Cells.{some_of}
+use Rattle.cells.specs.Cells.{permitted_to}
 use Rattle.cells.proofs.choose.Goals as goal
 
 pub next-preserved-then-heard-j : goal.next-preserved-then-heard-j
@@ -32,3 +34,15 @@ pub returns : goal.returns
 returns c =
     let p = all_read _ _ _ _ _ _ _ _ _ c.next.invariant c.next-test.false in
     record { value = p.0; out_after = p.1 }
+
+pub next-init : goal.next-init
+unfolding permitted_to
+next-init c = search rules
+
+pub loop-j-init : goal.loop-j-init
+unfolding some_of
+loop-j-init c = search rules
+
+pub loop-k-init : goal.loop-k-init
+unfolding some_of
+loop-k-init c = search rules

@@ -6,37 +6,29 @@ use Rattle.ranges.proofs.Bounds.{lists, joined, bounded}
 use Rattle.ranges.proofs.Parts.{unfit-first, unfit, fit}
 use Rattle.ranges.proofs.fits.Goals as goal
 
--- OLD unfolding parts_record
--- OLD returns-then-not-device_numbers c = unfit-first _ (sym c.device_numbers.ensures ∙ not-true _ c.if-not-device_numbers.taken)
 pub returns-then-not-device_numbers : goal.returns-then-not-device_numbers
-returns-then-not-device_numbers c = ?
+unfolding parts_record
+returns-then-not-device_numbers c = unfit-first _ (sym c.device_numbers.ensures ∙ c.if-not-device_numbers.true)
 
--- OLD listed-requires c = lists _ (sym c.device_numbers.ensures ∙ not-false _ c.if-not-device_numbers.left)
 pub listed-requires : goal.listed-requires
-listed-requires c = ?
+listed-requires c = lists _ (sym c.device_numbers.ensures ∙ c.if-not-device_numbers.false)
 
--- OLD unfolding parts_record
--- OLD returns-then-not-and c = unfit _ (sym c.device_numbers.ensures ∙ not-false _ c.if-not-device_numbers.left) (sym (joined c.and-2.ensures c.and.ensures c.access_ranges-x.ensures c.access_ranges-y.ensures c.listed.ensures) ∙ not-true _ c.if-not-and.taken)
 pub returns-then-not-and : goal.returns-then-not-and
-returns-then-not-and c = ?
+unfolding parts_record
+returns-then-not-and c = unfit _ (sym c.device_numbers.ensures ∙ c.if-not-device_numbers.false) (sym (joined c.and-2.ensures c.and.ensures c.access_ranges-x.ensures c.access_ranges-y.ensures c.listed.ensures) ∙ c.if-not-and.true)
 
--- OLD codes-z-requires c = bounded _ _ _ _ _ _ (sym c.device_numbers.ensures ∙ not-false _ c.if-not-device_numbers.left) (sym (joined c.and-2.ensures c.and.ensures c.access_ranges-x.ensures c.access_ranges-y.ensures c.listed.ensures) ∙ not-false _ c.if-not-and.left)
 pub codes-z-requires : goal.codes-z-requires
-codes-z-requires c = ?
+codes-z-requires c = bounded _ _ _ _ _ _ (sym c.device_numbers.ensures ∙ c.if-not-device_numbers.false) (sym (joined c.and-2.ensures c.and.ensures c.access_ranges-x.ensures c.access_ranges-y.ensures c.listed.ensures) ∙ c.if-not-and.false)
 
--- OLD singles-w-requires c = bounded _ _ _ _ _ _ (sym c.device_numbers.ensures ∙ not-false _ c.if-not-device_numbers.left) (sym (joined c.and-2.ensures c.and.ensures c.access_ranges-x.ensures c.access_ranges-y.ensures c.listed.ensures) ∙ not-false _ c.if-not-and.left)
 pub singles-w-requires : goal.singles-w-requires
-singles-w-requires c = ?
+singles-w-requires c = bounded _ _ _ _ _ _ (sym c.device_numbers.ensures ∙ c.if-not-device_numbers.false) (sym (joined c.and-2.ensures c.and.ensures c.access_ranges-x.ensures c.access_ranges-y.ensures c.listed.ensures) ∙ c.if-not-and.false)
 
--- OLD orders-requires c = bounded _ _ _ _ _ _ (sym c.device_numbers.ensures ∙ not-false _ c.if-not-device_numbers.left) (sym (joined c.and-2.ensures c.and.ensures c.access_ranges-x.ensures c.access_ranges-y.ensures c.listed.ensures) ∙ not-false _ c.if-not-and.left)
 pub orders-requires : goal.orders-requires
-orders-requires c = ?
+orders-requires c = bounded _ _ _ _ _ _ (sym c.device_numbers.ensures ∙ c.if-not-device_numbers.false) (sym (joined c.and-2.ensures c.and.ensures c.access_ranges-x.ensures c.access_ranges-y.ensures c.listed.ensures) ∙ c.if-not-and.false)
 
--- OLD counted-requires c = bounded _ _ _ _ _ _ (sym c.device_numbers.ensures ∙ not-false _ c.if-not-device_numbers.left) (sym (joined c.and-2.ensures c.and.ensures c.access_ranges-x.ensures c.access_ranges-y.ensures c.listed.ensures) ∙ not-false _ c.if-not-and.left)
 pub counted-requires : goal.counted-requires
-counted-requires c = ?
+counted-requires c = bounded _ _ _ _ _ _ (sym c.device_numbers.ensures ∙ c.if-not-device_numbers.false) (sym (joined c.and-2.ensures c.and.ensures c.access_ranges-x.ensures c.access_ranges-y.ensures c.listed.ensures) ∙ c.if-not-and.false)
 
--- OLD unfolding parts_record
--- OLD returns c = fit _ (sym c.device_numbers.ensures ∙ not-false _ c.if-not-device_numbers.left) (sym (joined c.and-2.ensures c.and.ensures c.access_ranges-x.ensures c.access_ranges-y.ensures c.listed.ensures) ∙ not-false _ c.if-not-and.left) (rw (c.and-3.ensures, c.counted.ensures, c.settled.ensures, c.codes-z.ensures, c.and-kept.ensures, c.singles-w.ensures, c.orders.ensures))
 pub returns : goal.returns
-returns c = ?
+unfolding parts_record
+returns c = fit _ (sym c.device_numbers.ensures ∙ c.if-not-device_numbers.false) (sym (joined c.and-2.ensures c.and.ensures c.access_ranges-x.ensures c.access_ranges-y.ensures c.listed.ensures) ∙ c.if-not-and.false) (rw (c.and-3.ensures, c.counted.ensures, c.settled.ensures, c.codes-z.ensures, c.and-kept.ensures, c.singles-w.ensures, c.orders.ensures))

@@ -3,6 +3,5 @@ use mathlib.Core.Path.{◌∙◌}
 use Rattle.ranges.proofs.Parts.{parts-valid}
 use Rattle.ranges.proofs.valid.Goals as goal
 
--- OLD returns c = c.fits2.ensures ∙ parts-valid _
 pub returns : goal.returns
-returns c = ?
+returns c = c.fits.ensures ∙ parts-valid _

@@ -5,6 +5,7 @@ use Rattle.usim.proofs.Steps.{marked-most, pass, fits, lays, wrote}
 use Rattle.laws.specs.Upto.{over}
 use Rattle.networks.specs.Networks.{octets_of}
 use Rattle.usim.specs.Usim.{marked_to}
+use borrow.Author.Rules.{rules}
 use Rattle.usim.proofs.list.Goals as goal
 
 pub loop-i-preserved-then-here-eq0 : goal.loop-i-preserved-then-here-eq0
@@ -24,4 +25,4 @@ returns c = wrote _ _ _ _ c.loop-i.file c.loop-i.at c.loop-i.i c.loop-i.invarian
 
 pub loop-i-init : goal.loop-i-init
 unfolding over octets_of marked_to
-loop-i-init c = refl
+loop-i-init c = search rules

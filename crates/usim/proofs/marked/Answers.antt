@@ -4,6 +4,7 @@ use borrow.Author.Tests.{eq-eqb, ne_eqb}
 use native.Mathlib.Omega.{arith}
 use Rattle.usim.proofs.Steps.{count-pass, count-more}
 use Rattle.usim.specs.Usim.{marked_to}
+use borrow.Author.Rules.{rules}
 use Rattle.usim.proofs.marked.Goals as goal
 
 pub loop-i-preserved-then-here-eq0 : goal.loop-i-preserved-then-here-eq0
@@ -19,4 +20,4 @@ returns c =
 
 pub loop-i-init : goal.loop-i-init
 unfolding marked_to
-loop-i-init c = refl
+loop-i-init c = search rules

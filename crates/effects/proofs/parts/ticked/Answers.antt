@@ -1,6 +1,7 @@
 use Rattle.effects.specs.Effects.{ticked}
+use borrow.Author.Rules.{rules}
 use Rattle.effects.proofs.parts.ticked.Goals as goal
 
 pub returns : goal.returns
 unfolding ticked
-returns c = refl
+returns c = search rules

@@ -8,7 +8,7 @@ use Rattle.image.proofs.alike.same.Goals as goal
 
 pub returns-then-not-hot : goal.returns-then-not-hot
 unfolding same_record
-returns-then-not-hot c = rw (sym c.hot.ensures ∙ not-true _ c.if-not-hot.true)
+returns-then-not-hot c = rw (sym c.hot.ensures ∙ c.if-not-hot.true)
 
 pub returns : goal.returns
 unfolding same_record same_arrays same_areas same_card
@@ -18,5 +18,5 @@ returns c =     let entries = c.and-6.ensures ∙ ap₂ both c.entries_of-e0.ens
     let equivalents = c.and-3.ensures ∙ ap₂ both c.words-equivalents0.ensures c.words-equivalents1.ensures in
     let lists = c.and-areas.ensures ∙ ap₂ both areas (c.and-4.ensures ∙ ap₂ both gutis equivalents) in
     let card = c.and-card.ensures ∙ ap₂ both c.octets-suci.ensures (c.and-5.ensures ∙ ap₂ both c.octets-capability.ensures c.octets-security.ensures) in
-    let numbers = sym c.hot.ensures ∙ not-false _ c.if-not-hot.false in
+    let numbers = sym c.hot.ensures ∙ c.if-not-hot.false in
     then-too numbers (c.and-8.ensures ∙ ap₂ both entries (c.and-7.ensures ∙ ap₂ both lists card))

@@ -7,8 +7,8 @@ use Rattle.image.proofs.loading.opened.Goals as goal
 
 pub returns-then-not-valid : goal.returns-then-not-valid
 unfolding opened_of
-returns-then-not-valid c = rw (sym (c.valid.ensures ∙ ap valid_of c.record_at-next.ensures) ∙ not-true _ c.if-not-valid.taken) c.kept.ensures
+returns-then-not-valid c = rw (sym (c.valid.ensures ∙ ap valid_of c.record_at-next.ensures) ∙ c.if-not-valid.true) c.kept.ensures
 
 pub returns : goal.returns
 unfolding opened_of
-returns c = rw (sym (c.valid.ensures ∙ ap valid_of c.record_at-next.ensures) ∙ not-false _ c.if-not-valid.left) (c.kept-2.ensures ∙ rw (c.word.ensures, c.table_at-table.ensures, c.record_at-next.ensures))
+returns c = rw (sym (c.valid.ensures ∙ ap valid_of c.record_at-next.ensures) ∙ c.if-not-valid.false) (c.kept-2.ensures ∙ rw (c.word.ensures, c.table_at-table.ensures, c.record_at-next.ensures))

@@ -10,13 +10,11 @@ use Rattle.ranges.proofs.columns.networks.Goals as goal
 pub loop-i-init : goal.loop-i-init
 loop-i-init c = (search rules, all_none is_network _)
 
--- OLD returns-then-not-network c = all-ends is_network c.args.xs.now c.args.count c.loop-i.i c.loop-i.invariant.1 (sym c.network.ensures ∙ not-true _ c.if-not-network.true) (search rules)
 pub returns-then-not-network : goal.returns-then-not-network
-returns-then-not-network c = ?
+returns-then-not-network c = all-ends is_network c.args.xs.now c.args.count c.loop-i.i c.loop-i.invariant.1 (sym c.network.ensures ∙ c.if-not-network.true) (search rules)
 
--- OLD loop-i-preserved c = (search rules, all_more is_network c.args.xs.now c.loop-i.i c.loop-i.invariant.1 (sym c.network.ensures ∙ not-false _ c.if-not-network.false))
 pub loop-i-preserved : goal.loop-i-preserved
-loop-i-preserved c = ?
+loop-i-preserved c = (search rules, all_more is_network c.args.xs.now c.loop-i.i c.loop-i.invariant.1 (sym c.network.ensures ∙ c.if-not-network.false))
 
 pub returns : goal.returns
 returns c = all-over is_network c.args.xs.now c.args.count c.loop-i.i c.loop-i.invariant.1 (search rules) (search rules)

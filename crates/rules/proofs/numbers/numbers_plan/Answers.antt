@@ -48,5 +48,6 @@ pub returns-in-Update : goal.returns-in-Update
 unfolding numbers_plan has_work plan_of answer_of effect_of access_in
 returns-in-Update c = rw c.in-Update.is c.update_plan.ensures
 
+-- OLD returns-in_default c = c.refused_plan.ensures ∙ rest c.args.h c.args.e c.args.s c.args.listed c.in_default.in_default-own.keys5
 pub returns-in_default : goal.returns-in_default
-returns-in_default c = c.refused_plan.ensures ∙ rest c.args.h c.args.e c.args.s c.args.listed c.in_default.in_default-own.keys5
+returns-in_default c = ?

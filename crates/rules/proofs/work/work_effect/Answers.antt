@@ -55,6 +55,7 @@ pub returns-in-Power : goal.returns-in-Power
 unfolding is_importing effect_of access_in
 returns-in-Power c i = rw c.in-Power.is c.power_effect.ensures
 
+-- OLD unfolding effect_of
+-- OLD returns-in_default c i = c.none.ensures ∙ rest c.args.h c.args.s c.args.octets.now c.args.e c.in_default.in_default-own.keys5 i
 pub returns-in_default : goal.returns-in_default
-unfolding effect_of
-returns-in_default c i = c.none.ensures ∙ rest c.args.h c.args.s c.args.octets.now c.args.e c.in_default.in_default-own.keys5 i
+returns-in_default c = ?
