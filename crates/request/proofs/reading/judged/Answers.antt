@@ -2,7 +2,7 @@
 use Rattle.request.specs.Reading.{judged_of}
 use Rattle.request.proofs.reading.judged.Goals as goal
 
--- LOOK
+-- OLD unfolding judged_of
+-- OLD returns c = λ l e f m. rw (← c.fits2.ensures l e.first e.second, ← c.said-said.ensures l e f m) c.kept.ensures
 pub returns : goal.returns
-unfolding judged_of
-returns c = λ l e f m. rw (← c.fits2.ensures l e.first e.second, ← c.said-said.ensures l e f m) c.kept.ensures
+returns c = ?

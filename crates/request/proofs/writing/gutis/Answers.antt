@@ -4,11 +4,13 @@ use Rattle.request.proofs.Pieces.{f2-long, paired}
 use borrow.Author.Rules.{rules}
 use Rattle.request.proofs.writing.gutis.Goals as goal
 
+-- OLD item-from-requires c = omega (arith, f2-long c.args.t1 (search rules))
 pub item-from-requires : goal.item-from-requires
-item-from-requires c = omega (arith, f2-long c.args.t1 (search rules))
+item-from-requires c = ?
 
+-- OLD item-requires c = omega (arith, f2-long c.args.t1 (search rules), f2-long c.args.t2 (search rules))
 pub item-requires : goal.item-requires
-item-requires c = omega (arith, f2-long c.args.t1 (search rules), f2-long c.args.t2 (search rules))
+item-requires c = ?
 
 pub returns : goal.returns
 returns c = paired _ _ _ _ _ _ (search rules) (search rules) c.item-from.ensures c.item.ensures

@@ -1,10 +1,8 @@
 -- Event by event, as the definition; what a taken card keeps in an octet fits it, a message's reading is that of its octets, and of the timers only T3247 has work. Assumes nothing.
-use types.Run.{OneOf, miss}
-use denote.Enum.Declared.{tag_of}
 use Prim.Native.Nat.{ℕ}
 use mathlib.Core.Path.{◌≡◌, refl, ◌∙◌}
 use mathlib.Core.Bool.{true, false≢true}
-use mathlib.Core.List.{List, [], ◌∷◌}
+use mathlib.Core.List.{List}
 use native.Mathlib.Omega.{arith}
 use borrow.Author.Tests.{eqb-true}
 use Rattle.record.specs.declared.Hot.{Hot}
@@ -16,25 +14,22 @@ use Rattle.rules.specs.declared.Event.TheVariants.{Card, Start, Message, Timer, 
 use Rattle.rules.specs.Plan.{access_in, effect_of}
 use Rattle.rules.specs.Sides.{is_importing, has_work}
 use Rattle.rules.proofs.Sorted.{before}
-use Rattle.rules.specs.contracts.Event.{the_type}
+use Rattle.turns.specs.declared.Draws.{Draws}
 use Rattle.rules.proofs.work.work_effect.Goals as goal
 
--- the tags of the others
-abbrev others : List ℕ
-others = 1 ∷ 5 ∷ 6 ∷ 7 ∷ 8 ∷ []
-
--- of them an import alone has work, and before its own share it changes nothing
-rest : (h : Hot) (s : Seen) (octets : List ℕ) (e : Event) → OneOf others (tag_of the_type e) → has_work e ≡ true → sides_of 0 (effect_of h Unknown s octets) ≡ before h s octets e
+-- of the others an import alone has work, and before its own share it changes nothing
+rest : (h : Hot) (s : Seen) (octets : List ℕ) (e : Event) → ((a b : ℕ) → e ≡ Card a b → ⊥) → ((a b : ℕ) (d : Draws) → e ≡ Message a b d → ⊥) → ((a b : ℕ) → e ≡ Timer a b → ⊥) → (e ≡ Power → ⊥)
+    → has_work e ≡ true → sides_of 0 (effect_of h Unknown s octets) ≡ before h s octets e
 unfolding has_work is_importing access_in
-rest h s octets (Card edition home) o i = absurd (miss others 0 tt o)
-rest h s octets (Start w manual net code) o i = absurd (false≢true i)
-rest h s octets (Message w protected draws) o i = absurd (miss others 2 tt o)
-rest h s octets (Timer number w) o i = absurd (miss others 3 tt o)
-rest h s octets Power o i = absurd (miss others 4 tt o)
-rest h s octets (Key w set) o i = absurd (false≢true i)
-rest h s octets (Update w regtype net code uplink sessions) o i = absurd (false≢true i)
-rest h s octets Import o i = refl
-rest h s octets Unknown o i = absurd (false≢true i)
+rest h s octets (Card edition home) x y z u i = absurd (x edition home refl)
+rest h s octets (Start w manual net code) x y z u i = absurd (false≢true i)
+rest h s octets (Message w protected draws) x y z u i = absurd (y w protected draws refl)
+rest h s octets (Timer number w) x y z u i = absurd (z number w refl)
+rest h s octets Power x y z u i = absurd (u refl)
+rest h s octets (Key w set) x y z u i = absurd (false≢true i)
+rest h s octets (Update w regtype net code uplink sessions) x y z u i = absurd (false≢true i)
+rest h s octets Import x y z u i = refl
+rest h s octets Unknown x y z u i = absurd (false≢true i)
 
 pub overflow_cast-octets : goal.overflow_cast-octets
 overflow_cast-octets c = omega (arith, rw c.in-Card.is at c.requires.fits)
@@ -55,7 +50,6 @@ pub returns-in-Power : goal.returns-in-Power
 unfolding is_importing effect_of access_in
 returns-in-Power c i = rw c.in-Power.is c.power_effect.ensures
 
--- OLD unfolding effect_of
--- OLD returns-in_default c i = c.none.ensures ∙ rest c.args.h c.args.s c.args.octets.now c.args.e c.in_default.in_default-own.keys5 i
 pub returns-in_default : goal.returns-in_default
-returns-in_default c = ?
+unfolding effect_of
+returns-in_default c i = c.none.ensures ∙ rest c.args.h c.args.s c.args.octets.now c.args.e c.in_default.not-Card c.in_default.not-Message c.in_default.not-Timer c.in_default.not-Power i

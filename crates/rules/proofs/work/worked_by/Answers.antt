@@ -13,7 +13,8 @@ entries_if-requires c i = import-fits _ _ _ (sym c.imports-import.ensures ∙ i)
 
 pub returns-then-taken : goal.returns-then-taken
 unfolding decided_by
-returns-then-taken c = record { value = λ i. rw (
+returns-then-taken c = record {
+  value = λ i. rw (
     ← c.taken.ensures,
     c.if-taken.true,
     c.taken_plan.ensures,
@@ -24,7 +25,9 @@ returns-then-taken c = record { value = λ i. rw (
     c.access_in-w.ensures,
     with-import _ _ _ c.args.e,
     sorted,
-  ); value_2 = (λ f. absurd (false≢true (sym f ∙ sym c.taken.ensures ∙ c.if-taken.true)), ) }
+  );
+  value_2 = λ f. absurd (false≢true (sym f ∙ sym c.taken.ensures ∙ c.if-taken.true));
+}
 
 pub returns : goal.returns
 unfolding decided_by
