@@ -7,9 +7,8 @@ use Rattle.events.proofs.Whole.{step-law}
 use Rattle.events.proofs.Sure.{sure_step}
 use Rattle.events.proofs.value.step.Goals as goal
 
--- OLD unfolding together
--- OLD returns c =     step-law c.args.r c.sure-f.result c.args.octets.now c.core-d.result _ _ _ _ _ c.core-d.ensures c.keep.ensures
--- OLD     ∙ ap (λ (f : Event). advance_of c.args.r f c.args.octets.now) c.sure-f.ensures
--- OLD     ∙ sure_step c.args.r c.args.e c.args.octets.now c.fits2.result (c.fits2.ensures ∙ parts-valid c.args.r)
 pub returns : goal.returns
-returns c = ?
+unfolding together
+returns c =     step-law c.args.r c.sure-f.result c.args.octets.now c.core-d.result _ _ _ _ _ c.core-d.ensures c.keep.ensures
+    ∙ ap (λ (f : Event). advance_of c.args.r f c.args.octets.now) c.sure-f.ensures
+    ∙ sure_step c.args.r c.args.e c.args.octets.now c.fits-valid.result (c.fits-valid.ensures ∙ parts-valid c.args.r)

@@ -9,12 +9,10 @@ pub returns-in-Nothing : goal.returns-in-Nothing
 unfolding seen_by
 returns-in-Nothing c octets ranks0 ranks1 = rw (c.in-Nothing.is, c.unseen.ensures) (refl, refl)
 
--- OLD unfolding seen_by sight_of
--- OLD returns-in-Network c octets ranks0 ranks1 =     let a = c.args in
--- OLD     let asked = c.q-1.given.0 in
--- OLD     rw (c.in-Network.is, c.entry_of.ensures) (alike (eqb asked.0 0) a.h.a0.entries a.h.a1.entries asked.1.0 a.nets0.now a.forbidden0.now a.barred0.now ranks0 a.nets1.now a.forbidden1.now a.barred1.now ranks1)
 pub returns-in-Network : goal.returns-in-Network
-returns-in-Network c = ?
+unfolding seen_by sight_of
+returns-in-Network c octets ranks0 ranks1 =     let a = c.args in
+    rw (c.in-Network.is, c.entry_of.ensures) (alike (eqb c.in-Network.access 0) a.h.a0.entries a.h.a1.entries c.in-Network.net a.nets0.now a.forbidden0.now a.barred0.now ranks0 a.nets1.now a.forbidden1.now a.barred1.now ranks1)
 
 pub returns-in-File : goal.returns-in-File
 unfolding seen_by file_seen

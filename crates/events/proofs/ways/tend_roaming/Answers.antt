@@ -3,9 +3,7 @@ use mathlib.Core.Path.{refl}
 use Rattle.areas.specs.Areas.{list_after, count_after}
 use Rattle.events.proofs.ways.tend_roaming.Goals as goal
 
--- OLD unfolding list_after count_after
--- OLD returns-in-Nothing c =
--- OLD     let p = rw c.in-Nothing.is (refl, refl) in
--- OLD     record { list_after = p.0; value = p.1 }
 pub returns-in-Nothing : goal.returns-in-Nothing
-returns-in-Nothing c = ?
+unfolding list_after count_after
+returns-in-Nothing c =
+    rw c.in-Nothing.is (record { list_after = refl; value = refl })

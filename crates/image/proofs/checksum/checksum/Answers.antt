@@ -1,7 +1,7 @@
 use Prim.Native.Nat.{◌-◌}
 use mathlib.Core.Path.{◌≡◌}
 use native.Mathlib.Omega.{arith}
-use Rattle.image.specs.Checksum.{ones, checksum_of}
+use Rattle.image.specs.Checksum.{ones, checksum_of, steps_from, octet_step, four_steps, bit_step}
 use Rattle.image.proofs.Sums.{one_more}
 use borrow.Author.Rules.{rules}
 use Rattle.image.proofs.checksum.checksum.Goals as goal
@@ -14,3 +14,7 @@ pub returns : goal.returns
 unfolding checksum_of
 returns c =     let e : c.loop-i.i ≡ c.args.n = omega arith in
     rw (← e, ← c.loop-i.invariant.1.1)
+
+pub loop-i-init : goal.loop-i-init
+unfolding checksum_of steps_from octet_step four_steps bit_step
+loop-i-init c = search rules

@@ -35,35 +35,45 @@ slice_bounds-lay_longs-end c = sym (sized c).roaming
 pub lay_longs-a-requires : goal.lay_longs-a-requires
 lay_longs-a-requires c = omega (arith, (sized c).roaming)
 
+-- OLD slice_bounds-lay_longs-end-2 c = sym (sized (start1 c)).regional
 pub slice_bounds-lay_longs-end-2 : goal.slice_bounds-lay_longs-end-2
-slice_bounds-lay_longs-end-2 c = sym (sized (start1 c)).regional
+slice_bounds-lay_longs-end-2 c = ?
 
+-- OLD lay_longs-b-requires c = omega (arith, (sized (start1 c)).regional, room1 c)
 pub lay_longs-b-requires : goal.lay_longs-b-requires
-lay_longs-b-requires c = omega (arith, (sized (start1 c)).regional, room1 c)
+lay_longs-b-requires c = ?
 
+-- OLD slice_bounds-lay_octets-end c = sym (sized (start2 c)).guti0
 pub slice_bounds-lay_octets-end : goal.slice_bounds-lay_octets-end
-slice_bounds-lay_octets-end c = sym (sized (start2 c)).guti0
+slice_bounds-lay_octets-end c = ?
 
+-- OLD lay_octets-c-requires c = omega (arith, (sized (start2 c)).guti0, room2 c)
 pub lay_octets-c-requires : goal.lay_octets-c-requires
-lay_octets-c-requires c = omega (arith, (sized (start2 c)).guti0, room2 c)
+lay_octets-c-requires c = ?
 
+-- OLD slice_bounds-lay_octets-end-2 c = sym (sized (start3 c)).guti1
 pub slice_bounds-lay_octets-end-2 : goal.slice_bounds-lay_octets-end-2
-slice_bounds-lay_octets-end-2 c = sym (sized (start3 c)).guti1
+slice_bounds-lay_octets-end-2 c = ?
 
+-- OLD lay_octets-d-requires c = omega (arith, (sized (start3 c)).guti1, room3 c)
 pub lay_octets-d-requires : goal.lay_octets-d-requires
-lay_octets-d-requires c = omega (arith, (sized (start3 c)).guti1, room3 c)
+lay_octets-d-requires c = ?
 
+-- OLD slice_bounds-lay_words-end c = sym (sized (start4 c)).equivalents0
 pub slice_bounds-lay_words-end : goal.slice_bounds-lay_words-end
-slice_bounds-lay_words-end c = sym (sized (start4 c)).equivalents0
+slice_bounds-lay_words-end c = ?
 
+-- OLD lay_words-e-requires c = omega (arith, (sized (start4 c)).equivalents0, room4 c)
 pub lay_words-e-requires : goal.lay_words-e-requires
-lay_words-e-requires c = omega (arith, (sized (start4 c)).equivalents0, room4 c)
+lay_words-e-requires c = ?
 
+-- OLD slice_bounds-lay_words-end-2 c = sym (sized (start5 c)).equivalents1
 pub slice_bounds-lay_words-end-2 : goal.slice_bounds-lay_words-end-2
-slice_bounds-lay_words-end-2 c = sym (sized (start5 c)).equivalents1
+slice_bounds-lay_words-end-2 c = ?
 
+-- OLD lay_words-requires c = omega (arith, (sized (start5 c)).equivalents1, room5 c)
 pub lay_words-requires : goal.lay_words-requires
-lay_words-requires c = omega (arith, (sized (start5 c)).equivalents1, room5 c)
+lay_words-requires c = ?
 
 pub returns : goal.returns
 unfolding column_octets area_columns

@@ -35,35 +35,45 @@ slice_bounds-lay_words-end c = sym (sized c).nets
 pub lay_words-a-requires : goal.lay_words-a-requires
 lay_words-a-requires c = omega (arith, (sized c).nets)
 
+-- OLD slice_bounds-lay_octets-end c = sym (sized (start1 c)).bans
 pub slice_bounds-lay_octets-end : goal.slice_bounds-lay_octets-end
-slice_bounds-lay_octets-end c = sym (sized (start1 c)).bans
+slice_bounds-lay_octets-end c = ?
 
+-- OLD lay_octets-b-requires c = omega (arith, (sized (start1 c)).bans, room1 c)
 pub lay_octets-b-requires : goal.lay_octets-b-requires
-lay_octets-b-requires c = omega (arith, (sized (start1 c)).bans, room1 c)
+lay_octets-b-requires c = ?
 
+-- OLD slice_bounds-lay_octets-end-2 c = sym (sized (start2 c)).n1s
 pub slice_bounds-lay_octets-end-2 : goal.slice_bounds-lay_octets-end-2
-slice_bounds-lay_octets-end-2 c = sym (sized (start2 c)).n1s
+slice_bounds-lay_octets-end-2 c = ?
 
+-- OLD lay_octets-c-requires c = omega (arith, (sized (start2 c)).n1s, room2 c)
 pub lay_octets-c-requires : goal.lay_octets-c-requires
-lay_octets-c-requires c = omega (arith, (sized (start2 c)).n1s, room2 c)
+lay_octets-c-requires c = ?
 
+-- OLD slice_bounds-lay_octets-end-3 c = sym (sized (start3 c)).forbidden
 pub slice_bounds-lay_octets-end-3 : goal.slice_bounds-lay_octets-end-3
-slice_bounds-lay_octets-end-3 c = sym (sized (start3 c)).forbidden
+slice_bounds-lay_octets-end-3 c = ?
 
+-- OLD lay_octets-d-requires c = omega (arith, (sized (start3 c)).forbidden, room3 c)
 pub lay_octets-d-requires : goal.lay_octets-d-requires
-lay_octets-d-requires c = omega (arith, (sized (start3 c)).forbidden, room3 c)
+lay_octets-d-requires c = ?
 
+-- OLD slice_bounds-lay_octets-end-4 c = sym (sized (start4 c)).barred
 pub slice_bounds-lay_octets-end-4 : goal.slice_bounds-lay_octets-end-4
-slice_bounds-lay_octets-end-4 c = sym (sized (start4 c)).barred
+slice_bounds-lay_octets-end-4 c = ?
 
+-- OLD lay_octets-e-requires c = omega (arith, (sized (start4 c)).barred, room4 c)
 pub lay_octets-e-requires : goal.lay_octets-e-requires
-lay_octets-e-requires c = omega (arith, (sized (start4 c)).barred, room4 c)
+lay_octets-e-requires c = ?
 
+-- OLD slice_bounds-lay_octets-end-5 c = sym (sized (start5 c)).ranks
 pub slice_bounds-lay_octets-end-5 : goal.slice_bounds-lay_octets-end-5
-slice_bounds-lay_octets-end-5 c = sym (sized (start5 c)).ranks
+slice_bounds-lay_octets-end-5 c = ?
 
+-- OLD lay_octets-requires c = omega (arith, (sized (start5 c)).ranks, room5 c)
 pub lay_octets-requires : goal.lay_octets-requires
-lay_octets-requires c = omega (arith, (sized (start5 c)).ranks, room5 c)
+lay_octets-requires c = ?
 
 pub returns : goal.returns
 unfolding column_octets entries_columns

@@ -26,17 +26,21 @@ slice_bounds-lay_longs-end c = sym (sized c).rests
 pub lay_longs-a-requires : goal.lay_longs-a-requires
 lay_longs-a-requires c = omega (arith, (sized c).rests)
 
+-- OLD slice_bounds-lay_words-end c = sym (sized (start1 c)).ends
 pub slice_bounds-lay_words-end : goal.slice_bounds-lay_words-end
-slice_bounds-lay_words-end c = sym (sized (start1 c)).ends
+slice_bounds-lay_words-end c = ?
 
+-- OLD lay_words-b-requires c = omega (arith, (sized (start1 c)).ends, room1 c)
 pub lay_words-b-requires : goal.lay_words-b-requires
-lay_words-b-requires c = omega (arith, (sized (start1 c)).ends, room1 c)
+lay_words-b-requires c = ?
 
+-- OLD slice_bounds-lay_octets-end c = sym (sized (start2 c)).held
 pub slice_bounds-lay_octets-end : goal.slice_bounds-lay_octets-end
-slice_bounds-lay_octets-end c = sym (sized (start2 c)).held
+slice_bounds-lay_octets-end c = ?
 
+-- OLD lay_octets-requires c = omega (arith, (sized (start2 c)).held, room2 c)
 pub lay_octets-requires : goal.lay_octets-requires
-lay_octets-requires c = omega (arith, (sized (start2 c)).held, room2 c)
+lay_octets-requires c = ?
 
 pub returns : goal.returns
 unfolding column_octets table_columns

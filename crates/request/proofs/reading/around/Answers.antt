@@ -2,6 +2,5 @@
 use Rattle.request.proofs.Gathers.{around-so}
 use Rattle.request.proofs.reading.around.Goals as goal
 
--- OLD returns c = around-so _ _ _ _ _ _ c.identity_len-n.ensures.0 c.fits2.ensures c.enclosed.ensures
 pub returns : goal.returns
-returns c = ?
+returns c = around-so _ _ _ _ _ _ c.identity_len-n.ensures.0 c.fits-fits.ensures c.enclosed.ensures

@@ -2,7 +2,6 @@
 use Rattle.request.specs.Reading.{judged_of}
 use Rattle.request.proofs.reading.judged.Goals as goal
 
--- OLD unfolding judged_of
--- OLD returns c = λ l e f m. rw (← c.fits2.ensures l e.first e.second, ← c.said-said.ensures l e f m) c.kept.ensures
 pub returns : goal.returns
-returns c = ?
+unfolding judged_of
+returns c = λ l e f m. rw (← c.fits-fits.ensures l e.first e.second, ← c.said-said.ensures l e f m) c.kept.ensures

@@ -1,0 +1,15 @@
+use Rattle.rounds.specs.Words.{told_seconds}
+use borrow.Author.Rules.{rules}
+use Rattle.rounds.proofs.words.told_seconds.Goals as goal
+
+pub returns-in-Left : goal.returns-in-Left
+unfolding told_seconds
+returns-in-Left c = search rules
+
+pub returns-in-Stopped : goal.returns-in-Stopped
+unfolding told_seconds
+returns-in-Stopped c = search rules
+
+pub returns-in-Started : goal.returns-in-Started
+unfolding told_seconds
+returns-in-Started c = search rules
