@@ -4,7 +4,6 @@ use Rattle.ranges.proofs.Parts.{parts-valid}
 use Rattle.rounds.proofs.Goes.{round-law}
 use Rattle.rounds.proofs.value.round.Goals as goal
 
--- LOOK
 pub returns : goal.returns
-returns c = record { value = round-law c.args.r c.args.t _ c.args.time c.args.words.now _ c.fits-fit.result c.fits3.result _ c.judged-answer.result c.most.result c.go-w.result.count _
-          (c.fits-fit.ensures ∙ parts-valid c.args.r) c.fits3.ensures refl c.judged-answer.ensures c.most.ensures.0 (c.go-w.ensures.words_after c.args.r); count_bound = (c.go-w.ensures.count_bound, ) }
+returns c = record { value = round-law c.args.r c.args.t _ c.args.time c.args.words.now _ c.fits-valid.result c.fits-fit.result _ c.judged-answer.result c.most.result c.go-w.result.count _
+          (c.fits-valid.ensures ∙ parts-valid c.args.r) c.fits-fit.ensures refl c.judged-answer.ensures c.most.ensures.0 (c.go-w.ensures.words_after c.args.r); count_bound = c.go-w.ensures.count_bound }
