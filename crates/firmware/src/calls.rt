@@ -118,8 +118,7 @@ fn filed(r: Record, file: &mut [u8]) -> u32
 }
 
 // A new record; a refusal leaves the one that was there.
-#[unsafe(no_mangle)]
-pub extern "C" fn tjernfaug_new(
+pub fn tjernfaug_new(
     r: &mut Record,
     cardlimit: u8,
     banlimit: u8,
@@ -135,13 +134,7 @@ pub extern "C" fn tjernfaug_new(
 }
 
 // An event as the event log has it: its kind and its body.
-#[unsafe(no_mangle)]
-pub extern "C" fn tjernfaug_event(
-    r: &mut Record,
-    kind: u32,
-    body: &[u8],
-    notice: &mut Notice,
-) -> u32
+pub fn tjernfaug_event(r: &mut Record, kind: u32, body: &[u8], notice: &mut Notice) -> u32
     ensures { (result ≡ (heard_as r.old kind body.now).answer) × ((r.new ≡ (heard_as r.old kind body.now).next) × (notice.new ≡ (heard_as r.old kind body.now).notice)) }
 {
     let o = taken(*r, kind, body);
@@ -151,16 +144,14 @@ pub extern "C" fn tjernfaug_event(
 }
 
 // The registration request of an access, written to the buffer's front.
-#[unsafe(no_mangle)]
-pub extern "C" fn tjernfaug_request(r: &Record, access: u8, buffer: &mut [u8]) -> u32
+pub fn tjernfaug_request(r: &Record, access: u8, buffer: &mut [u8]) -> u32
     ensures { (result ≡ wrote_of r.now access (length buffer.old)) × (buffer.new ≡ buffer_of r.now access no_s1 [] buffer.old) }
 {
     asked(*r, access, buffer)
 }
 
 // The same of a device that comes from 4G: the length is stored, 0 with a refusal, and the answer given back.
-#[unsafe(no_mangle)]
-pub extern "C" fn tjernfaug_request_from_s1(
+pub fn tjernfaug_request_from_s1(
     r: &Record,
     access: u8,
     s1: &S1,
@@ -176,44 +167,34 @@ pub extern "C" fn tjernfaug_request_from_s1(
 }
 
 // Of the networks heard those that may be tried over an access, written to the list's front.
-#[unsafe(no_mangle)]
-pub extern "C" fn tjernfaug_cells(
-    r: &Record,
-    access: u8,
-    heard: &[u32],
-    permitted: &mut [u32],
-) -> u32
+pub fn tjernfaug_cells(r: &Record, access: u8, heard: &[u32], permitted: &mut [u32]) -> u32
     ensures { (result ≡ picked_of r.now access heard.now (length permitted.old)) × (permitted.new ≡ list_of r.now access heard.now permitted.old) }
 {
     picked(*r, access, heard, permitted)
 }
 
 // The card's file of forbidden networks, those of access 0, and FF behind them.
-#[unsafe(no_mangle)]
-pub extern "C" fn tjernfaug_forbidden(r: &Record, file: &mut [u8]) -> u32
+pub fn tjernfaug_forbidden(r: &Record, file: &mut [u8]) -> u32
     ensures { (result ≡ filed_of r.now (length file.old)) × (file.new ≡ file_after r.now file.old) }
 {
     filed(*r, file)
 }
 
 // The two readings by themselves, so that one library has all calls.
-#[unsafe(no_mangle)]
-pub extern "C" fn reject_cause(msg: &[u8]) -> u32
+pub fn reject_cause(msg: &[u8]) -> u32
     ensures { result ≡ cause_of (cause_reading msg.now) }
 {
     messages::reject_cause(msg)
 }
 
-#[unsafe(no_mangle)]
-pub extern "C" fn timer_seconds(octet: u8) -> u32
+pub fn timer_seconds(octet: u8) -> u32
     ensures { result ≡ timer_seconds (span2_of octet) }
 {
     messages::timer_seconds(octet)
 }
 
 // The version that the library was made as, to be held against the header's.
-#[unsafe(no_mangle)]
-pub extern "C" fn tjernfaug_version() -> u32
+pub fn tjernfaug_version() -> u32
     ensures { result ≡ version }
 {
     1200

@@ -136,8 +136,7 @@ fn passed(r: Record, t: Table, time: u32, words: &mut [u32]) -> Passed
 }
 
 // Each timer that the notice tells of gets its deadline, or loses it.
-#[unsafe(no_mangle)]
-pub extern "C" fn tjernfaug_arm(t: &mut Table, time: u32, notice: &Notice) -> u32
+pub fn tjernfaug_arm(t: &mut Table, time: u32, notice: &Notice) -> u32
     ensures { (result ≡ (armed_by t.old time notice.now).answer) × (t.new ≡ (armed_by t.old time notice.now).next) }
 {
     let o = armed(*t, time, *notice);
@@ -146,8 +145,7 @@ pub extern "C" fn tjernfaug_arm(t: &mut Table, time: u32, notice: &Notice) -> u3
 }
 
 // The slot of the timer due, 10 if none is.
-#[unsafe(no_mangle)]
-pub extern "C" fn tjernfaug_ask(t: &mut Table, time: u32) -> u32
+pub fn tjernfaug_ask(t: &mut Table, time: u32) -> u32
     ensures { (result ≡ (sought_in t.old time).slot) × (t.new ≡ (sought_in t.old time).next) }
 {
     let o = sought(*t, time);
@@ -156,13 +154,7 @@ pub extern "C" fn tjernfaug_ask(t: &mut Table, time: u32) -> u32
 }
 
 // An asking round: the due timers run out one after the other, and each is handed out with its notice.
-#[unsafe(no_mangle)]
-pub extern "C" fn tjernfaug_round(
-    r: &mut Record,
-    t: &mut Table,
-    time: u32,
-    words: &mut [u32],
-) -> u32
+pub fn tjernfaug_round(r: &mut Record, t: &mut Table, time: u32, words: &mut [u32]) -> u32
     ensures { (result ≡ (passed_of r.old t.old time (length words.old)).count) × ((r.new ≡ (passed_of r.old t.old time (length words.old)).next) × ((t.new ≡ (passed_of r.old t.old time (length words.old)).table) × (words.new ≡ words_after r.old t.old time words.old))) }
 {
     let o = passed(*r, *t, time, words);
@@ -172,8 +164,7 @@ pub extern "C" fn tjernfaug_round(
 }
 
 // For how many milliseconds firmware may sleep after a round until the next one, 600,000 at most.
-#[unsafe(no_mangle)]
-pub extern "C" fn tjernfaug_wait(t: &Table, time: u32) -> u32
+pub fn tjernfaug_wait(t: &Table, time: u32) -> u32
     ensures { result ≡ wait_of time t.now }
 {
     waited(*t, time)

@@ -1,5 +1,6 @@
 // The record lent to firmware: one call takes an event and updates the record in place, and the calls that C makes.
 #![tactic(auto)]
+
 use deadlines::Table;
 use record::Record;
 

@@ -32,21 +32,14 @@ fn regained(r: Record, t: Table, serial: u32, octets: &[u8]) -> Regained
 }
 
 // The image of record, table and serial, written to the buffer's front.
-#[unsafe(no_mangle)]
-pub extern "C" fn tjernfaug_save(r: &Record, t: &Table, serial: u32, buffer: &mut [u8]) -> u32
+pub fn tjernfaug_save(r: &Record, t: &Table, serial: u32, buffer: &mut [u8]) -> u32
     ensures { (result ≡ saved_of r.now (length buffer.old)) × (buffer.new ≡ saved_over serial r.now t.now buffer.old) }
 {
     saved(*r, *t, serial, buffer)
 }
 
 // What the octets' image holds; a refusal leaves all that is lent.
-#[unsafe(no_mangle)]
-pub extern "C" fn tjernfaug_load(
-    r: &mut Record,
-    t: &mut Table,
-    serial: &mut u32,
-    octets: &[u8],
-) -> u32
+pub fn tjernfaug_load(r: &mut Record, t: &mut Table, serial: &mut u32, octets: &[u8]) -> u32
     ensures { (result ≡ (regained_of r.old t.old serial.old octets.now).answer) × ((r.new ≡ (regained_of r.old t.old serial.old octets.now).next) × ((t.new ≡ (regained_of r.old t.old serial.old octets.now).table) × (serial.new ≡ (regained_of r.old t.old serial.old octets.now).serial))) }
 {
     let o = regained(*r, *t, *serial, octets);

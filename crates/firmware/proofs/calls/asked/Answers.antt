@@ -6,7 +6,7 @@ use Rattle.firmware.proofs.Length.{short}
 use Rattle.firmware.proofs.calls.asked.Goals as goal
 
 pub counted-requires : goal.counted-requires
-counted-requires c =     let a = c.args in
+counted-requires c = let a = c.args in
     rw (c.write-w.ensures.value, c.no_s1.ensures) (omega (arith, short a.r a.access (length a.buffer.now)))
 
 pub returns : goal.returns
