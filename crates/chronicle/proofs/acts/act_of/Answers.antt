@@ -43,5 +43,6 @@ pub returns-in-Import : goal.returns-in-Import
 unfolding act_of
 returns-in-Import c = rw c.in-Import.is c.import_act.ensures
 
+-- OLD returns-in_default c = c.no_act.ensures ∙ other _ _ _ _ _ _ c.args.e c.in_default.in_default-own.keys5
 pub returns-in_default : goal.returns-in_default
-returns-in_default c = c.no_act.ensures ∙ other _ _ _ _ _ _ c.args.e c.in_default.in_default-own.keys5
+returns-in_default c = ?

@@ -31,5 +31,6 @@ pub returns-in-Card : goal.returns-in-Card
 unfolding is_card_change
 returns-in-Card c = rw c.in-Card.is
 
+-- OLD returns-in_default c = other c.args.e c.in_default.in_default-own.keys2
 pub returns-in_default : goal.returns-in_default
-returns-in_default c = other c.args.e c.in_default.in_default-own.keys2
+returns-in_default c = ?

@@ -39,5 +39,6 @@ pub returns-in-Update : goal.returns-in-Update
 unfolding moved_of
 returns-in-Update c = rw c.in-Update.is c.settled-in-Update.ensures
 
+-- OLD returns-in_default c = other c.args.x c.args.e c.in_default.in_default-own.keys4
 pub returns-in_default : goal.returns-in_default
-returns-in_default c = other c.args.x c.args.e c.in_default.in_default-own.keys4
+returns-in_default c = ?
