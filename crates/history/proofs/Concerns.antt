@@ -35,7 +35,7 @@ use Rattle.history.proofs.Next.{next, deed_in, limits_of}
 use Rattle.history.proofs.Stays.{filed_in}
 use Rattle.history.proofs.Table.{event-table}
 use Rattle.history.proofs.Steps.{home-step, net-step}
-use Rattle.history.proofs.News.{is_read, event-fits}
+use Rattle.history.proofs.News.{is_read_lem, event-fits}
 use Rattle.history.proofs.Apart.{taken-half}
 use Rattle.history.proofs.Sides.{Side, sides, side_with, side_in, own_deed, side_by, side_after, own-deed}
 
@@ -168,7 +168,7 @@ module _ (r : Record) (x : Heard) (v : valid_of r ≡ true) (t : is_taken (answe
     across (Start b manual net code) p = refl
     across (Message b protected draws) p =
         across-by l w (pending b) here (counts (pending b)) (skip (pending b)) (eqb protected 0) (by_type false (λ cause. eqb cause 27) octets)
-        ∙ ap (λ (is27 : Bool). side_after l w (cond (not (eqb protected 0) && is27) (protected27 (pending b) ∷ []) []) here) (by-octets false false (λ cause. eqb cause 27) octets (is_read r octets b protected draws (rw (← p) at t)))
+        ∙ ap (λ (is27 : Bool). side_after l w (cond (not (eqb protected 0) && is27) (protected27 (pending b) ∷ []) []) here) (by-octets false false (λ cause. eqb cause 27) octets (is_read_lem r octets b protected draws (rw (← p) at t)))
         ∙ ap (λ (cs : List Concern). side_after l w cs here) (reads-across (eqb protected 0) (pending b) (reading_of octets))
     across (Timer number b) p = refl
     across Power p = refl

@@ -28,15 +28,15 @@ use Rattle.history.specs.Cell.{entries_in}
 use Rattle.history.specs.Tale.{Limits}
 
 -- access w of two
-access_of : (d : Device) (b : ℕ) (mine theirs : Access) (w : ℕ) → b < 2 → w < 2 → access_of (hot_of d b mine theirs) w ≡ cond (eqb b w) mine theirs
+access_of_lem : (d : Device) (b : ℕ) (mine theirs : Access) (w : ℕ) → b < 2 → w < 2 → access_of (hot_of d b mine theirs) w ≡ cond (eqb b w) mine theirs
 unfolding access_of hot_of
-access_of d zero mine theirs zero hb hw = refl
-access_of d zero mine theirs (suc zero) hb hw = refl
-access_of d (suc zero) mine theirs zero hb hw = refl
-access_of d (suc zero) mine theirs (suc zero) hb hw = refl
-access_of d zero mine theirs (suc (suc w)) hb hw = absurd (omega arith)
-access_of d (suc zero) mine theirs (suc (suc w)) hb hw = absurd (omega arith)
-access_of d (suc (suc b)) mine theirs w hb hw = absurd (omega arith)
+access_of_lem d zero mine theirs zero hb hw = refl
+access_of_lem d zero mine theirs (suc zero) hb hw = refl
+access_of_lem d (suc zero) mine theirs zero hb hw = refl
+access_of_lem d (suc zero) mine theirs (suc zero) hb hw = refl
+access_of_lem d zero mine theirs (suc (suc w)) hb hw = absurd (omega arith)
+access_of_lem d (suc zero) mine theirs (suc (suc w)) hb hw = absurd (omega arith)
+access_of_lem d (suc (suc b)) mine theirs w hb hw = absurd (omega arith)
 
 -- the other one of two
 pub other-of : (h : Hot) (b w : ℕ) → b < 2 → w < 2 → eqb b w ≡ false → other_of h b ≡ access_of h w
@@ -122,7 +122,7 @@ module _ (r : Record) (e : Event) (octets : List ℕ) where
           (clocked (effect_in r e octets).theirs.orders (effect_in r e octets).theirs.access)
       unfolding taken_plan hot_after
       taken-access =
-          ap (λ (o : Outcome). access_of o.next.hot w) (taken-plan r e octets t) ∙ carry-access r octets plan w ∙ access_of _ (access_in e) _ _ w hb hw
+          ap (λ (o : Outcome). access_of o.next.hot w) (taken-plan r e octets t) ∙ carry-access r octets plan w ∙ access_of_lem _ (access_in e) _ _ w hb hw
 
       taken-number : (f : Access → ℕ) → ((o : Orders) (a : Access) → f (clocked o a) ≡ f a)
           → f (access_of next.hot w) ≡ cond (eqb (access_in e) w) (f (effect_in r e octets).mine.access) (f (effect_in r e octets).theirs.access)

@@ -49,11 +49,11 @@ unfolding some_of
 in-more x xs y = rw (length-one-more xs y, add-one (length xs), get_or-append_seam xs y [] 0, among-kept x xs (y ∷ []) (length xs) (omega arith))
 
 -- one that is left out was there or is marked, one that is taken was not and is not
-left_out : (e a m : Bool) → (e ≡ true → either a m ≡ true) → both a (flip m) ≡ both (either e a) (flip m)
-left_out true true m f = refl
-left_out true false true f = refl
-left_out true false false f = absurd (false≢true (f refl))
-left_out false a m f = refl
+left_out_lem : (e a m : Bool) → (e ≡ true → either a m ≡ true) → both a (flip m) ≡ both (either e a) (flip m)
+left_out_lem true true m f = refl
+left_out_lem true false true f = refl
+left_out_lem true false false f = absurd (false≢true (f refl))
+left_out_lem false a m f = refl
 
 taken_in : (e a m : Bool) → (e ≡ true → either a m ≡ false) → either e (both a (flip m)) ≡ both (either e a) (flip m)
 taken_in true true m f = absurd (true≢false (f refl))
@@ -82,7 +82,7 @@ module _ (heard : List ℕ) (count : ℕ) (nets forbidden barred : List ℕ) whe
 
       go : (b : Bool) → left_out heard count nets forbidden barred n ≡ b
           → is_in x (cond b (chosen n) (chosen n ++ (get_or heard n 0 ∷ []))) ≡ both (either (eqb (get_or heard n 0) x) (among heard x n)) (flip (is_marked x))
-      go true q = before ∙ left_out (eqb (get_or heard n 0) x) (among heard x n) (is_marked x) (same true q)
+      go true q = before ∙ left_out_lem (eqb (get_or heard n 0) x) (among heard x n) (is_marked x) (same true q)
       go false q =
           in-more x (chosen n) (get_or heard n 0) ∙ ap (either (eqb (get_or heard n 0) x)) before
           ∙ taken_in (eqb (get_or heard n 0) x) (among heard x n) (is_marked x) (same false q)
