@@ -11,38 +11,33 @@ use Rattle.image.proofs.Lays.{column-room}
 use Rattle.image.proofs.Sizes.{CardLong, record_is}
 use Rattle.image.proofs.laying.lay_card.Goals as goal
 
-sized : (s : tie.Start) → CardLong s.args.r
-sized s = (record_is _ _ s.well-formed.1.1.0).card
-
-room1 : (c : tie.After-lay-octets) → c.lay-octets.result + 21 ≤ length c.lay-octets.new.0
-room1 c = column-room 1 (start1 c).args.r.suci 21 (sized (start1 c)).suci c.lay-octets.ensures c.lay-octets.auto.0 (start1 c).requires
-
-room2 : (c : tie.After-lay-octets2) → c.lay-octets2.result + 8 ≤ length c.lay-octets2.new.0
-room2 c = column-room 1 (start2 c).args.r.capability 8 (sized (start2 c)).capability c.lay-octets2.ensures c.lay-octets2.auto.0 (room1 c.before.before.before.before.before)
-
 pub slice_bounds-lay_octets-end : goal.slice_bounds-lay_octets-end
-slice_bounds-lay_octets-end c = sym (sized c).suci
+slice_bounds-lay_octets-end c = sym ((record_is _ _ c.well_formed.1.1.0).card).suci
 
 pub lay_octets-a-requires : goal.lay_octets-a-requires
-lay_octets-a-requires c = omega (arith, (sized c).suci)
+lay_octets-a-requires c = omega (arith, ((record_is _ _ c.well_formed.1.1.0).card).suci)
 
--- OLD slice_bounds-lay_octets-end-2 c = sym (sized (start1 c)).capability
 pub slice_bounds-lay_octets-end-2 : goal.slice_bounds-lay_octets-end-2
-slice_bounds-lay_octets-end-2 c = ?
+slice_bounds-lay_octets-end-2 c = sym ((record_is _ _ c.well_formed.1.1.0).card).capability
 
--- OLD lay_octets-b-requires c = omega (arith, (sized (start1 c)).capability, room1 c)
 pub lay_octets-b-requires : goal.lay_octets-b-requires
-lay_octets-b-requires c = ?
+lay_octets-b-requires c =
+    let s : CardLong c.args.r = (record_is _ _ c.well_formed.1.1.0).card in
+    let r1 = column-room 1 c.args.r.suci 21 s.suci c.lay_octets-a.ensures c.lay_octets-a.auto.buffer c.requires in
+    omega (arith, s.capability)
 
--- OLD slice_bounds-lay_octets-end-3 c = sym (sized (start2 c)).security
 pub slice_bounds-lay_octets-end-3 : goal.slice_bounds-lay_octets-end-3
-slice_bounds-lay_octets-end-3 c = ?
+slice_bounds-lay_octets-end-3 c = sym ((record_is _ _ c.well_formed.1.1.0).card).security
 
--- OLD lay_octets-requires c = omega (arith, (sized (start2 c)).security, room2 c)
 pub lay_octets-requires : goal.lay_octets-requires
-lay_octets-requires c = ?
+lay_octets-requires c =
+    let s : CardLong c.args.r = (record_is _ _ c.well_formed.1.1.0).card in
+    let r1 = column-room 1 c.args.r.suci 21 s.suci c.lay_octets-a.ensures c.lay_octets-a.auto.buffer c.requires in
+    let r2 = column-room 1 c.args.r.capability 8 s.capability c.lay_octets-b.ensures c.lay_octets-b.auto.buffer r1 in
+    omega (arith, s.security)
 
 pub returns : goal.returns
 unfolding column_octets card_columns
-returns c =     let h : c.args.at ≤ length c.args.buffer.now = omega (arith, c.requires) in
+returns c =
+    let h : c.args.at ≤ length c.args.buffer.now = omega (arith, c.requires) in
     simp (append-nil, ← append_assoc) (join h (join h c.lay_octets-a.ensures c.lay_octets-b.ensures) c.lay_octets.ensures)

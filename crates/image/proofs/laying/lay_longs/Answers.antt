@@ -7,9 +7,8 @@ use Rattle.image.proofs.laying.lay_longs.Goals as goal
 pub loop-i-init : goal.loop-i-init
 loop-i-init c = part_none
 
--- OLD loop-i-preserved c = part-more c.loop-i.invariant (omega arith) (search rules) c.lay-place.auto.0 c.lay-place.ensures
 pub loop-i-preserved : goal.loop-i-preserved
-loop-i-preserved c = ?
+loop-i-preserved c = part-more c.loop-i.invariant (omega arith) (search rules) c.lay-place.auto.buffer c.lay-place.ensures
 
 pub shape_of-buffer : goal.shape_of-buffer
 shape_of-buffer c = c.loop-i.invariant.long

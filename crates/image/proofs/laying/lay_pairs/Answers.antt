@@ -10,9 +10,8 @@ loop-i-init c = part_none
 pub overflow_cast-xs : goal.overflow_cast-xs
 overflow_cast-xs c = omega (arith, c.shared_slice_known-in-loop-i-1.given c.loop-i.i)
 
--- OLD loop-i-preserved c = part-more c.loop-i.invariant (omega arith) (search rules) c.lay-place.auto.0 c.lay-place.ensures
 pub loop-i-preserved : goal.loop-i-preserved
-loop-i-preserved c = ?
+loop-i-preserved c = part-more c.loop-i.invariant (omega arith) (search rules) c.lay-place.auto.buffer c.lay-place.ensures
 
 pub shape_of-buffer : goal.shape_of-buffer
 shape_of-buffer c = c.loop-i.invariant.long
