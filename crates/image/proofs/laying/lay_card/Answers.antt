@@ -1,40 +1,29 @@
 -- Three columns, one behind the other: behind each, room for the rest. Assumes nothing.
-use Prim.Native.Nat.{◌+◌, ◌≤◌}
-use mathlib.Core.Path.{sym}
+use Prim.Native.Nat.{◌≤◌}
 use mathlib.Core.List.{append_assoc, append-nil}
 use native.Mathlib.Omega.{arith}
 use lib.ListN.{length}
 use Rattle.laws.proofs.Splice.{join}
 use Rattle.image.specs.Numbers.{column_octets}
 use Rattle.image.specs.Layout.{card_columns}
-use Rattle.image.proofs.Lays.{column-room}
+use Rattle.image.proofs.Lays.{numbers-long}
 use Rattle.image.proofs.Sizes.{CardLong, record_is}
 use Rattle.image.proofs.laying.lay_card.Goals as goal
 
-pub slice_bounds-lay_octets-end : goal.slice_bounds-lay_octets-end
-slice_bounds-lay_octets-end c = sym ((record_is _ _ c.well_formed.1.1.0).card).suci
-
 pub lay_octets-a-requires : goal.lay_octets-a-requires
-lay_octets-a-requires c = omega (arith, ((record_is _ _ c.well_formed.1.1.0).card).suci)
-
-pub slice_bounds-lay_octets-end-2 : goal.slice_bounds-lay_octets-end-2
-slice_bounds-lay_octets-end-2 c = sym ((record_is _ _ c.well_formed.1.1.0).card).capability
+lay_octets-a-requires c =
+    let s : CardLong c.args.r = (record_is _ _ c.well_formed.1.1.0).card in
+    omega (arith, numbers-long)
 
 pub lay_octets-b-requires : goal.lay_octets-b-requires
 lay_octets-b-requires c =
     let s : CardLong c.args.r = (record_is _ _ c.well_formed.1.1.0).card in
-    let r1 = column-room 1 c.args.r.suci 21 s.suci c.lay_octets-a.ensures c.lay_octets-a.auto.buffer c.requires in
-    omega (arith, s.capability)
-
-pub slice_bounds-lay_octets-end-3 : goal.slice_bounds-lay_octets-end-3
-slice_bounds-lay_octets-end-3 c = sym ((record_is _ _ c.well_formed.1.1.0).card).security
+    omega (arith, numbers-long)
 
 pub lay_octets-requires : goal.lay_octets-requires
 lay_octets-requires c =
     let s : CardLong c.args.r = (record_is _ _ c.well_formed.1.1.0).card in
-    let r1 = column-room 1 c.args.r.suci 21 s.suci c.lay_octets-a.ensures c.lay_octets-a.auto.buffer c.requires in
-    let r2 = column-room 1 c.args.r.capability 8 s.capability c.lay_octets-b.ensures c.lay_octets-b.auto.buffer r1 in
-    omega (arith, s.security)
+    omega (arith, numbers-long)
 
 pub returns : goal.returns
 unfolding column_octets card_columns

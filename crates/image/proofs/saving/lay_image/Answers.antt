@@ -1,24 +1,16 @@
 -- The body, then the checksum of what was put. Assumes nothing.
-use Prim.Native.Nat.{◌+◌, ◌≤◌}
 use native.Mathlib.Omega.{arith}
-use lib.ListN.{length}
 use Rattle.laws.proofs.Splice.{join}
 use Rattle.image.specs.Image.{image_of}
-use Rattle.image.proofs.Lays.{room, at_front, put-over}
+use Rattle.image.proofs.Lays.{at_front, put-over}
 use Rattle.image.proofs.Sizes.{record_is, table_is, body-long}
 use Rattle.image.proofs.saving.lay_image.Goals as goal
 
 pub checksum-sum-requires : goal.checksum-sum-requires
-checksum-sum-requires c =
-    let n = body-long c.args.serial c.args.r c.args.t (record_is _ _ c.well_formed.1.0) (table_is _ _ c.well_formed.1.1.0) in
-    let behind = room 4 n c.lay_body-at.ensures c.lay_body-at.auto.buffer c.requires in
-    omega arith
+checksum-sum-requires c = omega (arith, body-long c.args.serial c.args.r c.args.t (record_is _ _ c.well_formed.1.0) (table_is _ _ c.well_formed.1.1.0))
 
 pub lay-end-requires : goal.lay-end-requires
-lay-end-requires c =
-    let n = body-long c.args.serial c.args.r c.args.t (record_is _ _ c.well_formed.1.0) (table_is _ _ c.well_formed.1.1.0) in
-    let behind = room 4 n c.lay_body-at.ensures c.lay_body-at.auto.buffer c.requires in
-    omega arith
+lay-end-requires c = omega (arith, body-long c.args.serial c.args.r c.args.t (record_is _ _ c.well_formed.1.0) (table_is _ _ c.well_formed.1.1.0))
 
 pub returns : goal.returns
 unfolding image_of
