@@ -12,7 +12,7 @@ use lib.Seq.{take-set-lt, take-set-le, get_or-set_same, get_or-set_other, get_or
 use borrow.Author.Tests.{eqb-true, eq-eqb, ne_eqb, ltb-true, ltb-false}
 use Rattle.record.specs.Tests.{both}
 use Rattle.record.specs.declared.Record.{Record}
-use Rattle.record.proofs.Bounds.{one, rest}
+use Rattle.record.proofs.Bounds.{rest}
 use Rattle.deadlines.specs.declared.Table.{Table}
 use Rattle.image.specs.declared.Verdict.TheVariants.{Loaded, Version, Damaged}
 use Rattle.image.specs.Numbers.{number_at}

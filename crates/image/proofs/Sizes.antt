@@ -1,7 +1,7 @@
 -- The arrays of a record and of a table are as long as their types say, so each part takes as many octets as the layout has for it. Assumes nothing.
 use Prim.Native.Nat.{ℕ}
 use mathlib.Core.Path.{◌≡◌}
-use mathlib.Core.List.{List, map}
+use mathlib.Core.List.{List}
 use lib.ListN.{length, length-append}
 use mir.Syntax.{Width, w8, w32, w64}
 use mir.Val.{Val}
@@ -57,7 +57,7 @@ pub record RecordLong (r : Record) : Type 0 where
   pub areas : AreasLong r
   pub card : CardLong r
 
-array-is : (w : Width) (n : ℕ) (xs : List ℕ) (vs : List Val) → Is (Array (UInt w) n) (map (λ v. v) xs) vs → length xs ≡ n
+array-is : (w : Width) (n : ℕ) (xs : List ℕ) (vs : List Val) → Is (Array (UInt w) n) xs vs → length xs ≡ n
 array-is w n xs vs g = search rules
 
 pub entries-is : (t : Entries) (vs : List Val) → Is (row E.the_type) t vs → EntriesLong t

@@ -1,8 +1,8 @@
 -- Every value of the types is `Typed`: an unsigned number has room in its octets, and an array is as long as its type says, with such numbers in it. Assumes nothing.
 use Prim.Native.Nat.{ℕ, ◌<◌, ◌≤◌, ◌^◌}
-use mathlib.Core.Path.{◌≡◌, refl, ap, subst}
+use mathlib.Core.Path.{◌≡◌, refl}
 use mathlib.Core.Bool.{true}
-use mathlib.Core.List.{List, [], ◌∷◌, ◌++◌, map}
+use mathlib.Core.List.{List, [], ◌∷◌, ◌++◌}
 use native.Mathlib.Omega.{arith}
 use lib.ListN.{length}
 use mir.Syntax.{Width, w8, w32, w64}
@@ -41,16 +41,10 @@ each-narrow w k e [] us s = tt
 each-narrow w k e (x ∷ xs) [] s = absurd s
 each-narrow w k e (x ∷ xs) (u ∷ us) s = (rw e at s.0.1, each-narrow w k e xs us s.1)
 
-itself : (xs : List ℕ) → map (λ v. v) xs ≡ xs
-itself [] = refl
-itself (x ∷ xs) = ap (λ (l : List ℕ). x ∷ l) (itself xs)
+array-full : (w : Width) (k n : ℕ) → 2 ^ bits w ≡ 256 ^ k → (xs : List ℕ) (vs : List Val) → Is (Array (UInt w) n) xs vs → (length xs ≡ n) × Narrow k xs
+array-full w k n e xs vs g = (g.1.0.1, each-narrow w k e xs g.0 g.1.1)
 
-array-full : (w : Width) (k n : ℕ) → 2 ^ bits w ≡ 256 ^ k → (xs : List ℕ) (vs : List Val) → Is (Array (UInt w) n) (map (λ v. v) xs) vs → (length xs ≡ n) × Narrow k xs
-array-full w k n e xs vs h =
-    let g : Is (Array (UInt w) n) xs vs = subst (λ (l : List ℕ). Is (Array (UInt w) n) l vs) (itself xs) h in
-    (g.1.0.1, each-narrow w k e xs g.0 g.1.1)
-
-octets-full : (n : ℕ) (xs : List ℕ) (vs : List Val) → Is (Array (UInt w8) n) (map (λ v. v) xs) vs → (length xs ≡ n) × Narrow 1 xs
+octets-full : (n : ℕ) (xs : List ℕ) (vs : List Val) → Is (Array (UInt w8) n) xs vs → (length xs ≡ n) × Narrow 1 xs
 octets-full n xs vs g = array-full w8 1 n refl xs vs g
 
 device-narrow : (d : Device) (vs : List Val) → Is (row D.the_type) d vs → Narrow 4 (device_words d) × Narrow 1 (device_octets d)

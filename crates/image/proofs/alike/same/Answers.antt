@@ -1,6 +1,5 @@
 -- The numbers decide, or the arrays do, column by column. Assumes nothing.
 use mathlib.Core.Path.{sym, ◌∙◌, ap₂}
-use borrow.Author.Tests.{not-true, not-false}
 use Rattle.record.specs.Tests.{both}
 use Rattle.image.specs.Same.{same_record, same_arrays, same_areas, same_card}
 use Rattle.image.proofs.Equal.{then-too}
@@ -12,7 +11,8 @@ returns-then-not-hot c = rw (sym c.hot.ensures ∙ c.if-not-hot.true)
 
 pub returns : goal.returns
 unfolding same_record same_arrays same_areas same_card
-returns c =     let entries = c.and-6.ensures ∙ ap₂ both c.entries_of-e0.ensures c.entries_of-e1.ensures in
+returns c =
+    let entries = c.and-6.ensures ∙ ap₂ both c.entries_of-e0.ensures c.entries_of-e1.ensures in
     let areas = c.and.ensures ∙ ap₂ both c.longs-roaming.ensures c.longs-regional.ensures in
     let gutis = c.and-2.ensures ∙ ap₂ both c.octets-guti0.ensures c.octets-guti1.ensures in
     let equivalents = c.and-3.ensures ∙ ap₂ both c.words-equivalents0.ensures c.words-equivalents1.ensures in

@@ -12,4 +12,4 @@ lay_octets-requires c = omega (arith, numbers-long 4 c.device_words-words.result
 
 pub returns : goal.returns
 unfolding column_octets device_columns
-returns c =     rw (← c.device_words-words.ensures, ← c.device_octets-octets.ensures, append-nil) (join (omega arith) c.lay_words-next.ensures c.lay_octets.ensures)
+returns c = rw (← c.device_words-words.ensures, ← c.device_octets-octets.ensures, append-nil) (join (omega arith) c.lay_words-next.ensures c.lay_octets.ensures)

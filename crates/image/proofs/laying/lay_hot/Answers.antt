@@ -13,10 +13,12 @@ pub lay_access-last-requires : goal.lay_access-last-requires
 lay_access-last-requires c = omega (arith, device-long c.args.h.dev)
 
 pub lay_access-requires : goal.lay_access-requires
-lay_access-requires c =     let a = c.args in
+lay_access-requires c =
+    let a = c.args in
     omega (arith, device-long a.h.dev, access-long a.h.a0)
 
 pub returns : goal.returns
 unfolding hot_columns
-returns c =     let h : c.args.at ≤ length c.args.buffer.now = omega (arith, c.requires) in
+returns c =
+    let h : c.args.at ≤ length c.args.buffer.now = omega (arith, c.requires) in
     simp (columns-append, ← append_assoc) (join h (join h c.lay_device-next.ensures c.lay_access-last.ensures) c.lay_access.ensures)

@@ -1,4 +1,3 @@
-use Prim.Native.Nat.{◌-◌}
 use native.Mathlib.Omega.{arith}
 use Rattle.image.proofs.Lays.{part_none, part-more, part-all}
 use borrow.Author.Rules.{rules}
@@ -7,12 +6,8 @@ use Rattle.image.proofs.laying.lay_longs.Goals as goal
 pub loop-i-init : goal.loop-i-init
 loop-i-init c = part_none
 
--- OLD loop-i-preserved c = part-more c.loop-i.invariant (omega arith) (search rules) c.lay-place.auto.0 c.lay-place.ensures
 pub loop-i-preserved : goal.loop-i-preserved
-loop-i-preserved c = ?
-
-pub shape_of-buffer : goal.shape_of-buffer
-shape_of-buffer c = c.loop-i.invariant.long
+loop-i-preserved c = part-more c.loop-i.invariant (omega arith) (search rules) c.lay-place.auto.buffer c.lay-place.ensures
 
 pub returns : goal.returns
 returns c = part-all c.loop-i.invariant (search rules)

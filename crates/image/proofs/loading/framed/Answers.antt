@@ -1,7 +1,7 @@
 -- What is whole is long enough to tell its version and its length. Assumes nothing.
 use mathlib.Core.Path.{sym, ◌∙◌}
 use native.Mathlib.Omega.{arith}
-use borrow.Author.Tests.{not-true, not-false, eq-eqb, ne_eqb}
+use borrow.Author.Tests.{eq-eqb, ne_eqb}
 use Rattle.image.specs.Image.{frame_of}
 use Rattle.image.proofs.Judged.{whole_long}
 use Rattle.image.proofs.loading.framed.Goals as goal

@@ -1,6 +1,5 @@
 -- A record that is not valid is not loaded. Assumes nothing.
 use mathlib.Core.Path.{sym, ap, ◌∙◌}
-use borrow.Author.Tests.{not-true, not-false}
 use Rattle.ranges.specs.Valid.{valid_of}
 use Rattle.image.specs.Image.{opened_of}
 use Rattle.image.proofs.loading.opened.Goals as goal

@@ -15,4 +15,4 @@ lay-requires c = omega (arith, numbers-long 1 mark, numbers-long 2 (1 ∷ image_
 
 pub returns : goal.returns
 unfolding column_octets head_columns
-returns c =     simp (column-one, append-nil, ← append_assoc) (join (omega arith) (join (omega arith) c.lay_octets-a.ensures c.lay_pairs-b.ensures) c.lay.ensures)
+returns c = simp (column-one, append-nil, ← append_assoc) (join (omega arith) (join (omega arith) c.lay_octets-a.ensures c.lay_pairs-b.ensures) c.lay.ensures)
