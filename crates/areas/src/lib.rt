@@ -1,5 +1,6 @@
 // A list of forty areas as numbers, the oldest first: twice the area, and one more where its mark is protected.
 #![tactic(auto)]
+
 ghost use Rattle.std.specs.Prelude.{◌≡◌, cond, [], ◌∷◌, ◌++◌, ◌≤◌, ◌<◌, ◌^◌, eqb, length, drop};
 ghost use Rattle.laws.specs.Upto.{seek_to};
 ghost use Rattle.areas.specs.Areas.{area_of, same_area, is_protected, areas_held, listed_in, marked, placed, placed_count, stayed, swept_list, list_after, count_after};

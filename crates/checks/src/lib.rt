@@ -1,5 +1,6 @@
 // Answers: each event's checks, in document 01's order.
 #![tactic(auto)]
+
 ghost use Rattle.std.specs.Prelude.{◌≡◌};
 ghost use Rattle.laws.specs.Upto.{every};
 ghost use Rattle.networks.specs.Networks.{networks_in};

@@ -1,6 +1,7 @@
 // Effects of a taken event: numbers, timers, work on the arrays, requests. Where an access's numbers are handed on whole they are asked for
 // afresh: a local that is used twice would be copied.
 #![tactic(auto)]
+
 use areas::Task;
 use entries::Deed;
 use messages::Accept;

@@ -9,7 +9,7 @@ use native.Mathlib.Omega.{arith}
 use lib.Dec.{ltb, leb, eqb}
 use lib.ListN.{length, get_or, set}
 use lib.Seq.{set-get_or}
-use borrow.Author.Tests.{ltb-true, ltb-false, lt-ltb, le-ltb, leb-false, lt-leb, eqb-true}
+use borrow.Author.Tests.{ltb-true, ltb-false, lt-ltb, leb-false, lt-leb, eqb-true}
 use Rattle.laws.specs.Upto.{seek_to}
 use Rattle.laws.proofs.Seek.{seek-le, seek_found, seek-added}
 use Rattle.entries.specs.declared.Entries.{Entries}

@@ -1,5 +1,6 @@
 // One access's sixteen network entries, as columns of numbers: searched, struck, lifted and cleared in place.
 #![tactic(auto)]
+
 ghost use Rattle.std.specs.Prelude.{◌≡◌, cond, [], ◌≤◌, replicate};
 ghost use Rattle.laws.specs.Bounds.{one_more};
 ghost use Rattle.laws.specs.Upto.{upto, seek_to};

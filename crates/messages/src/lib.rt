@@ -1,5 +1,6 @@
 // Messages from the network: the reading of an accept or a reject, and the calls for C firmware.
 #![tactic(auto)]
+
 ghost use Rattle.std.specs.Prelude.{◌≡◌, cond, false, ◌≤◌, get_or};
 ghost use Rattle.octets.specs.Element.{Elements, elements_from, first_of};
 ghost use Rattle.timers.specs.Timer.{span2_of};

@@ -1,5 +1,6 @@
 // A network from its three octets, and the place in a card's file that none stands in.
 #![tactic(auto)]
+
 ghost use Rattle.std.specs.Prelude.{◌≡◌, eqb};
 ghost use Rattle.networks.specs.Networks.{network_of, network_at, unused};
 

@@ -1,5 +1,6 @@
 // Optional elements of a message: the formats, one element at a place, the walker, and the first elements with given identifiers.
 #![tactic(auto)]
+
 ghost use Rattle.std.specs.Prelude.{◌≡◌, Bool, true, cond, ℕ, ◌<◌, ◌≤◌, length, get_or, drop};
 ghost use Rattle.octets.specs.Element.{Format, format_of, code_of, lead_by, contents_by, element_at, after_of, walked_at, Elements, elements_from, absent, wanted_of, gather_of};
 ghost use Rattle.octets.specs.Element.Elements.{over, element};

@@ -1,5 +1,6 @@
 // What makes a record valid: one that is not is answer 1.
 #![tactic(auto)]
+
 ghost use Rattle.std.specs.Prelude.{◌≡◌, [], ◌≤◌};
 ghost use Rattle.laws.specs.Upto.{all_to};
 ghost use Rattle.entries.specs.Entries.{entries_of};

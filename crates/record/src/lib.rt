@@ -1,5 +1,6 @@
 // The registration record: what document 01 holds, as numbers and arrays of numbers, so that any octets lent are a record.
 #![tactic(auto)]
+
 use entries::Entries;
 use octets::Fault;
 

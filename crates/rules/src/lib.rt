@@ -1,5 +1,6 @@
 // What an event is answered and what it plans: decided on the record's numbers, what stands about a network, and the message's reading.
 #![tactic(auto)]
+
 use effects::Work;
 use record::{Answer, Hot};
 use turns::{Clocks, Draws, Told};

@@ -1,5 +1,6 @@
 // The timer octets: GPRS timer 2 and GPRS timer 3, each read by its table.
 #![tactic(auto)]
+
 ghost use Rattle.std.specs.Prelude.{◌≡◌, ℕ, ◌≤◌, ◌<◌};
 ghost use Rattle.timers.specs.Timer.{row_at, span_in, span_for, timer2_rows, timer3_rows, span2_of, span3_of};
 

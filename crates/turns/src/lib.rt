@@ -1,5 +1,6 @@
 // What an event makes of one access's numbers and timers: the rows of document 01, each by its own words.
 #![tactic(auto)]
+
 use record::Access;
 
 mod flags;

@@ -4,5 +4,5 @@ use Rattle.areas.proofs.Ways.{listed_by}
 use Rattle.areas.proofs.listed.Goals as goal
 
 pub returns : goal.returns
-returns c =     let a = c.args in
+returns c = let a = c.args in
     listed_by (area_of a.net a.code) _ _ _ _ c.size-n.ensures.value (rw c.area.ensures.value at c.seek-at.ensures)

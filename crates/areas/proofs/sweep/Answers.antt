@@ -1,4 +1,3 @@
-use Prim.Native.Nat.{◌-◌}
 use mathlib.Core.Path.{◌≡◌, sym, ◌∙◌, refl}
 use native.Mathlib.Omega.{arith}
 use borrow.Author.Rules.{rules}
@@ -15,8 +14,8 @@ loop-i-preserved c =
     let l = c.loop-i in
     let s = c.is_protected.ensures in
     elim c.if-is_protected.branch [
-      then-is_protected w ↦ (search rules, omega (arith, w.j-is), kept_more is_protected _ l.i l.j l.list l.invariant.2 l.invariant.1 refl _ _ (sym s ∙ w.if-is_protected.true) w.j-is w.list-is)
-    | else-is_protected w ↦ (search rules, omega (arith, w.j-is), kept-skip is_protected _ l.i l.j l.list l.invariant.2 l.invariant.1 _ _ (sym s ∙ w.if-is_protected.false) w.j-is w.list-is)
+      | then-is_protected w ↦ (search rules, omega (arith, w.j-is), kept_more is_protected _ l.i l.j l.list l.invariant.2 l.invariant.1 refl _ _ (sym s ∙ w.if-is_protected.true) w.j-is w.list-is)
+      | else-is_protected w ↦ (search rules, omega (arith, w.j-is), kept-skip is_protected _ l.i l.j l.list l.invariant.2 l.invariant.1 _ _ (sym s ∙ w.if-is_protected.false) w.j-is w.list-is)
     ]
 
 pub returns : goal.returns

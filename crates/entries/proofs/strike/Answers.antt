@@ -5,11 +5,11 @@ use Rattle.entries.proofs.strike.Goals as goal
 
 pub returns : goal.returns
 unfolding banned
-returns c =     rw (
-      c.put_net.ensures,
-      c.raise.ensures,
-      c.put_when.ensures,
-      c.put.ensures,
-      c.put_when-2.ensures,
-    )
+returns c = rw (
+  c.put_net.ensures,
+  c.raise.ensures,
+  c.put_when.ensures,
+  c.put.ensures,
+  c.put_when-2.ensures,
+)
     (simp fresh)

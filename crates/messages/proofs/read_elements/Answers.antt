@@ -18,5 +18,5 @@ returns-in-Broken c = rw (← (gathered _ _ c.gather-g.ensures).0, c.in-Broken.i
 
 pub returns-in-Whole : goal.returns-in-Whole
 unfolding accepted_of ended_by
-returns-in-Whole c =     let e = gathered _ _ c.gather-g.ensures in
+returns-in-Whole c = let e = gathered _ _ c.gather-g.ensures in
     rw (← e.0, c.in-Whole.is, c.accepted.ensures _ e.1.0 e.1.1.0 e.1.1.1.0 e.1.1.1.1)

@@ -22,5 +22,5 @@ returns-in-Broken c = rw (lt-ltb _ _ c.if-msg-le3.false, ← (gathered _ _ c.gat
 
 pub returns-in-Whole : goal.returns-in-Whole
 unfolding reject_reading rejected_of ended_by
-returns-in-Whole c =     let e = gathered _ _ c.gather-g.ensures in
+returns-in-Whole c = let e = gathered _ _ c.gather-g.ensures in
     rw (lt-ltb _ _ c.if-msg-le3.false, ← e.0, c.in-Whole.is, c.rejected.ensures _ e.1)

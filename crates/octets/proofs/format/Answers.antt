@@ -19,5 +19,5 @@ right k x = eqb x (code_of (format_of k))
 
 pub returns : goal.returns
 unfolding codes right format_of code_of
-returns c =     eqb→eq (get_or codes c.wide.result 0) (code_of (format_of c.wide.result)) (at right codes tt c.wide.result (search rules))
+returns c = eqb→eq (get_or codes c.wide.result 0) (code_of (format_of c.wide.result)) (at right codes tt c.wide.result (search rules))
     ∙ ap (λ i. code_of (format_of i)) c.wide.ensures.0

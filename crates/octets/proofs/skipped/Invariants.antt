@@ -10,7 +10,7 @@ use Rattle.octets.specs.declared.Gathered.{Gathered}
 use Rattle.octets.proofs.skipped.Given as goal
 
 abbrev pub invariant-loop-at : goal.invariant-loop-at
-invariant-loop-at l =     (l.from ≤ l.at) × ((request : Bool) (f : Elements → Gathered) → ((i b n : ℕ) (l : Elements) → 128 ≤ i → f (element i b n l) ≡ f l) → f (elements_from request l.msg l.at) ≡ f (elements_from request l.msg l.from))
+invariant-loop-at l = (l.from ≤ l.at) × ((request : Bool) (f : Elements → Gathered) → ((i b n : ℕ) (l : Elements) → 128 ≤ i → f (element i b n l) ≡ f l) → f (elements_from request l.msg l.at) ≡ f (elements_from request l.msg l.from))
 
 abbrev pub decreases-loop-at : goal.decreases-loop-at
 decreases-loop-at l = length l.msg - l.at

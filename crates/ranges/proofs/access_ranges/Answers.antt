@@ -1,6 +1,5 @@
 -- The counts passed their test before the columns are read to them. Assumes nothing.
 use mathlib.Core.Path.{sym, ◌∙◌}
-use borrow.Author.Tests.{not-true, not-false}
 use Rattle.ranges.specs.Valid.{access_ranges}
 use Rattle.ranges.proofs.Bounds.{counts}
 use Rattle.ranges.proofs.access_ranges.Goals as goal

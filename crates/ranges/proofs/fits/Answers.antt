@@ -1,6 +1,5 @@
 -- The counts passed their tests before the columns are read to them, and each rule is told by the columns that it reads. Assumes nothing.
 use mathlib.Core.Path.{sym, ◌∙◌}
-use borrow.Author.Tests.{not-true, not-false}
 use Rattle.ranges.specs.Valid.{parts_record}
 use Rattle.ranges.proofs.Bounds.{lists, joined, bounded}
 use Rattle.ranges.proofs.Parts.{unfit-first, unfit, fit}

@@ -1,31 +1,23 @@
 -- Event by event, as the definition. Assumes nothing.
 use Prim.Native.Nat.{ℕ}
 use mathlib.Core.Path.{◌≡◌, refl}
-use mathlib.Core.List.{List, [], ◌∷◌}
-use types.Run.{OneOf, miss}
-use denote.Enum.Declared.{tag_of}
 use Rattle.rules.specs.declared.Event.{Event}
 use Rattle.rules.specs.declared.Event.TheVariants.{Card, Start, Message, Timer, Power, Key, Update, Import, Unknown}
-use Rattle.rules.specs.contracts.Event.{the_type}
 use Rattle.chronicle.specs.declared.State.{State}
 use Rattle.chronicle.specs.Acts.{moved_of}
 use Rattle.chronicle.proofs.acts.moved.Goals as goal
 
--- the tags of the others
-abbrev others : List ℕ
-others = 2 ∷ 3 ∷ 4 ∷ 5 ∷ 7 ∷ 8 ∷ []
-
-other : (x : State) (e : Event) → OneOf others (tag_of the_type e) → x ≡ moved_of e x
+other : (x : State) (e : Event) → ((a b : ℕ) → e ≡ Card a b → ⊥) → ((a b c d : ℕ) → e ≡ Start a b c d → ⊥) → ((a b c d f g : ℕ) → e ≡ Update a b c d f g → ⊥) → x ≡ moved_of e x
 unfolding moved_of
-other x (Card edition home) t = absurd (miss others 0 tt t)
-other x (Start b manual net code) t = absurd (miss others 1 tt t)
-other x (Message b protected draws) t = refl
-other x (Timer number b) t = refl
-other x Power t = refl
-other x (Key b set) t = refl
-other x (Update b regtype net code uplink sessions) t = absurd (miss others 6 tt t)
-other x Import t = refl
-other x Unknown t = refl
+other x (Card edition home) y z u = absurd (y edition home refl)
+other x (Start b manual net code) y z u = absurd (z b manual net code refl)
+other x (Message b protected draws) y z u = refl
+other x (Timer number b) y z u = refl
+other x Power y z u = refl
+other x (Key b set) y z u = refl
+other x (Update b regtype net code uplink sessions) y z u = absurd (u b regtype net code uplink sessions refl)
+other x Import y z u = refl
+other x Unknown y z u = refl
 
 pub returns-in-Card : goal.returns-in-Card
 unfolding moved_of
@@ -39,6 +31,5 @@ pub returns-in-Update : goal.returns-in-Update
 unfolding moved_of
 returns-in-Update c = rw c.in-Update.is c.settled-in-Update.ensures
 
--- OLD returns-in_default c = other c.args.x c.args.e c.in_default.in_default-own.keys4
 pub returns-in_default : goal.returns-in_default
-returns-in_default c = ?
+returns-in_default c = other c.args.x c.args.e c.in_default.not-Card c.in_default.not-Start c.in_default.not-Update

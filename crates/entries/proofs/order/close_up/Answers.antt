@@ -1,4 +1,3 @@
-use Prim.Native.Nat.{◌-◌}
 use mathlib.Core.Path.{◌≡◌}
 use Rattle.entries.specs.Order.{fallen}
 use Rattle.laws.proofs.Zip.{zip-none, zip-step}

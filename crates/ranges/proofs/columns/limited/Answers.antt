@@ -1,5 +1,3 @@
-use mathlib.Core.Bool.{true}
-use Prim.Native.Nat.{◌-◌}
 use borrow.Author.Rules.{rules}
 use borrow.Author.Tests.{le-leb, lt-leb}
 use Rattle.record.specs.Tests.{up_to}

@@ -1,8 +1,5 @@
 use mathlib.Core.Path.{sym, ◌∙◌}
-use mathlib.Core.Bool.{true}
-use Prim.Native.Nat.{◌-◌}
 use borrow.Author.Rules.{rules}
-use borrow.Author.Tests.{not-true, not-false}
 use Rattle.record.specs.Network.{is_network}
 use Rattle.laws.proofs.Tests.{all_none, all_more, all-ends, all-over}
 use Rattle.ranges.proofs.columns.networks.Goals as goal

@@ -17,5 +17,5 @@ together false d a x y = refl
 
 pub returns : goal.returns
 unfolding other_of hot_of
-returns c =     let start = c.args in
+returns c = let start = c.args in
     rw (c.one_of.ensures, c.one_of-2.ensures) (together (eqb start.w 0) start.dev start.a start.h.a0 start.h.a1)

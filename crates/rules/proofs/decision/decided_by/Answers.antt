@@ -12,18 +12,18 @@ entries_if-requires c i = import-fits _ _ _ (sym c.imports-import.ensures ∙ i)
 
 pub returns-then-taken : goal.returns-then-taken
 unfolding decided_by
-returns-then-taken c =     rw (
-      ← c.taken.ensures,
-      c.if-taken.true,
-      c.taken_plan.ensures,
-      c.import_effect-y.ensures,
-      c.entries_if.ensures,
-      c.effect_of-x.ensures,
-      c.imports-import.ensures,
-      c.access_in-w.ensures,
-      with-import _ _ _ c.args.e,
-      sorted,
-    )
+returns-then-taken c = rw (
+  ← c.taken.ensures,
+  c.if-taken.true,
+  c.taken_plan.ensures,
+  c.import_effect-y.ensures,
+  c.entries_if.ensures,
+  c.effect_of-x.ensures,
+  c.imports-import.ensures,
+  c.access_in-w.ensures,
+  with-import _ _ _ c.args.e,
+  sorted,
+)
 
 pub returns : goal.returns
 unfolding decided_by

@@ -12,6 +12,6 @@ use Rattle.rules.proofs.numbers.clock_taken.Goals as goal
 
 pub returns : goal.returns
 unfolding clock_effect turn_plan flag_after told_of ticked
-returns c =     let start = c.args in
+returns c = let start = c.args in
     rw (c.turn_reply-reply.ensures, c.hot_with-hot.ensures, c.idle-work.ensures, c.clocked.ensures, c.not.ensures, c.clock_turn-t.ensures, c.access_of.ensures)
     (turn-plan start.h start.w start.h.dev (clock_turn start.number (access_of start.h start.w)) Leave (flip (eqb start.number 1)))

@@ -11,6 +11,6 @@ use Rattle.rules.proofs.numbers.key_taken.Goals as goal
 
 pub returns : goal.returns
 unfolding key_effect turn_plan flag_after told_of ticked
-returns c =     let start = c.args in
+returns c = let start = c.args in
     rw (c.turn_reply-reply.ensures, c.hot_with-hot.ensures, c.idle-work.ensures, c.clocked.ensures, c.key_set-t.ensures, c.access_of.ensures)
     (turn-plan start.h start.w start.h.dev (key_set start.set (access_of start.h start.w)) Leave false)

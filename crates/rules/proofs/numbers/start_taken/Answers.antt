@@ -11,6 +11,6 @@ use Rattle.rules.proofs.numbers.start_taken.Goals as goal
 
 pub returns : goal.returns
 unfolding start_effect turn_plan flag_after told_of ticked
-returns c =     let start = c.args in
+returns c = let start = c.args in
     rw (c.turn_reply-reply.ensures, c.hot_with-hot.ensures, c.idle-work.ensures, c.clocked.ensures, c.started-t.ensures, c.access_of.ensures)
     (turn-plan start.h start.w start.h.dev (started start.net start.code (access_of start.h start.w)) Leave false)

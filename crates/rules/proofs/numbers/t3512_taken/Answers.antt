@@ -11,7 +11,7 @@ use Rattle.rules.proofs.numbers.t3512_taken.Goals as goal
 
 pub returns : goal.returns
 unfolding t3512_effect turn_plan flag_after
-returns c =     let start = c.args in
+returns c = let start = c.args in
     rw (
       c.turn_reply-reply.ensures,
       c.hot_with-hot.ensures,

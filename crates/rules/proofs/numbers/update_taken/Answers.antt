@@ -11,7 +11,7 @@ use Rattle.rules.proofs.numbers.update_taken.Goals as goal
 
 pub returns : goal.returns
 unfolding update_effect turn_plan
-returns c =     let start = c.args in
+returns c = let start = c.args in
     rw (
       c.turn_reply-reply.ensures,
       c.hot_with-hot.ensures,
