@@ -5,6 +5,5 @@ pub mod Laws
 pub mod Mask
 pub mod Taking
 pub mod Naming
-pub mod Noting
 pub mod Ranks
 pub mod Seeing

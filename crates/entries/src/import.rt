@@ -1,8 +1,8 @@
 // A card's file of forbidden networks: whether they all find an entry, and taking them in.
-ghost use Rattle.std.specs.Prelude.{◌≡◌, cond, ◌+◌, ◌≤◌, eqb};
-ghost use Rattle.laws.specs.Upto.{upto};
+ghost use Rattle.std.specs.Prelude.{◌≡◌, cond, ◌+◌, ◌≤◌};
+ghost use Rattle.networks.specs.Networks.{networks_in};
 ghost use Rattle.entries.specs.Places.{entries_held, has_entry, put_at};
-ghost use Rattle.entries.specs.Entries.{entries_of, grown, imported, file_taken, held_with, is_import};
+ghost use Rattle.entries.specs.Entries.{entries_of, grown, imported, is_filed, file_taken, held_with, is_import};
 ghost use Rattle.entries.specs.Order.{last_to};
 ghost use Rattle.entries.specs.Counting.{is_passed};
 
@@ -101,37 +101,34 @@ pub fn is_import(k: Deed) -> bool
     }
 }
 
-fn noted(here: bool, old: u8) -> u8
-    ensures { result ≡ cond here 1 old }
+fn names(file: &[u8], net: u32) -> bool
+    ensures { result ≡ is_filed net (networks_in file.now) }
 {
-    if here { 1 } else { old }
-}
-
-// Every place that holds the network: two entries may hold one. All sixteen, with no branch an element, so that they are compared side by side.
-fn name(net: u32, nets: &[u32; 16], named: &mut [u8; 16])
-    ensures { named.new ≡ upto (λ x y. cond (eqb net x) 1 y) 16 nets.now named.old }
-{
-    let mut i: usize = 0;
-    while i < 16 {
-        let old = named[i];
-        named[i] = noted(net == nets[i], old);
-        i += 1;
+    if is_unused(net) {
+        return false;
     }
+    let mut i: usize = 0;
+    while 2 < file.len() - i {
+        if network_at(file, i) == net {
+            return true;
+        }
+        i += 3;
+    }
+    false
 }
 
-// Those that are named come last in the order, one after the other from the first place on.
-fn settle(named: &[u8; 16], count: u8, ranks: &mut [u8; 16])
-    ensures { ranks.new ≡ last_to (λ m. eqb m 1) (entries_held count) (entries_held count) named.now ranks.old }
+// Those that the file names come last in the order, one after the other from the first place on.
+fn settle(file: &[u8], count: u8, nets: &[u32; 16], ranks: &mut [u8; 16])
+    ensures { ranks.new ≡ last_to (λ m. is_filed m (networks_in file.now)) (entries_held count) (entries_held count) nets.now ranks.old }
 {
     let n = size(count);
     let mut i: usize = 0;
     while i < n {
-        last_when(named[i] == 1, i, count, ranks);
+        last_when(names(file, nets[i]), i, count, ranks);
         i += 1;
     }
 }
 
-// One look over the file: which places it names is noted on the way.
 pub fn take_in(
     file: &[u8],
     count: u8,
@@ -144,7 +141,6 @@ pub fn take_in(
 )
     ensures { entries_of nets.new bans.new n1s.new forbidden.new barred.new ranks.new ≡ file_taken file.now count (entries_of nets.old bans.old n1s.old forbidden.old barred.old ranks.old) }
 {
-    let mut named = [0u8; 16];
     let mut n = count;
     let mut i: usize = 0;
     while 2 < file.len() - i {
@@ -154,7 +150,6 @@ pub fn take_in(
             continue;
         }
         n = admit(net, n, nets, bans, n1s, forbidden, barred, ranks);
-        name(net, nets, &mut named);
     }
-    settle(&named, n, ranks);
+    settle(file, n, nets, ranks);
 }

@@ -1,5 +1,6 @@
 // An event on the whole record: the core over lent columns and lists, what it leaves to keep, and the step by value.
 #![tactic(auto)]
+
 mod held;
 mod lent;
 mod value;

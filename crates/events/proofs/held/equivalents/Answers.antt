@@ -8,7 +8,7 @@ returns-in-Nothing c = rw c.in-Nothing.is
 
 pub returns-then-own : goal.returns-then-own
 unfolding equivalents_after
-returns-then-own c =     rw (c.in-Gift.is, c.if-own.true, ← c.fit15-n.ensures.value, ← c.tail.ensures)
+returns-then-own c = rw (c.in-Gift.is, c.if-own.true, ← c.fit15-n.ensures.value, ← c.tail.ensures)
     c.copy_equivalents.ensures
 
 pub returns-else-own : goal.returns-else-own

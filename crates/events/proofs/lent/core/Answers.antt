@@ -4,7 +4,7 @@ use Rattle.events.proofs.Whole.{core-law}
 use Rattle.events.proofs.lent.core.Goals as goal
 
 pub returns : goal.returns
-returns c =     core-law c.args.h c.args.e c.args.octets.now c.ask_of-q.result c.site_of.result c.see-s.result c.listing-l.result c.plan_of-p.result
+returns c = core-law c.args.h c.args.e c.args.octets.now c.ask_of-q.result c.site_of.result c.see-s.result c.listing-l.result c.plan_of-p.result
     c.deed_on-d0.result c.deed_on-d1.result
     (entries_of c.args.nets0.now c.args.bans0.now c.args.n1s0.now c.args.forbidden0.now c.args.barred0.now c.args.ranks0.now)
     (entries_of c.args.nets1.now c.args.bans1.now c.args.n1s1.now c.args.forbidden1.now c.args.barred1.now c.args.ranks1.now)

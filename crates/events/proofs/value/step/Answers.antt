@@ -9,6 +9,6 @@ use Rattle.events.proofs.value.step.Goals as goal
 
 pub returns : goal.returns
 unfolding together
-returns c =     step-law c.args.r c.sure-f.result c.args.octets.now c.core-d.result _ _ _ _ _ c.core-d.ensures c.keep.ensures
+returns c = step-law c.args.r c.sure-f.result c.args.octets.now c.core-d.result _ _ _ _ _ c.core-d.ensures c.keep.ensures
     ∙ ap (λ (f : Event). advance_of c.args.r f c.args.octets.now) c.sure-f.ensures
     ∙ sure_step c.args.r c.args.e c.args.octets.now c.fits-valid.result (c.fits-valid.ensures ∙ parts-valid c.args.r)

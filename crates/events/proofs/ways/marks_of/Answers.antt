@@ -11,7 +11,7 @@ returns-in-Nothing c octets ranks0 ranks1 = rw (c.in-Nothing.is, c.unseen.ensure
 
 pub returns-in-Network : goal.returns-in-Network
 unfolding seen_by sight_of
-returns-in-Network c octets ranks0 ranks1 =     let a = c.args in
+returns-in-Network c octets ranks0 ranks1 = let a = c.args in
     rw (c.in-Network.is, c.entry_of.ensures) (alike (eqb c.in-Network.access 0) a.h.a0.entries a.h.a1.entries c.in-Network.net a.nets0.now a.forbidden0.now a.barred0.now ranks0 a.nets1.now a.forbidden1.now a.barred1.now ranks1)
 
 pub returns-in-File : goal.returns-in-File

@@ -10,7 +10,7 @@ use Rattle.events.proofs.ways.worked.Goals as goal
 
 pub returns : goal.returns
 unfolding listed_of
-returns c i =     core-law c.args.h c.args.e c.args.octets.now c.ask_of-q.result site.Nothing c.see-s.result false c.work_plan-p.result
+returns c i = core-law c.args.h c.args.e c.args.octets.now c.ask_of-q.result site.Nothing c.see-s.result false c.work_plan-p.result
     c.deed_on-d0.result c.deed_on-d1.result
     (entries_of c.args.nets0.now c.args.bans0.now c.args.n1s0.now c.args.forbidden0.now c.args.barred0.now c.args.ranks0.now)
     (entries_of c.args.nets1.now c.args.bans1.now c.args.n1s1.now c.args.forbidden1.now c.args.barred1.now c.args.ranks1.now)
