@@ -1,5 +1,9 @@
 // What the arguments ask for: a network, an access, and whether after each event.
+ghost use Rattle.std.specs.Prelude.{◌≤◌};
+
 use messages::octet;
+use std::env::FillError;
+use std::rt::Env;
 
 // Not fit: no such form. What has the form may still be no network code or no access.
 #[derive(Clone, Copy)]
@@ -106,24 +110,31 @@ fn network(word: &[u8]) -> u32 {
     WRONG
 }
 
+// Puts an argument at the start of the word, and says how many octets it has: none where it is missing, and where it has more than eight.
+fn arg(rt: &impl Env, i: usize, word: &mut [u8; 8]) -> usize
+    ensures { result ≤ 8 }
+{
+    rt.arg(i, word).unwrap_or(0)
+}
+
 // A word of more than eight octets is none.
-fn net() -> u32 {
+fn net(rt: &impl Env) -> u32 {
     let mut word = [0u8; 8];
-    let n = os::arg(1, &mut word);
+    let n = arg(rt, 1, &mut word);
     network(&word[..n])
 }
 
-fn access() -> u8 {
+fn access(rt: &impl Env) -> u8 {
     let mut word = [0u8; 8];
-    if os::arg(2, &mut word) == 1 {
+    if arg(rt, 2, &mut word) == 1 {
         return decimal(word[0]);
     }
     NONE
 }
 
-fn is_each() -> bool {
+fn is_each(rt: &impl Env) -> bool {
     let mut word = [0u8; 8];
-    if os::arg(3, &mut word) != 4 {
+    if arg(rt, 3, &mut word) != 4 {
         return false;
     }
     if word[0] != b'e' {
@@ -138,31 +149,46 @@ fn is_each() -> bool {
     word[3] == b'h'
 }
 
+fn is_given(rt: &impl Env, i: usize) -> bool {
+    let mut word = [0u8; 8];
+    !matches!(rt.arg(i, &mut word), Err(FillError::NotPresent))
+}
+
+// How many arguments there are, or 5 where there are more.
+fn arg_count(rt: &impl Env) -> usize {
+    for i in 0..5 {
+        if !is_given(rt, i) {
+            return i;
+        }
+    }
+    5
+}
+
 // With the program's own name three words, or four with `each`.
-fn counted(each: bool) -> bool {
-    let count = os::arg_count();
+fn counted(rt: &impl Env, each: bool) -> bool {
+    let count = arg_count(rt);
     if count == 3 {
         return true;
     }
     if count == 4 { each } else { false }
 }
 
-fn is_fit(net: u32, access: u8, each: bool) -> bool {
+fn is_fit(rt: &impl Env, net: u32, access: u8, each: bool) -> bool {
     if net == WRONG {
         return false;
     }
     if access == NONE {
         return false;
     }
-    counted(each)
+    counted(rt, each)
 }
 
-pub(crate) fn asked() -> Question {
-    let net = net();
-    let access = access();
-    let each = is_each();
+pub(crate) fn asked(rt: &impl Env) -> Question {
+    let net = net(rt);
+    let access = access(rt);
+    let each = is_each(rt);
     Question {
-        fit: is_fit(net, access, each),
+        fit: is_fit(rt, net, access, each),
         net,
         access,
         each,

@@ -224,6 +224,7 @@ fn lines(
 
 // Written at once; false where it cannot be.
 pub(crate) fn block(
+    rt: &(impl Print + Eprint),
     q: Question,
     p: Point,
     log: &[u8],
@@ -232,5 +233,5 @@ pub(crate) fn block(
 ) -> bool {
     let mut out = [0u8; 1024];
     let n = lines(&mut out, q, p, log, starts, answers);
-    write(&out, n)
+    write(rt, &out, n)
 }

@@ -1,6 +1,6 @@
 // Text that is gathered for one write, and what an event is called.
 use crate::frames::{event, front, octets};
-use libc::{STDERR_FILENO, STDOUT_FILENO};
+use itoa::Buffer;
 use messages::octet;
 use rules::Event;
 
@@ -20,9 +20,8 @@ pub(crate) fn say(out: &mut [u8; 1024], put: usize, text: &[u8]) -> usize {
 }
 
 fn number(out: &mut [u8; 1024], put: usize, n: u64) -> usize {
-    let mut digits = [0u8; 20];
-    let k = io::decimal(n, &mut digits);
-    say(out, put, &digits[..k])
+    let mut digits = Buffer::new();
+    say(out, put, digits.format(n).as_bytes())
 }
 
 pub(crate) fn small(out: &mut [u8; 1024], put: usize, n: u8) -> usize {
@@ -34,11 +33,11 @@ pub(crate) fn large(out: &mut [u8; 1024], put: usize, n: usize) -> usize {
 }
 
 // False where it cannot be written.
-pub(crate) fn write(out: &[u8; 1024], n: usize) -> bool {
-    if io::write_all(STDOUT_FILENO, front(out, n)) {
+pub(crate) fn write(rt: &(impl Print + Eprint), out: &[u8; 1024], n: usize) -> bool {
+    if rt.write_all(front(out, n)).is_ok() {
         return true;
     }
-    io::write_all(STDERR_FILENO, b"explain: cannot write\n");
+    let _ = rt.eprintln("explain: cannot write");
     false
 }
 

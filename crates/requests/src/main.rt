@@ -1,60 +1,62 @@
 // Writes requests of records of each shape into buffers of different lengths, and prints the buffers.
 #![tactic(auto)]
+
 use sent::{length, lent, long, sent};
 use shapes::{bits, facts, fresh, made, message, short, varied};
+use std::io;
 
 mod sent;
 mod shapes;
 
-fn sucis() {
+fn sucis(rt: &impl Print) -> io::Result<()> {
     let mut s = short();
-    sent(made(s), 0, 19);
-    sent(made(s), 1, 24);
-    sent(made(s), 0, 18);
-    sent(made(s), 0, 0);
+    sent(rt, made(s), 0, 19)?;
+    sent(rt, made(s), 1, 24)?;
+    sent(rt, made(s), 0, 18)?;
+    sent(rt, made(s), 0, 0)?;
     s.suci = 64;
-    sent(made(s), 0, 80);
+    sent(rt, made(s), 0, 80)?;
     s.security = 8;
-    sent(made(s), 0, 80);
-    sent(made(s), 0, 79);
+    sent(rt, made(s), 0, 80)?;
+    sent(rt, made(s), 0, 79)?;
     s.capability = 13;
     s.visited = 1;
     s.ksi = 6;
-    sent(made(s), 0, 185);
-    sent(made(s), 0, 184);
+    sent(rt, made(s), 0, 185)?;
+    sent(rt, made(s), 0, 184)
 }
 
 // With room for the clear part, or for it and the container's lead, none of it is written.
-fn gutis() {
+fn gutis(rt: &impl Print) -> io::Result<()> {
     let mut s = short();
     s.guti0 = 1;
     s.visited = 1;
     s.ksi = 3;
-    sent(made(s), 0, 55);
-    sent(made(s), 0, 56);
-    sent(made(s), 1, 54);
-    sent(made(s), 0, 21);
-    sent(made(s), 0, 24);
+    sent(rt, made(s), 0, 55)?;
+    sent(rt, made(s), 0, 56)?;
+    sent(rt, made(s), 1, 54)?;
+    sent(rt, made(s), 0, 21)?;
+    sent(rt, made(s), 0, 24)?;
     s.guti1 = 1;
     s.ksi = 0;
     s.visited = 0;
     s.net = 0x00F220;
-    sent(made(s), 0, 48);
-    sent(made(s), 1, 48);
+    sent(rt, made(s), 0, 48)?;
+    sent(rt, made(s), 1, 48)?;
     s.net = 0x00F330;
-    sent(made(s), 0, 48);
-    sent(made(s), 1, 48);
+    sent(rt, made(s), 0, 48)?;
+    sent(rt, made(s), 1, 48)?;
     s.equivalents = 1;
-    sent(made(s), 0, 48);
-    sent(made(s), 1, 48);
+    sent(rt, made(s), 0, 48)?;
+    sent(rt, made(s), 1, 48)?;
     s.guti0 = 0;
-    sent(made(s), 0, 48);
+    sent(rt, made(s), 0, 48)?;
     s.ksi = 7;
-    sent(made(s), 1, 21);
+    sent(rt, made(s), 1, 21)
 }
 
 // A mobility update of session 5, then without uplink data; sessions 1, 8 and 15; none at all.
-fn updates() {
+fn updates(rt: &impl Print) -> io::Result<()> {
     let mut s = short();
     s.guti0 = 1;
     s.visited = 1;
@@ -62,114 +64,114 @@ fn updates() {
     s.regtype = 2;
     s.uplink = 0x0020;
     s.sessions = 0x0020;
-    sent(made(s), 0, 63);
-    sent(made(s), 1, 64);
-    sent(made(s), 0, 62);
+    sent(rt, made(s), 0, 63)?;
+    sent(rt, made(s), 1, 64)?;
+    sent(rt, made(s), 0, 62)?;
     s.uplink = 0;
-    sent(made(s), 0, 60);
+    sent(rt, made(s), 0, 60)?;
     s.regtype = 3;
     s.visited = 0;
     s.uplink = 0x0100;
     s.sessions = 0x8102;
-    sent(made(s), 0, 56);
+    sent(rt, made(s), 0, 56)?;
     s.uplink = 0;
     s.sessions = 0;
-    sent(made(s), 0, 52);
+    sent(rt, made(s), 0, 52)
 }
 
 // With ngKSI 7 an update shows neither status, and an initial registration never does; the longest request.
-fn bare() {
+fn bare(rt: &impl Print) -> io::Result<()> {
     let mut s = short();
     s.visited = 1;
     s.regtype = 3;
     s.uplink = 0x0020;
     s.sessions = 0x0020;
-    sent(made(s), 0, 19);
+    sent(rt, made(s), 0, 19)?;
     s.guti0 = 1;
     s.regtype = 2;
-    sent(made(s), 0, 22);
+    sent(rt, made(s), 0, 22)?;
     s.regtype = 1;
     s.ksi = 3;
-    sent(made(s), 0, 55);
+    sent(rt, made(s), 0, 55)?;
     s.guti0 = 0;
     s.suci = 64;
     s.capability = 13;
     s.security = 8;
     s.regtype = 2;
-    sent(made(s), 0, 193);
-    sent(made(s), 0, 192);
-    sent(made(s), 0, 200);
+    sent(rt, made(s), 0, 193)?;
+    sent(rt, made(s), 0, 192)?;
+    sent(rt, made(s), 0, 200)
 }
 
 // Types 0 and 4, and session 0.
-fn outside() {
+fn outside(rt: &impl Print) -> io::Result<()> {
     let mut s = short();
     s.regtype = 0;
-    sent(made(s), 0, 19);
+    sent(rt, made(s), 0, 19)?;
     s.regtype = 4;
-    sent(made(s), 0, 19);
+    sent(rt, made(s), 0, 19)?;
     s.regtype = 2;
     s.uplink = 1;
-    sent(made(s), 0, 19);
+    sent(rt, made(s), 0, 19)?;
     s.uplink = 0;
     s.sessions = 0x0021;
-    sent(made(s), 0, 19);
+    sent(rt, made(s), 0, 19)
 }
 
-fn refusals() {
+fn refusals(rt: &impl Print) -> io::Result<()> {
     let mut s = short();
-    sent(made(s), 2, 19);
+    sent(rt, made(s), 2, 19)?;
     s.ksi = 8;
-    sent(made(s), 0, 19);
-    sent(fresh(), 0, 19);
+    sent(rt, made(s), 0, 19)?;
+    sent(rt, fresh(), 0, 19)
 }
 
 // A router from 4G that holds both GUTIs, by edition 2: 77, 2B and 70 behind 2E, and in a container too; with each of them left out.
-fn mapped() {
+fn mapped(rt: &impl Print) -> io::Result<()> {
     let mut s = short();
     s.edition = 2;
     s.guti0 = 1;
     s.guti1 = 1;
     s.net = 0x00F220;
     s.visited = 1;
-    lent(made(s), 0, facts(15), 2, 43);
-    lent(made(s), 0, facts(15), 24, 65);
-    lent(made(s), 1, facts(15), 24, 66);
-    lent(made(s), 0, facts(15), 24, 64);
+    lent(rt, made(s), 0, facts(15), 2, 43)?;
+    lent(rt, made(s), 0, facts(15), 24, 65)?;
+    lent(rt, made(s), 1, facts(15), 24, 66)?;
+    lent(rt, made(s), 0, facts(15), 24, 64)?;
     s.ksi = 3;
-    lent(made(s), 0, facts(15), 24, 143);
-    lent(made(s), 0, facts(15), 24, 142);
-    lent(made(s), 1, facts(15), 300, 695);
-    lent(made(s), 0, facts(15), 0, 89);
+    lent(rt, made(s), 0, facts(15), 24, 143)?;
+    lent(rt, made(s), 0, facts(15), 24, 142)?;
+    lent(rt, made(s), 1, facts(15), 300, 695)?;
+    lent(rt, made(s), 0, facts(15), 0, 89)?;
     s.guti0 = 0;
     s.guti1 = 0;
-    lent(made(s), 0, facts(15), 24, 115);
-    lent(made(s), 0, facts(15), 0, 61);
+    lent(rt, made(s), 0, facts(15), 24, 115)?;
+    lent(rt, made(s), 0, facts(15), 0, 61)
 }
 
 // Without one of the facts, by edition 1, in an update, or by edition 3 with a GUTI that is not native, it is the request of before.
-fn unmapped() {
+fn unmapped(rt: &impl Print) -> io::Result<()> {
     let mut s = short();
     s.edition = 2;
-    lent(made(s), 0, facts(14), 24, 19);
-    lent(made(s), 0, facts(13), 24, 19);
-    lent(made(s), 0, facts(11), 24, 19);
-    lent(made(s), 0, facts(23), 24, 19);
-    lent(made(s), 0, facts(31), 24, 51);
+    lent(rt, made(s), 0, facts(14), 24, 19)?;
+    lent(rt, made(s), 0, facts(13), 24, 19)?;
+    lent(rt, made(s), 0, facts(11), 24, 19)?;
+    lent(rt, made(s), 0, facts(23), 24, 19)?;
+    lent(rt, made(s), 0, facts(31), 24, 51)?;
     s.edition = 1;
-    lent(made(s), 0, facts(31), 24, 19);
+    lent(rt, made(s), 0, facts(31), 24, 19)?;
     s.edition = 3;
-    lent(made(s), 0, facts(15), 24, 19);
-    lent(made(s), 0, facts(31), 24, 51);
-    lent(made(s), 1, facts(31), 24, 51);
+    lent(rt, made(s), 0, facts(15), 24, 19)?;
+    lent(rt, made(s), 0, facts(31), 24, 51)?;
+    lent(rt, made(s), 1, facts(31), 24, 51)?;
     s.regtype = 2;
-    lent(made(s), 0, facts(31), 24, 19);
+    lent(rt, made(s), 0, facts(31), 24, 19)?;
     s.regtype = 3;
-    lent(made(s), 1, facts(31), 24, 19);
+    lent(rt, made(s), 1, facts(31), 24, 19)
 }
 
 // The longest request, in a buffer of its length and in one that is too short; an attach message too long, used or not.
-fn longest() {
+fn longest(rt: &impl Print) -> io::Result<()> {
     let mut s = short();
     s.edition = 3;
     s.guti0 = 1;
@@ -177,50 +179,51 @@ fn longest() {
     s.security = 8;
     s.visited = 1;
     s.ksi = 0;
-    long(made(s), 65000, 130119);
-    long(made(s), 65000, 130118);
-    long(made(s), 65001, 130200);
+    long(rt, made(s), 65000, 130119)?;
+    long(rt, made(s), 65000, 130118)?;
+    long(rt, made(s), 65001, 130200)?;
     s.edition = 1;
-    long(made(s), 65001, 130200);
-    long(made(s), 65000, 130200);
+    long(rt, made(s), 65001, 130200)?;
+    long(rt, made(s), 65000, 130200)
 }
 
 // Editions 0 and 4.
-fn unknown() {
+fn unknown(rt: &impl Print) -> io::Result<()> {
     let mut s = short();
     s.edition = 0;
-    sent(made(s), 0, 19);
+    sent(rt, made(s), 0, 19)?;
     s.edition = 4;
-    sent(made(s), 0, 19);
+    sent(rt, made(s), 0, 19)
 }
 
 // In a buffer of just its length.
-fn one(i: u32) {
+fn one(rt: &impl Print, i: u32) -> io::Result<()> {
     let r = made(varied(i));
     let access = (i % 2) as u8;
     let s1 = facts(bits(i));
     let n = message(i);
-    lent(r, access, s1, n, length(r, access, s1, n));
+    lent(rt, r, access, s1, n, length(r, access, s1, n))
 }
 
-fn many() {
+fn many(rt: &impl Print) -> io::Result<()> {
     let mut i = 0;
     while i < 320 {
-        one(i);
+        one(rt, i)?;
         i += 1;
     }
+    Ok(())
 }
 
-fn main() {
-    sucis();
-    gutis();
-    updates();
-    bare();
-    refusals();
-    outside();
-    mapped();
-    unmapped();
-    unknown();
-    longest();
-    many();
+fn main(rt: HostRuntime) -> io::Result<()> {
+    sucis(&rt)?;
+    gutis(&rt)?;
+    updates(&rt)?;
+    bare(&rt)?;
+    refusals(&rt)?;
+    outside(&rt)?;
+    mapped(&rt)?;
+    unmapped(&rt)?;
+    unknown(&rt)?;
+    longest(&rt)?;
+    many(&rt)
 }
