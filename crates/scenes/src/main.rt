@@ -1,10 +1,11 @@
 // Prints the whole reply and the whole record after each event of the log on standard input, as the second program does with
 // `--full`: docs/src/full.rs says what stands on a line.
 #![tactic(auto)]
-ghost use Rattle.std.specs.Prelude.{◌<◌};
 
-use libc::STDOUT_FILENO;
+ghost use Rattle.std.specs.Prelude.{◌<◌, IfOk};
+
 use record::Record;
+use std::io::{self, BufReader, LineWriter, Read, Write};
 
 mod frames;
 mod show;
@@ -16,24 +17,23 @@ struct Turn {
     used: u64,
 }
 
-fn end(used: u64, at: u64) {
+fn end(out: &mut impl Write, used: u64, at: u64) -> io::Result<()> {
     if used == 1 {
-        io::write_all(STDOUT_FILENO, b"bad log at ");
-        io::print_decimal(STDOUT_FILENO, at);
-        io::write_all(STDOUT_FILENO, b"\n");
+        writeln!(out, "bad log at {at}")?;
     }
+    Ok(())
 }
 
-fn event(r: Record, number: u64, s: &[u8]) -> Record {
+fn event(out: &mut impl Write, r: Record, number: u64, s: &[u8]) -> io::Result<Record> {
     let kind = frames::kind(s);
     let body = events::tail(s, 2);
     let e = eventlog::event(kind, body);
     let o = events::step(r, e, eventlog::octets(kind, body));
     let p = o.reply;
     let next = o.next;
-    show::line(number, p, next);
-    show::full(p, next);
-    next
+    show::line(out, number, p, next)?;
+    show::full(out, p, next)?;
+    Ok(next)
 }
 
 fn wide(n: usize) -> u64
@@ -43,40 +43,43 @@ fn wide(n: usize) -> u64
     n as u64
 }
 
-fn one(r: Record, number: u64) -> Turn
-    ensures { result.used < 65538 }
+fn one(input: &mut impl Read, out: &mut impl Write, r: Record, number: u64) -> io::Result<Turn>
+    ensures { IfOk result (λ t. t.used < 65538) }
 {
-    let n = frames::head();
+    let n = frames::head(input)?;
     if n < 2 {
-        return Turn {
+        return Ok(Turn {
             next: r,
             used: wide(n),
-        };
+        });
     }
     let mut body = [0u8; 65536];
-    if frames::fill(&mut body, n) {
-        let next = event(r, number, &body[..n]);
-        return Turn {
+    if frames::fill(input, &mut body, n)? {
+        let next = event(out, r, number, &body[..n])?;
+        return Ok(Turn {
             next,
             used: wide(n) + 2,
-        };
+        });
     }
-    Turn { next: r, used: 1 }
+    Ok(Turn { next: r, used: 1 })
 }
 
 // Nothing says that the input ends, so the events are counted.
-fn main() {
+fn main(rt: HostRuntime) -> io::Result<()> {
+    let mut input = BufReader::new(rt.alloc(), rt.stdin())?;
+    let mut out = LineWriter::new(rt.alloc(), rt.stdout())?;
     let mut r = eventlog::first();
     let mut number: u64 = 1;
     let mut at: u64 = 0;
     while number < 100000 {
-        let t = one(r, number);
+        let t = one(&mut input, &mut out, r, number)?;
         if t.used < 2 {
-            end(t.used, at);
-            return;
+            end(&mut out, t.used, at)?;
+            break;
         }
         r = t.next;
         at += t.used;
         number += 1;
     }
+    out.flush()
 }

@@ -2,238 +2,242 @@
 ghost use Rattle.std.specs.Prelude.{◌≤◌};
 
 use entries::Entries;
-use libc::STDOUT_FILENO;
 use messages::octet;
 use record::{Access, Device, Record};
 use rules::{Asked, Reply};
+use std::io::{self, Write};
 use turns::{Clocks, Told};
 
-fn put(s: &[u8]) {
-    io::write_all(STDOUT_FILENO, s);
+fn put(out: &mut impl Write, s: &[u8]) -> io::Result<()> {
+    out.write_all(s)
 }
 
-fn number(n: u64) {
-    io::print_decimal(STDOUT_FILENO, n);
+fn number(out: &mut impl Write, n: u64) -> io::Result<()> {
+    write!(out, "{n}")
 }
 
-fn digits(n: u64, width: usize) {
-    io::print_hex(STDOUT_FILENO, n, width);
+fn digits(out: &mut impl Write, n: u64, width: usize) -> io::Result<()> {
+    write!(out, "{n:0width$x}")
 }
 
-fn field(name: &[u8], n: u64) {
-    put(name);
-    number(n);
+fn field(out: &mut impl Write, name: &[u8], n: u64) -> io::Result<()> {
+    put(out, name)?;
+    number(out, n)
 }
 
 // The cast stands here alone: beside a whole record its proof is dear.
-fn small(name: &[u8], n: u8) {
-    field(name, n as u64);
+fn small(out: &mut impl Write, name: &[u8], n: u8) -> io::Result<()> {
+    field(out, name, n as u64)
 }
 
-fn comma(i: usize) {
+fn comma(out: &mut impl Write, i: usize) -> io::Result<()> {
     if 0 < i {
-        put(b",");
+        put(out, b",")?;
     }
+    Ok(())
 }
 
-fn dash(n: usize) {
+fn dash(out: &mut impl Write, n: usize) -> io::Result<()> {
     if n == 0 {
-        put(b"-");
+        put(out, b"-")?;
     }
+    Ok(())
 }
 
-fn hex(s: &[u8], n: usize) {
-    dash(n);
+fn hex(out: &mut impl Write, s: &[u8], n: usize) -> io::Result<()> {
+    dash(out, n)?;
     let mut i = 0;
     while i < n {
-        digits(octet(s, i) as u64, 2);
+        digits(out, octet(s, i) as u64, 2)?;
         i += 1;
     }
+    Ok(())
 }
 
-fn told(t: Told) {
+fn told(out: &mut impl Write, t: Told) -> io::Result<()> {
     match t {
-        Told::Left => put(b" left"),
-        Told::Stopped => put(b" stopped"),
-        Told::Started(n) => field(b" started:", n as u64),
+        Told::Left => put(out, b" left"),
+        Told::Stopped => put(out, b" stopped"),
+        Told::Started(n) => field(out, b" started:", n as u64),
     }
 }
 
-fn asked(name: &[u8], a: Asked) {
-    put(name);
+fn asked(out: &mut impl Write, name: &[u8], a: Asked) -> io::Result<()> {
+    put(out, name)?;
     match a {
-        Asked::No => put(b"-"),
-        Asked::On(n) => number(n as u64),
+        Asked::No => put(out, b"-"),
+        Asked::On(n) => number(out, n as u64),
     }
 }
 
-fn clock(name: &[u8], a: Told, b: Told) {
-    put(name);
-    told(a);
-    told(b);
+fn clock(out: &mut impl Write, name: &[u8], a: Told, b: Told) -> io::Result<()> {
+    put(out, name)?;
+    told(out, a)?;
+    told(out, b)
 }
 
-fn clocks(a: Clocks, b: Clocks) {
+fn clocks(out: &mut impl Write, a: Clocks, b: Clocks) -> io::Result<()> {
     let first = a.t3510;
     let second = b.t3510;
-    clock(b" T3510", first, second);
+    clock(out, b" T3510", first, second)?;
     let third = a.t3511;
     let fourth = b.t3511;
-    clock(b" T3511", third, fourth);
+    clock(out, b" T3511", third, fourth)?;
     let fifth = a.t3502;
     let sixth = b.t3502;
-    clock(b" T3502", fifth, sixth);
+    clock(out, b" T3502", fifth, sixth)?;
     let seventh = a.t3346;
     let eighth = b.t3346;
-    clock(b" T3346", seventh, eighth);
+    clock(out, b" T3346", seventh, eighth)
 }
 
-fn answer(name: &[u8], r: Reply) {
+fn answer(out: &mut impl Write, name: &[u8], r: Reply) -> io::Result<()> {
     let a = r.answer;
-    small(name, record::number(a));
+    small(out, name, record::number(a))
 }
 
 // The octet at fault; 0 where no octet is.
-fn place(r: Reply) {
+fn place(out: &mut impl Write, r: Reply) -> io::Result<()> {
     let a = r.answer;
-    field(b" at ", record::offset(a) as u64);
+    field(out, b" at ", record::offset(a) as u64)
 }
 
-fn reply(r: Reply) {
-    answer(b"= ", r);
-    place(r);
+fn reply(out: &mut impl Write, r: Reply) -> io::Result<()> {
+    answer(out, b"= ", r)?;
+    place(out, r)?;
     let a = r.c0;
     let b = r.c1;
-    clocks(a, b);
-    put(b" T3247");
+    clocks(out, a, b)?;
+    put(out, b" T3247")?;
     let t = r.t3247;
-    told(t);
-    put(b" T3512");
+    told(out, t)?;
+    put(out, b" T3512")?;
     let u = r.t3512;
-    told(u);
+    told(out, u)?;
     let restart = r.restart;
-    asked(b" restart ", restart);
+    asked(out, b" restart ", restart)?;
     let leave = r.leave;
-    asked(b" leave ", leave);
+    asked(out, b" leave ", leave)?;
     let update = r.update;
-    asked(b" update ", update);
+    asked(out, b" update ", update)
 }
 
-fn mark(x: u64) {
+fn mark(out: &mut impl Write, x: u64) -> io::Result<()> {
     if x % 2 == 0 {
-        put(b":u");
+        put(out, b":u")
     } else {
-        put(b":p");
+        put(out, b":p")
     }
 }
 
-fn listed(x: u64) {
-    digits(x / 2, 12);
-    mark(x);
+fn listed(out: &mut impl Write, x: u64) -> io::Result<()> {
+    digits(out, x / 2, 12)?;
+    mark(out, x)
 }
 
-fn areas(name: &[u8], count: u8, list: [u64; 40]) {
-    put(name);
+fn areas(out: &mut impl Write, name: &[u8], count: u8, list: [u64; 40]) -> io::Result<()> {
+    put(out, name)?;
     let n = areas::size(count);
-    dash(n);
+    dash(out, n)?;
     let mut i = 0;
     while i < n {
-        comma(i);
-        listed(list[i]);
+        comma(out, i)?;
+        listed(out, list[i])?;
         i += 1;
     }
+    Ok(())
 }
 
-fn card(d: Device, suci: [u8; 64]) {
-    small(b" | card ", d.card);
-    put(b" home ");
-    digits(d.home as u64, 6);
-    put(b" suci ");
-    hex(&suci, d.suci as usize);
-    small(b" limits ", d.cardlimit);
-    small(b" ", d.banlimit);
-    small(b" ", d.n1limit);
+fn card(out: &mut impl Write, d: Device, suci: [u8; 64]) -> io::Result<()> {
+    small(out, b" | card ", d.card)?;
+    put(out, b" home ")?;
+    digits(out, d.home as u64, 6)?;
+    put(out, b" suci ")?;
+    hex(out, &suci, d.suci as usize)?;
+    small(out, b" limits ", d.cardlimit)?;
+    small(out, b" ", d.banlimit)?;
+    small(out, b" ", d.n1limit)
 }
 
-fn capability(n: u8, octets: [u8; 13]) {
-    put(b" cap ");
-    hex(&octets, n as usize);
+fn capability(out: &mut impl Write, n: u8, octets: [u8; 13]) -> io::Result<()> {
+    put(out, b" cap ")?;
+    hex(out, &octets, n as usize)
 }
 
-fn security(n: u8, octets: [u8; 8]) {
-    put(b" sec ");
-    hex(&octets, n as usize);
+fn security(out: &mut impl Write, n: u8, octets: [u8; 8]) -> io::Result<()> {
+    put(out, b" sec ")?;
+    hex(out, &octets, n as usize)
 }
 
-fn timers(d: Device) {
-    small(b" T3247 ", d.t3247);
-    small(b" T3512 ", d.t3512);
-    field(b" length ", d.t3512length as u64);
-    small(b" due ", d.due);
+fn timers(out: &mut impl Write, d: Device) -> io::Result<()> {
+    small(out, b" T3247 ", d.t3247)?;
+    small(out, b" T3512 ", d.t3512)?;
+    field(out, b" length ", d.t3512length as u64)?;
+    small(out, b" due ", d.due)
 }
 
-fn device(r: Record) {
+fn device(out: &mut impl Write, r: Record) -> io::Result<()> {
     let d = r.hot.dev;
     let suci = r.suci;
-    card(d, suci);
+    card(out, d, suci)?;
     let c = r.capability;
-    capability(d.capability, c);
+    capability(out, d.capability, c)?;
     let s = r.security;
-    security(d.security, s);
-    small(b" edition ", d.edition);
-    timers(d);
+    security(out, d.security, s)?;
+    small(out, b" edition ", d.edition)?;
+    timers(out, d)?;
     let roaming = r.roaming;
-    areas(b" roaming ", d.roaming, roaming);
+    areas(out, b" roaming ", d.roaming, roaming)?;
     let regional = r.regional;
-    areas(b" regional ", d.regional, regional);
+    areas(out, b" regional ", d.regional, regional)
 }
 
-fn mode(a: Access) {
-    small(b" state ", a.state);
-    small(b" status ", a.status);
-    small(b" attempts ", a.attempts);
-    small(b" T3510 ", a.t3510);
-    small(b" T3511 ", a.t3511);
-    small(b" T3502 ", a.t3502);
-    field(b" length ", a.t3502length as u64);
-    small(b" T3346 ", a.t3346);
+fn mode(out: &mut impl Write, a: Access) -> io::Result<()> {
+    small(out, b" state ", a.state)?;
+    small(out, b" status ", a.status)?;
+    small(out, b" attempts ", a.attempts)?;
+    small(out, b" T3510 ", a.t3510)?;
+    small(out, b" T3511 ", a.t3511)?;
+    small(out, b" T3502 ", a.t3502)?;
+    field(out, b" length ", a.t3502length as u64)?;
+    small(out, b" T3346 ", a.t3346)
 }
 
 // Two octets as they are sent, the low one first.
-fn pair(name: &[u8], n: u16) {
-    put(name);
-    digits((n % 256) as u64, 2);
-    digits((n / 256) as u64, 2);
+fn pair(out: &mut impl Write, name: &[u8], n: u16) -> io::Result<()> {
+    put(out, name)?;
+    digits(out, (n % 256) as u64, 2)?;
+    digits(out, (n / 256) as u64, 2)
 }
 
-fn pending(a: Access) {
-    put(b" pending ");
-    digits(a.net as u64, 6);
-    digits(a.code as u64, 6);
-    small(b" type ", a.regtype);
-    pair(b" uplink ", a.uplink);
-    pair(b" sessions ", a.sessions);
+fn pending(out: &mut impl Write, a: Access) -> io::Result<()> {
+    put(out, b" pending ")?;
+    digits(out, a.net as u64, 6)?;
+    digits(out, a.code as u64, 6)?;
+    small(out, b" type ", a.regtype)?;
+    pair(out, b" uplink ", a.uplink)?;
+    pair(out, b" sessions ", a.sessions)
 }
 
 fn ten(held: u8) -> usize {
     if held == 0 { 0 } else { 10 }
 }
 
-fn last(held: u8, net: u32, code: u32) {
-    put(b" last ");
+fn last(out: &mut impl Write, held: u8, net: u32, code: u32) -> io::Result<()> {
+    put(out, b" last ")?;
     if held == 0 {
-        put(b"-");
+        put(out, b"-")
     } else {
-        digits(net as u64, 6);
-        digits(code as u64, 6);
+        digits(out, net as u64, 6)?;
+        digits(out, code as u64, 6)
     }
 }
 
-fn identity(a: Access, guti: [u8; 10]) {
-    put(b" guti ");
-    hex(&guti, ten(a.guti));
-    last(a.visited, a.lastnet, a.lastcode);
-    small(b" ksi ", a.ksi);
+fn identity(out: &mut impl Write, a: Access, guti: [u8; 10]) -> io::Result<()> {
+    put(out, b" guti ")?;
+    hex(out, &guti, ten(a.guti))?;
+    last(out, a.visited, a.lastnet, a.lastcode)?;
+    small(out, b" ksi ", a.ksi)
 }
 
 fn fifteen(count: u8) -> usize
@@ -242,89 +246,107 @@ fn fifteen(count: u8) -> usize
     if count < 15 { count as usize } else { 15 }
 }
 
-fn equivalents(count: u8, list: [u32; 15]) {
-    put(b" equivalents ");
+fn equivalents(out: &mut impl Write, count: u8, list: [u32; 15]) -> io::Result<()> {
+    put(out, b" equivalents ")?;
     let n = fifteen(count);
-    dash(n);
+    dash(out, n)?;
     let mut i = 0;
     while i < n {
-        comma(i);
-        digits(list[i] as u64, 6);
+        comma(out, i)?;
+        digits(out, list[i] as u64, 6)?;
         i += 1;
     }
+    Ok(())
 }
 
-fn flag(x: u8, s: &[u8]) {
-    if x == 0 {
-        put(b"-");
-    } else {
-        put(s);
-    }
+fn flag(out: &mut impl Write, x: u8, s: &[u8]) -> io::Result<()> {
+    if x == 0 { put(out, b"-") } else { put(out, s) }
 }
 
-fn entry(net: u32, ban: u8, n1: u8, forbidden: u8, barred: u8) {
-    digits(net as u64, 6);
-    small(b":", ban);
-    small(b":", n1);
-    put(b":");
-    flag(forbidden, b"F");
-    flag(barred, b"N");
+fn entry(
+    out: &mut impl Write,
+    net: u32,
+    ban: u8,
+    n1: u8,
+    forbidden: u8,
+    barred: u8,
+) -> io::Result<()> {
+    digits(out, net as u64, 6)?;
+    small(out, b":", ban)?;
+    small(out, b":", n1)?;
+    put(out, b":")?;
+    flag(out, forbidden, b"F")?;
+    flag(out, barred, b"N")
 }
 
-fn table(count: u8, e: Entries) {
-    put(b" entries ");
+fn table(out: &mut impl Write, count: u8, e: Entries) -> io::Result<()> {
+    put(out, b" entries ")?;
     let n = entries::size(count);
-    dash(n);
+    dash(out, n)?;
     let mut i = 0;
     while i < n {
-        comma(i);
-        entry(e.nets[i], e.bans[i], e.n1s[i], e.forbidden[i], e.barred[i]);
+        comma(out, i)?;
+        entry(
+            out,
+            e.nets[i],
+            e.bans[i],
+            e.n1s[i],
+            e.forbidden[i],
+            e.barred[i],
+        )?;
         i += 1;
     }
+    Ok(())
 }
 
-fn access(a: Access, guti: [u8; 10], list: [u32; 15], e: Entries) {
-    mode(a);
-    pending(a);
-    identity(a, guti);
-    equivalents(a.equivalents, list);
-    small(b" cards ", a.cardcounter);
-    table(a.entries, e);
+fn access(
+    out: &mut impl Write,
+    a: Access,
+    guti: [u8; 10],
+    list: [u32; 15],
+    e: Entries,
+) -> io::Result<()> {
+    mode(out, a)?;
+    pending(out, a)?;
+    identity(out, a, guti)?;
+    equivalents(out, a.equivalents, list)?;
+    small(out, b" cards ", a.cardcounter)?;
+    table(out, a.entries, e)
 }
 
 // An event's own line: number, answer, both states, T3247.
-pub(crate) fn line(count: u64, p: Reply, r: Record) {
-    number(count);
-    answer(b" ", p);
+pub(crate) fn line(out: &mut impl Write, count: u64, p: Reply, r: Record) -> io::Result<()> {
+    number(out, count)?;
+    answer(out, b" ", p)?;
     let h = r.hot;
-    small(b" ", h.a0.state);
-    small(b" ", h.a1.state);
-    small(b" ", h.dev.t3247);
-    put(b"\n");
+    small(out, b" ", h.a0.state)?;
+    small(out, b" ", h.a1.state)?;
+    small(out, b" ", h.dev.t3247)?;
+    put(out, b"\n")
 }
 
-fn first(r: Record) {
-    put(b" | 0");
+fn first(out: &mut impl Write, r: Record) -> io::Result<()> {
+    put(out, b" | 0")?;
     let a = r.hot.a0;
     let guti = r.guti0;
     let list = r.equivalents0;
     let e = r.e0;
-    access(a, guti, list, e);
+    access(out, a, guti, list, e)
 }
 
-fn second(r: Record) {
-    put(b" | 1");
+fn second(out: &mut impl Write, r: Record) -> io::Result<()> {
+    put(out, b" | 1")?;
     let a = r.hot.a1;
     let guti = r.guti1;
     let list = r.equivalents1;
     let e = r.e1;
-    access(a, guti, list, e);
+    access(out, a, guti, list, e)
 }
 
-pub(crate) fn full(p: Reply, r: Record) {
-    reply(p);
-    device(r);
-    first(r);
-    second(r);
-    put(b"\n");
+pub(crate) fn full(out: &mut impl Write, p: Reply, r: Record) -> io::Result<()> {
+    reply(out, p)?;
+    device(out, r)?;
+    first(out, r)?;
+    second(out, r)?;
+    put(out, b"\n")
 }
