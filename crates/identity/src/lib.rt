@@ -1,5 +1,6 @@
 // The identity that a request opens with: a GUTI or the SUCI, handed back as a part of what held it, or a GUTI mapped from a 4G-GUTI, by value.
 #![tactic(auto)]
+
 ghost use Rattle.std.specs.Prelude.{◌≡◌, ◌≤◌, length, eqb};
 ghost use Rattle.laws.specs.Upto.{seek_to};
 ghost use Rattle.identity.specs.Identity.{guti_net, equivalents_held, is_among};

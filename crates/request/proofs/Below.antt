@@ -22,7 +22,6 @@ use Rattle.messages.proofs.Readings.{choice, opened-so}
 use Rattle.request.specs.Reading.{identity_in, head_of, is_request, filled_of, leading_of, guti_in, request_in, judged_of, cut_of}
 use Rattle.request.specs.Levels.{shifted_part, shifted_request, shifted, around_of, container_of, asked_by, message_by, too_deep, followed, read_to}
 use Rattle.request.specs.Reader.{elements_in, PartBelow, RequestBelow, Below}
-use Rattle.request.specs.declared.Request.{Request}
 use Rattle.request.specs.declared.Asking.{Asking}
 use Rattle.request.specs.declared.Asking.TheVariants as asking
 

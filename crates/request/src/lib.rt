@@ -1,5 +1,6 @@
 // The registration request: its writing and its reading.
 #![tactic(auto)]
+
 use octets::{Fault, Part};
 use record::Answer;
 

@@ -7,14 +7,14 @@ use Rattle.request.proofs.laying.level.Goals as goal
 
 pub front-from-requires : goal.front-from-requires
 unfolding saying_of
-front-from-requires c =     let a = c.args in
+front-from-requires c = let a = c.args in
     let p = c.requires in
     let long = parts-long a.regtype a.ksi a.part.now a.capability.now a.security.now a.last.now a.uplink.now a.sessions.now a.additional.now a.status.now a.attach.now in
     let n = lengths a.regtype a.ksi _ _ _ _ _ _ _ _ _ p.0 in
     (p.0.regtype, (p.0.ksi, (n.0, (omega arith, (omega arith, (omega arith, (omega arith, omega (arith, long))))))))
 
 pub rear-requires : goal.rear-requires
-rear-requires c =     let a = c.args in
+rear-requires c = let a = c.args in
     let p = c.requires in
     let long = parts-long a.regtype a.ksi a.part.now a.capability.now a.security.now a.last.now a.uplink.now a.sessions.now a.additional.now a.status.now a.attach.now in
     let n = lengths a.regtype a.ksi _ _ _ _ _ _ _ _ _ p.0 in

@@ -7,15 +7,15 @@ use borrow.Author.Rules.{rules}
 use Rattle.request.proofs.laying.rear.Goals as goal
 
 pub long-a-requires : goal.long-a-requires
-long-a-requires c =     let a = c.args in
+long-a-requires c = let a = c.args in
     (search rules, omega (arith, spread-rear a.additional.now a.status.now a.attach.now))
 
 pub short-b-requires : goal.short-b-requires
-short-b-requires c =     let a = c.args in
+short-b-requires c = let a = c.args in
     (search rules, omega (arith, spread-rear a.additional.now a.status.now a.attach.now))
 
 pub long-requires : goal.long-requires
-long-requires c =     let a = c.args in
+long-requires c = let a = c.args in
     (search rules, omega (arith, spread-rear a.additional.now a.status.now a.attach.now))
 
 pub returns : goal.returns

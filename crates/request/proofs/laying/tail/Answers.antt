@@ -7,15 +7,15 @@ use borrow.Author.Rules.{rules}
 use Rattle.request.proofs.laying.tail.Goals as goal
 
 pub plain-a-requires : goal.plain-a-requires
-plain-a-requires c =     let a = c.args in
+plain-a-requires c = let a = c.args in
     omega (arith, spread-tail a.last.now a.uplink.now a.sessions.now)
 
 pub short-b-requires : goal.short-b-requires
-short-b-requires c =     let a = c.args in
+short-b-requires c = let a = c.args in
     (search rules, omega (arith, spread-tail a.last.now a.uplink.now a.sessions.now))
 
 pub short-requires : goal.short-requires
-short-requires c =     let a = c.args in
+short-requires c = let a = c.args in
     (search rules, omega (arith, spread-tail a.last.now a.uplink.now a.sessions.now))
 
 pub returns : goal.returns

@@ -10,12 +10,12 @@ request_at-requires c = rw c.in-Request.is at c.requires
 
 pub overflow_add-result : goal.overflow_add-result
 unfolding Below
-overflow_add-result c =     let below = rw c.in-Bad.is at c.requires in
+overflow_add-result c = let below = rw c.in-Bad.is at c.requires in
     omega (arith, below, c.ranges.by)
 
 pub overflow_add-result-in-Deep : goal.overflow_add-result-in-Deep
 unfolding Below
-overflow_add-result-in-Deep c =     let below = rw c.in-Deep.is at c.requires in
+overflow_add-result-in-Deep c = let below = rw c.in-Deep.is at c.requires in
     omega (arith, below, c.ranges.by)
 
 pub returns-in-Request : goal.returns-in-Request

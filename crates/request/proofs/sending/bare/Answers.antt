@@ -6,7 +6,7 @@ use Rattle.request.proofs.Pieces.{long, clear-lengths, sent-short, sent-taken}
 use Rattle.request.proofs.sending.bare.Goals as goal
 
 pub clear_size-len-requires : goal.clear_size-len-requires
-clear_size-len-requires c =     let a = c.args in
+clear_size-len-requires c = let a = c.args in
     clear-lengths a.regtype a.ksi a.part.now [] a.security.now [] [] [] a.additional.now a.status.now a.attach.now c.requires
 
 pub returns-then-buffer-len : goal.returns-then-buffer-len
@@ -15,7 +15,7 @@ returns-then-buffer-len c =
     record { value = p.0; buffer_after = p.1 }
 
 pub clear-requires : goal.clear-requires
-clear-requires c =     let a = c.args in
+clear-requires c = let a = c.args in
     (c.requires, omega (arith, long a.regtype a.ksi a.part.now [] a.security.now [] [] [] a.additional.now a.status.now a.attach.now))
 
 pub returns : goal.returns

@@ -7,13 +7,13 @@ use Rattle.request.proofs.Pieces.{take_short, alone, composed, few}
 use Rattle.request.proofs.sending.send.Goals as goal
 
 pub slice_bounds-security-end : goal.slice_bounds-security-end
-slice_bounds-security-end c =     let p = c.requires in
+slice_bounds-security-end c = let p = c.requires in
     let f = few _ _ _ c.pieces-n.ensures p.capable p.secure in
     sym (length-take-le _ _ (omega arith))
 
 pub bare-requires : goal.bare-requires
 unfolding saying_of
-bare-requires c =     let a = c.args in
+bare-requires c = let a = c.args in
     let p = c.requires in
     let n = c.pieces-n.result in
     let f = few _ _ _ c.pieces-n.ensures p.capable p.secure in
@@ -38,43 +38,43 @@ returns-then-own-eq7 c =
     record { value = rw (← same) c.bare.ensures.value; buffer_after = rw (← same) c.bare.ensures.buffer_after }
 
 pub slice_bounds-enclose-end : goal.slice_bounds-enclose-end
-slice_bounds-enclose-end c =     let p = c.requires in
+slice_bounds-enclose-end c = let p = c.requires in
     let f = few _ _ _ c.pieces-n.ensures p.capable p.secure in
     sym (length-take-le _ _ (omega arith))
 
 pub slice_bounds-area-end : goal.slice_bounds-area-end
-slice_bounds-area-end c =     let p = c.requires in
+slice_bounds-area-end c = let p = c.requires in
     let f = few _ _ _ c.pieces-n.ensures p.capable p.secure in
     omega arith
 
 pub slice_bounds-enclose-end-2 : goal.slice_bounds-enclose-end-2
-slice_bounds-enclose-end-2 c =     let p = c.requires in
+slice_bounds-enclose-end-2 c = let p = c.requires in
     let f = few _ _ _ c.pieces-n.ensures p.capable p.secure in
     sym (length-take-le _ _ (omega arith))
 
 pub slice_bounds-uplink-end : goal.slice_bounds-uplink-end
-slice_bounds-uplink-end c =     let p = c.requires in
+slice_bounds-uplink-end c = let p = c.requires in
     let f = few _ _ _ c.pieces-n.ensures p.capable p.secure in
     omega arith
 
 pub slice_bounds-enclose-end-3 : goal.slice_bounds-enclose-end-3
-slice_bounds-enclose-end-3 c =     let p = c.requires in
+slice_bounds-enclose-end-3 c = let p = c.requires in
     let f = few _ _ _ c.pieces-n.ensures p.capable p.secure in
     sym (length-take-le _ _ (omega arith))
 
 pub slice_bounds-sessions-end : goal.slice_bounds-sessions-end
-slice_bounds-sessions-end c =     let p = c.requires in
+slice_bounds-sessions-end c = let p = c.requires in
     let f = few _ _ _ c.pieces-n.ensures p.capable p.secure in
     omega arith
 
 pub slice_bounds-enclose-end-4 : goal.slice_bounds-enclose-end-4
-slice_bounds-enclose-end-4 c =     let p = c.requires in
+slice_bounds-enclose-end-4 c = let p = c.requires in
     let f = few _ _ _ c.pieces-n.ensures p.capable p.secure in
     sym (length-take-le _ _ (omega arith))
 
 pub enclose-requires : goal.enclose-requires
 unfolding saying_of
-enclose-requires c =     let a = c.args in
+enclose-requires c = let a = c.args in
     let p = c.requires in
     let n = c.pieces-n.result in
     let f = few _ _ _ c.pieces-n.ensures p.capable p.secure in

@@ -14,7 +14,7 @@ pub slice_bounds-choose-end-2 : goal.slice_bounds-choose-end-2
 slice_bounds-choose-end-2 c = sym (length-take-le _ _ (omega (arith, c.unless-n.ensures.1, c.wide.ensures.0, c.known.ensures.0, c.requires.0)))
 
 pub identify-requires : goal.identify-requires
-identify-requires c =     let a = c.args in
+identify-requires c = let a = c.args in
     let p = c.requires in
     let n = take_short c.unless-n.result a.suci in
     record {

@@ -14,7 +14,7 @@ pub slice_bounds-send-end : goal.slice_bounds-send-end
 slice_bounds-send-end c = sym (length-take-le _ _ c.unless-m.ensures.1)
 
 pub send-requires : goal.send-requires
-send-requires c =     let a = c.args in
+send-requires c = let a = c.args in
     let p = c.requires in
     let short = one_of a.mapped (λ (l : List ℕ). length l ≤ 64) a.from4g.now a.best.now (λ e. p.from4g) p.identity in
     let few = one_of a.mapped (λ (l : List ℕ). length l ≤ 11) a.best.now [] p.additional (omega arith) in
