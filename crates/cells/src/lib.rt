@@ -1,5 +1,6 @@
 // Of the networks heard those that neither mark of an access bars, in the order heard, each once.
 #![tactic(auto)]
+
 ghost use Rattle.std.specs.Prelude.{◌≡◌, cond, ◌≤◌, eqb, length};
 ghost use Rattle.laws.specs.Upto.{over, all_to};
 ghost use Rattle.record.specs.Tests.{is_short};

@@ -1,5 +1,6 @@
 // Deadlines on one 32-bit millisecond clock that wraps (R-13): a table of ten timers beside the record, what a reply makes of it, which timer is due, and for how long nobody has to ask.
 #![tactic(auto)]
+
 mod arming;
 mod asking;
 mod slots;

@@ -1,5 +1,6 @@
 // The record and its deadlines as octets that outlive a power cut: a fixed layout with a version and a checksum, saved and loaded; and whether an event changed the record at all.
 #![tactic(auto)]
+
 use deadlines::Table;
 use record::Record;
 

@@ -1,5 +1,6 @@
 // An asking round (R-13): the due timers run out on the record, one after the other, each reply arms the table of deadlines, and all are handed out.
 #![tactic(auto)]
+
 use deadlines::Table;
 use record::{Answer, Hot, Record};
 

@@ -1,15 +1,15 @@
 -- What was written reads back as the networks that were marked: three octets are their network again, no network is FF FF FF, and FF to the end is none. Assumes nothing.
-use Prim.Native.Nat.{ℕ, zero, suc, ◌+◌, ◌*◌, ◌-◌, ◌/◌, ◌%◌, ◌≤◌, ◌<◌}
-use mathlib.Core.Path.{◌≡◌, refl, sym, ◌∙◌, ap}
-use mathlib.Core.Bool.{Bool, true, false, cond, false≢true}
+use Prim.Native.Nat.{ℕ, zero, suc, ◌*◌, ◌-◌, ◌/◌, ◌%◌, ◌≤◌, ◌<◌}
+use mathlib.Core.Path.{◌≡◌, refl, ◌∙◌, ap}
+use mathlib.Core.Bool.{Bool, true, false, false≢true}
 use mathlib.Core.List.{List, [], ◌∷◌, ◌++◌, append-nil}
 use native.Mathlib.Omega.{arith}
 use lib.Dec.{eqb}
 use lib.ListN.{length, replicate, length-append, length-replicate}
 use borrow.Author.Tests.{eqb-true, ltb-true}
 use Rattle.laws.specs.Upto.{every}
-use Rattle.networks.specs.Networks.{network_of, octets3, unused, used_by, networks_in, octets_of}
-use Rattle.record.specs.Tests.{both, either, is_short}
+use Rattle.networks.specs.Networks.{network_of, unused, networks_in, octets_of}
+use Rattle.record.specs.Tests.{is_short}
 use Rattle.record.specs.Network.{is_network}
 use Rattle.record.proofs.Bounds.{one, rest}
 use Rattle.usim.specs.Usim.{file_of}

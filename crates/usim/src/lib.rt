@@ -1,5 +1,6 @@
 // The networks that access 0 forbids, written as the card's file has them: three octets each, in entry order, then FF to the end.
 #![tactic(auto)]
+
 ghost use Rattle.std.specs.Prelude.{◌≡◌, [], ◌++◌, ◌+◌, ◌*◌, ◌-◌, ◌/◌, ◌%◌, ◌<◌, ◌≤◌, length, set, take, replicate};
 ghost use Rattle.laws.specs.Upto.{over};
 ghost use Rattle.networks.specs.Networks.{octets_of};

@@ -1,4 +1,4 @@
-use Rattle.std.proofs.Common.{◌-◌, true, rules, eq-eqb, ne_eqb}
+use Rattle.std.proofs.Common.{rules, eq-eqb, ne_eqb}
 use Rattle.deadlines.proofs.Heeding.{same_none, same_more, same_ends, same_over}
 use Rattle.deadlines.proofs.arming.same.Goals as goal
 

@@ -1,4 +1,4 @@
-use Rattle.std.proofs.Common.{◌≡◌, ◌-◌, arith, rules}
+use Rattle.std.proofs.Common.{◌≡◌, arith, rules}
 use Rattle.deadlines.proofs.Loops.{best_none, best-step}
 use Rattle.deadlines.proofs.asking.furthest.Goals as goal
 

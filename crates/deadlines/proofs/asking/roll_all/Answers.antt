@@ -1,4 +1,4 @@
-use Rattle.std.proofs.Common.{◌≡◌, ◌-◌, arith, rules}
+use Rattle.std.proofs.Common.{◌≡◌, arith, rules}
 use Rattle.deadlines.proofs.Loops.{roll-none, roll-step}
 use Rattle.deadlines.proofs.asking.roll_all.Goals as goal
 

@@ -1,4 +1,4 @@
-use Rattle.std.proofs.Common.{◌≡◌, ◌-◌, arith, rules}
+use Rattle.std.proofs.Common.{◌≡◌, arith, rules}
 use Rattle.deadlines.proofs.Loops.{wait-none, wait-step}
 use Rattle.deadlines.proofs.waiting.wait.Goals as goal
 
