@@ -22,7 +22,7 @@ use Rattle.rules.specs.declared.Event.{Event}
 use Rattle.rules.specs.declared.Event.TheVariants.{Card, Start, Message, Timer, Power, Key, Update, Import, Unknown}
 use Rattle.record.specs.Sides.{access_of}
 use Rattle.checks.specs.Answers.{row_now, read_answer, runs}
-use Rattle.effects.specs.Effects.{plain, start_effect, update_effect, key_effect, clock_effect, t3247_effect, t3512_effect, device_effect, timer_effect}
+use Rattle.effects.specs.Effects.{start_effect, update_effect, key_effect, clock_effect, t3247_effect, t3512_effect, device_effect, timer_effect}
 use Rattle.rules.specs.Plan.{ask_of, access_in, answer_of, message_effect, effect_of, taken_plan}
 use Rattle.events.specs.Parts.{file_seen, seen_by, seen_of}
 use Rattle.events.specs.Step.{advance_of, step_of}

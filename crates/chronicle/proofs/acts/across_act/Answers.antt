@@ -1,5 +1,5 @@
 -- The tests are the definition's, in its order. Assumes nothing.
-use borrow.Author.Tests.{eq-eqb, ne_eqb, not-true, not-false}
+use borrow.Author.Tests.{eq-eqb, ne_eqb}
 use Rattle.chronicle.specs.Acts.{across_act}
 use Rattle.chronicle.proofs.acts.across_act.Goals as goal
 

@@ -1,4 +1,4 @@
-use Prim.Native.Nat.{◌+◌, ◌-◌}
+use Prim.Native.Nat.{◌+◌}
 use mathlib.Core.Path.{refl}
 use borrow.Author.Rules.{rules}
 use native.Mathlib.Omega.{arith}
@@ -10,7 +10,7 @@ pub loop-i-init : goal.loop-i-init
 loop-i-init c = (search rules, search rules, refl)
 
 pub returns-then-k-gt16 : goal.returns-then-k-gt16
-returns-then-k-gt16 c =     enrol-full _ _ (places_of _ c.join-k.result) (c.loop-i.i + 3)
+returns-then-k-gt16 c = enrol-full _ _ (places_of _ c.join-k.result) (c.loop-i.i + 3)
     (enrol-next _ _ (places_of c.loop-i.nets c.loop-i.k) c.loop-i.i c.loop-i.invariant.2 c.loop-i.invariant.1 (omega arith) _ c.network_at.ensures (places_of _ c.join-k.result) c.join-k.ensures.result_after)
     c.if-k-gt16.true
 
