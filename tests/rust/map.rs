@@ -25,8 +25,10 @@ fn graph(text: &str) -> Result<Graph, String> {
         if line.is_empty() {
             continue;
         }
-        let (name, rest) = line.split_once(':').ok_or(format!("line {}: no `:`", at + 1))?;
-        crates.insert(name.trim().into(), rest.split_whitespace().map(String::from).collect());
+        // Behind the name may stand its kind, as `staticlib`.
+        let (head, rest) = line.split_once(':').ok_or(format!("line {}: no `:`", at + 1))?;
+        let name = head.split_whitespace().next().ok_or(format!("line {}: no name", at + 1))?;
+        crates.insert(name.into(), rest.split_whitespace().map(String::from).collect());
     }
     Ok(crates)
 }
