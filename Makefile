@@ -32,8 +32,9 @@ examples := $(sort $(wildcard examples/*.txt examples/*.c examples/*.out))
 worked := tests/c/device.c $(addprefix tools/,answers.sh replay.sh cells requests scenario timeline) $(addprefix tests/rust/,requests.rs scenario.rs timeline.rs) \
     $(filter-out docs/src/tests.rs,$(sort $(wildcard docs/src/*.rs)))
 
-sources := crates.txt $(shell find crates -name must-fail -prune -o -type f -print)
+sources := crates.txt $(shell find crates \( -name must-fail -o -path 'crates/*/out' \) -prune -o -type f -print)
 library = build/archives/$(TARGET)/libfirmware.a
+regrun = crates/regrun/out/regrun
 program = $(if $(filter x86-64,$(TARGET)),$(bindir)/regrun $(mandir)/man1/regrun.1)
 installed = $(includedir)/tjernfaug.h $(libdir)/libtjernfaug.a $(libdir)/pkgconfig/tjernfaug.pc $(program) $(addprefix $(docdir)/,$(pages) $(examples))
 # Folders that are this package's, the inner ones first.
@@ -43,14 +44,14 @@ own = $(addprefix $(docdir),/docs/landings /docs/pictures /docs /examples) $(doc
 below = $(patsubst $(PREFIX)/%,$${prefix}/%,$(1))
 filled = sed 's|@VERSION@|$(version)|; s|@DATE@|$(date)|; s|@PREFIX@|$(PREFIX)|; s|@INCLUDEDIR@|$(call below,$(includedir))|; s|@LIBDIR@|$(call below,$(libdir))|'
 
-all: $(library) target/bin/regrun ## proves and makes the library and regrun, which takes minutes the first time
+all: $(library) $(regrun) ## proves and makes the library and regrun, which takes long the first time
 	@echo "make: tjernfaug $(version): $^"
 
 build/archives/%/libfirmware.a: $(sources) tools/archive tools/kit.sh
 	tools/archive $*
 
-target/bin/regrun: $(sources)
-	rt check regrun
+$(regrun): $(sources)
+	tools/program regrun
 	touch $@
 
 # In this tree the library has its crate's name, as the kit gives it. Among a system's libraries that would say nothing: there it has the name of its header and package, for -ltjernfaug.
@@ -60,7 +61,7 @@ install: all ## puts header, library, regrun and pages below DESTDIR and PREFIX
 	$(INSTALL_DATA) $(library) $(DESTDIR)$(libdir)/libtjernfaug.a
 	$(filled) tools/tjernfaug.pc.in | $(INSTALL_DATA) /dev/stdin $(DESTDIR)$(libdir)/pkgconfig/tjernfaug.pc
 ifneq ($(program),)
-	$(INSTALL_PROGRAM) target/bin/regrun $(DESTDIR)$(bindir)/regrun
+	$(INSTALL_PROGRAM) $(regrun) $(DESTDIR)$(bindir)/regrun
 	$(filled) docs/regrun.1.in | $(INSTALL_DATA) /dev/stdin $(DESTDIR)$(mandir)/man1/regrun.1
 endif
 	@for file in $(pages) $(examples); do $(INSTALL_DATA) $$file $(DESTDIR)$(docdir)/$$file; done
@@ -76,11 +77,11 @@ stage = build/dist/tjernfaug-$(version)
 time = $(or $(SOURCE_DATE_EPOCH),$(shell git log -1 --format=%ct 2>/dev/null || date -u -d $(date) +%s))
 
 # Names sorted, one time, no owner: the same sources and the same kit make the same octets.
-dist: $(libraries) target/bin/regrun ## makes the archive that a router team takes, build/dist/tjernfaug-VERSION.tar.gz
+dist: $(libraries) $(regrun) ## makes the archive that a router team takes, build/dist/tjernfaug-VERSION.tar.gz
 	@rm -rf $(stage)
 	@mkdir -p $(addprefix $(stage)/,bin $(addprefix lib/,$(targets)))
 	@cp --parents include/tjernfaug.h $(pages) $(examples) $(worked) $(stage)
-	@cp target/bin/regrun $(stage)/bin
+	@cp $(regrun) $(stage)/bin
 	@for target in $(targets); do cp build/archives/$$target/libfirmware.a $(stage)/lib/$$target; done
 	@$(filled) docs/regrun.1.in >$(stage)/docs/regrun.1
 	@cd $(stage) && find . -type f ! -name SHA256SUMS -printf '%P\0' | LC_ALL=C sort -z | xargs -0 sha256sum >SHA256SUMS

@@ -1,6 +1,6 @@
 /*
  * The registration record for C firmware.
- * libfirmware.a has all calls: `rt staticlib firmware` writes it to target/staticlib for x86-64, `tools/archive` makes it for other processors.
+ * libfirmware.a has all calls: `tools/archive` makes it for x86-64 and other processors.
  *
  * What holds for every call: each pointer is valid, aligned for its type, and not null, also where its length is 0: the library takes it so, by its language's rules, and does not test it.
  * The storage behind a pointer that is not const overlaps no other argument. All of it is used during the call only, and nothing is kept.

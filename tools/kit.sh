@@ -1,49 +1,103 @@
-# What stands behind `rt`, for the scripts that source it, from bash or sh: the kit's folder ($kit), its tools for this machine ($tools), and what it hands its compiler.
-machine=$(uname -m)
-kit=${RATTLE_HOME:-$(dirname "$(dirname "$(readlink -f "$(command -v rt)")")")}
-tools=$kit/on/$machine/toolchain
+# What stands behind `rt`, for the scripts that source it, from the repository's root: the kit's folder ($kit), its compiler's ($tools), what the last `rt ci` left here, and what the kit
+# hands its compiler.
+kit=$(dirname "$(dirname "$(readlink -f "$(command -v rt)")")")
+tools=$kit/toolchain
 
-# shadow DIR ROOM: a shadow of the kit, by links, but for its compiler: that one leaves in ROOM the module that it is to optimize, and its words, and goes on.
+# sources: all that is proved and made here, as one number: every file of the crates that a check or a run reads, and of the kit its name, prover and compiler.
+sources() {
+    {
+        cat "$kit/KIT-ID"
+        stat -L -c '%n %s %Y' "$kit/bin/rattle" "$tools/bin/clang"
+        cat HANDLES 2>/dev/null || true
+        find crates.txt crates \( -name must-fail -o -path 'crates/*/out' \) -prune -o -type f -print0 | sort -z | xargs -0 sha256sum
+    } | sha256sum
+}
+
+# passed: the last rt ci that .ci/run ran here passed these very sources. So what it built of them, which rt leaves in crates/*/out, is what a test can take; it has no stamp there, as what
+# rt's other commands build has.
+passed() { [ "$(cat build/passed 2>/dev/null)" = "$(sources)" ]; }
+
+# uses NAME: what a crate names in crates.txt. below NAME: the crates of this tree that it stands on, each once.
+uses() { sed 's/#.*//' crates.txt | awk -F : -v name="$1" '{ split($1, head, " ") } head[1] == name { print $2 }'; }
+below() {
+    sed 's/#.*//' crates.txt | awk -F : -v top="$1" '
+        { split($1, head, " "); uses[head[1]] = $2 }
+        function walk(name, used, count, i) {
+            count = split(uses[name], used, " ")
+            for (i = 1; i <= count; i++) if (used[i] in uses && !(used[i] in seen)) { seen[used[i]]; print used[i]; walk(used[i]) }
+        }
+        END { walk(top) }'
+}
+
+# libraries NAME: those below a crate stand in their out/, of these sources: rt ci left them all, or else rt makes them, which takes long where it has kept nothing.
+libraries() {
+    local name left=1
+    for name in $(below "$1"); do
+        if [ -e "crates/$name/out/rlib/stamp" ] || [ ! -d "crates/$name/out/rlib/$name.rlib" ]; then left=0; fi
+    done
+    if [ "$left" = 1 ] && passed; then return; fi
+    (cd "crates/$1" && rt check)
+}
+
+# shadow DIR ROOM: a shadow of the kit's compiler, by links, but for clang: that one leaves in ROOM what it compiles to an object at last, and its words, and goes on.
 shadow() {
-    mkdir -p "$1/on/$machine/toolchain/bin"
-    cat >"$1/on/$machine/toolchain/bin/clang" <<END
+    local file
+    mkdir -p "$1/bin"
+    cat >"$1/bin/clang" <<SCRIPT
 #!/bin/sh
-case " \$* " in *' -O3 '*) cp module.bc "$2/module.bc" && printf '%s\n' "\$@" >"$2/words" || exit 1 ;; esac
+case " \$* " in *' -c '*)
+    before=
+    for word; do
+        [ "\$before" != ir ] || cp "\$word" "$2" || exit 1
+        before=\$word
+    done
+    printf '%s\n' "\$@" >"$2/words" ;;
+esac
 exec "$tools/bin/clang" "\$@"
-END
-    chmod +x "$1/on/$machine/toolchain/bin/clang"
-    for part in . on "on/$machine" "on/$machine/toolchain" "on/$machine/toolchain/bin"; do
-        for file in "$kit/$part"/*; do
-            [ -e "$1/$part/${file##*/}" ] || ln -s "$file" "$1/$part/${file##*/}"
-        done
+SCRIPT
+    chmod +x "$1/bin/clang"
+    for file in "$tools"/* "$tools"/bin/*; do
+        [ -e "$1/${file#"$tools"/}" ] || ln -s "$file" "$1/${file#"$tools"/}"
     done
 }
 
-# handed ROOM WORDS..: runs rt with these words, so that ROOM has module.bc and words; what rt says goes to ROOM/said, and is shown if it fails.
+# handed ROOM NAME [WORDS]: has rattle prove a crate and build it with these words, so that ROOM has what the compiler compiled, its words, and what came of it (made); what rattle says goes
+# to ROOM/said, and is shown if it fails. build/kept has what the next proof of the crate here begins with.
 handed() {
-    room=$1
-    shift
-    shadow "$room/kit" "$room"
-    RATTLE_HOME=$room/kit rt "$@" >"$room/said" 2>&1 || { cat "$room/said" >&2; return 1; }
-    rm -rf "$room/kit"
-    [ -s "$room/module.bc" ] || { echo "rt $*: the kit handed its compiler no module to optimize" >&2; return 1; }
+    local room=$1 name=$2 used words=(src/lib.rt)
+    shift 2
+    [ -e "crates/$name/src/lib.rt" ] || words=(src/main.rt)
+    libraries "$name" >"$room/said" 2>&1 || { cat "$room/said" >&2; return 1; }
+    words+=(--crate-name "$name" --extern "std=$kit/rlibs/std.rlib" -L "dependency=$kit/rlibs")
+    for used in $(uses "$name"); do
+        if [ -d "crates/$used" ]; then words+=(--extern "$used=../$used/out/rlib/$used.rlib"); else words+=(--extern "$used=$kit/rlibs/$used.rlib"); fi
+    done
+    for used in $(below "$name"); do words+=(-L "dependency=../$used/out/rlib"); done
+    words+=(--antt-project "$kit/rattle/logic/antt-project.json" --logic-built "$kit/logic_built" --incremental "$PWD/build/kept/$name" --jobs 2)
+    mkdir -p "build/kept/$name"
+    shadow "$room/shadow" "$room"
+    (cd "crates/$name" && "$kit/bin/rattle" build "${words[@]}" "$@" --toolchain "$room/shadow" -o "$room/made") >"$room/said" 2>&1 || { cat "$room/said" >&2; return 1; }
+    rm -rf "$room/shadow"
+    [ -s "$room/words" ] || { echo "rattle build $name: the kit handed its compiler nothing to compile" >&2; return 1; }
 }
 
-# named TARGET: the words that name a board's processor to the compiler; those for x86-64 are the kit's own. Of armv7 it is the least with hard float: not every board has vectors.
+# named TARGET: the words that name to the compiler a processor that the kit does not build for. Of armv7 it is the least with hard float: not every board has vectors.
 named() {
     case $1 in
-        x86-64) echo '--target=x86_64-unknown-linux-gnu -march=x86-64' ;;
-        aarch64 | riscv64) echo "--target=$1-unknown-linux-gnu" ;;
+        x86-64 | aarch64) ;;
+        riscv64) echo '--target=riscv64-unknown-linux-gnu' ;;
         armv7) echo '--target=armv7-unknown-linux-gnueabihf -mfpu=vfpv3-d16' ;;
         *) return 1 ;;
     esac
 }
 
-# compiled ROOM TARGET [WORDS]: ROOM/module.o, the module by the kit's compiler and words, but for those that name the processor. The module names x86-64 too, and its functions do, which
-# the compiler passes over and says so: what it says is in ROOM/said, and is shown if it fails.
+# compiled ROOM TARGET [WORDS]: ROOM/module.o, what the compiler was handed by its words, but for those that name the processor where it is for another one. What is compiled names x86-64 too
+# then, and its functions do, which the compiler passes over and says so: what it says is in ROOM/said, and is shown if it fails.
 compiled() {
-    room=$1
-    words=$(named "$2") || return 1
+    local room=$1 target words other='/^--sysroot=/d'
+    target=$(named "$2") || return 1
+    [ -z "$target" ] || other='/^--target=/d; /^-march=/d; /^--sysroot=/d'
+    mapfile -t words < <(sed "$other" "$room/words")
     shift 2
-    (cd "$room" && "$tools/bin/clang" $words $(sed '/^--target=/d; /^-march=/d; /^--sysroot=/d' words) -Wno-override-module "$@") 2>"$room/said" || { cat "$room/said" >&2; return 1; }
+    (cd "$room" && "$tools/bin/clang" $target "${words[@]}" -Wno-override-module "$@") 2>"$room/said" || { cat "$room/said" >&2; return 1; }
 }

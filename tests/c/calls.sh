@@ -26,7 +26,9 @@ there() {
 device() {
     "${@:2}" "${strict[@]}" -O2 -o build/device tests/c/device.c "$1/libfirmware.a"
     tests/start build/device build/device.log >build/device.states
-    tests/start "${REGRUN:-target/bin/regrun}" <build/device.log | diff build/device.states -
+    local program
+    program=${REGRUN:-$(tools/program regrun)}
+    tests/start "$program" <build/device.log | diff build/device.states -
 }
 
 # slots LIBRARIES COMPILER [WORDS]: the two slots of docs/FIRMWARE.md, the blocks of the page that begin with an image and, further in, with a record, with the power cut at every octet;

@@ -3,11 +3,13 @@
 //   map <crates.txt >SVG
 //
 // A line stands for a crate that is used; one that follows from two others is left out, and so
-// are the kit's own libraries, which are named in the box. Programs have a rounded box.
+// are the kit's own libraries, which are named in the box. Programs, the crates with a main.rt
+// where it is run, have a rounded box.
 
 use std::collections::{BTreeMap, BTreeSet};
 use std::fmt::Write as _;
 use std::io::{self, Read};
+use std::path::Path;
 use std::process::ExitCode;
 
 const WIDE: usize = 110;
@@ -25,8 +27,10 @@ fn graph(text: &str) -> Result<Graph, String> {
         if line.is_empty() {
             continue;
         }
-        let (name, rest) = line.split_once(':').ok_or(format!("line {}: no `:`", at + 1))?;
-        crates.insert(name.trim().into(), rest.split_whitespace().map(String::from).collect());
+        // Behind the name may stand its kind, as `staticlib`.
+        let (head, rest) = line.split_once(':').ok_or(format!("line {}: no `:`", at + 1))?;
+        let name = head.split_whitespace().next().ok_or(format!("line {}: no name", at + 1))?;
+        crates.insert(name.into(), rest.split_whitespace().map(String::from).collect());
     }
     Ok(crates)
 }
@@ -152,7 +156,9 @@ fn draw_lines(svg: &mut String, layout: &Layout) {
 }
 
 fn draw_box(svg: &mut String, name: &str, kit: &str, x: usize, y: usize) {
-    let (round, fill, down) = if kit.is_empty() { (2, "#e8f0fe", 25) } else { (18, "#fff2cc", 18) };
+    let program = Path::new("crates").join(name).join("src/main.rt").exists();
+    let (round, fill) = if program { (18, "#fff2cc") } else { (2, "#e8f0fe") };
+    let down = if kit.is_empty() { 25 } else { 18 };
     let left = x - WIDE / 2;
     let _ = write!(svg, r#"<rect x="{left}" y="{y}" width="{WIDE}" height="{HIGH}" "#);
     let _ = writeln!(svg, r##"rx="{round}" fill="{fill}" stroke="#444"/>"##);

@@ -128,8 +128,8 @@ fn part(name: &str) -> Option<&'static str> {
     let mut path = name.split("::");
     let (first, second) = (path.next()?, path.next().unwrap_or_default());
     Some(match (first, second) {
-        ("log", "lines") => "the line",
-        ("log" | "regrun" | "main" | "io" | "libc", _) => "reading the log",
+        ("eventlog", "lines") => "the line",
+        ("eventlog" | "regrun" | "main" | "io" | "libc", _) => "reading the log",
         ("octets" | "messages" | "timers", _) => "reading messages",
         ("checks" | "networks", _) | ("record", "code") => "checks",
         ("rules" | "turns" | "effects", _) => "what is planned",
