@@ -1,4 +1,4 @@
--- Numbers laid one behind the other: each takes its width, and one more goes behind those laid; by induction on the numbers and the columns. Assumes nothing.
+-- Numbers laid one behind the other: each takes its width, one more goes behind those laid, and what is left of the room is the rest's; by induction on the numbers and the columns. Assumes nothing.
 use Prim.Native.Nat.{ℕ, zero, suc, ◌+◌, ◌*◌, ◌/◌, ◌%◌, ◌-◌, ◌≤◌, ◌<◌}
 use mathlib.Core.Path.{◌≡◌, refl, sym, ◌∙◌, ap}
 use mathlib.Core.List.{List, [], ◌∷◌, ◌++◌, append-nil, append_assoc}
@@ -78,6 +78,13 @@ pub columns-append : (cs ds : List Column) → column_octets (cs ++ ds) ≡ colu
 unfolding column_octets
 columns-append [] ds = refl
 columns-append (column k xs ∷ cs) ds = rw (columns-append cs ds, append_assoc)
+
+-- the room that a piece leaves behind it
+pub room : {b c s : List ℕ} {at p n : ℕ} (m : ℕ) → length s ≡ n → Put b at s c p → length c ≡ length b → at + (n + m) ≤ length b → p + m ≤ length c
+room m e x k h = omega arith
+
+pub column-room : {b c : List ℕ} {at p n : ℕ} (k : ℕ) (xs : List ℕ) (m : ℕ) → length xs ≡ n → Put b at (numbers_octets k xs) c p → length c ≡ length b → at + (n * k + m) ≤ length b → p + m ≤ length c
+column-room k xs m e x = room m (rw e at (numbers-long k xs)) x
 
 -- a column of one number
 pub column-one : (k x : ℕ) → numbers_octets k (x ∷ []) ≡ number_octets k x
