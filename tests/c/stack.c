@@ -320,17 +320,17 @@ static void armed(void)
 /* The bounds, in octets. docs/FIRMWARE.md says the same, which tests/archives sees. Beside them the last answer that is no refusal. */
 static const struct { const char *name; size_t bound; uint32_t last; void (*cases)(void); } calls[] = {
     {"tjernfaug_new", 2048, 0, news},
-    {"tjernfaug_event", 10240, 0, events},
-    {"tjernfaug_arm", 1536, 0, armed},
+    {"tjernfaug_event", 13312, 0, events},
+    {"tjernfaug_arm", 2048, 0, armed},
     {"tjernfaug_ask", 1024, 10, asked},
-    {"tjernfaug_round", 6656, 12, asking},
+    {"tjernfaug_round", 10240, 12, asking},
     {"tjernfaug_wait", 512, TJERNFAUG_LONGEST_WAIT, rested},
     {"tjernfaug_request", 5632, 255, requests},
     {"tjernfaug_request_from_s1", 5632, 0, requests_from_s1},
     {"tjernfaug_cells", 3072, 255, choices},
     {"tjernfaug_forbidden", 2560, 255, files},
-    {"tjernfaug_save", 4608, 0, saved},
-    {"tjernfaug_load", 8192, 0, loaded},
+    {"tjernfaug_save", 6656, 0, saved},
+    {"tjernfaug_load", 10752, 0, loaded},
     {"reject_cause", 1024, 255, readings},
     {"timer_seconds", 256, 65535, timers},
 };
