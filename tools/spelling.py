@@ -6,7 +6,7 @@
   seekTo, isN1No, guti5GFrom  ->  seek_to, is_n1_no, guti_5g_from      in specs/, proofs/, clauses, `ghost use` items and must-fail edits
   crate log                   ->  crate eventlog                       since the kit has a library of that name
 
-A lemma that would have the name of its function gets `_lem`. Functions of src/, exported names and strings keep theirs.
+A law that would have the name of a definition of its file gets `_lem`. Functions of src/, exported names and strings keep theirs.
 """
 import glob
 import os
