@@ -93,6 +93,12 @@ fn function(notes: &mut Notes, name: &str, (unit, kind): (usize, usize)) -> usiz
     ))
 }
 
+/// It is a function of the standard library: of `std` or of a crate that it is made of.
+fn of_std(name: &str) -> bool {
+    let first = name.split("::").next().unwrap_or_default();
+    first == "core" || first == "std" || first.starts_with("std_")
+}
+
 /// The text with places; a `switch` has its own behind its last line.
 fn placed(text: &str) -> String {
     let mut notes = Notes { next: free(text), lines: Vec::new() };
@@ -102,7 +108,7 @@ fn placed(text: &str) -> String {
     for line in text.lines() {
         let mut line = line.to_string();
         if let Some(name) = defined(&line) {
-            scope = (!name.starts_with("std::")).then(|| function(&mut notes, name, whole));
+            scope = (!of_std(name)).then(|| function(&mut notes, name, whole));
             count = 0;
             if let Some(scope) = scope {
                 line = format!("{}!dbg !{scope} {{", line.trim_end_matches('{'));
