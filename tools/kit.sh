@@ -13,9 +13,22 @@ sources() {
     } | sha256sum
 }
 
-# passed: the last rt ci that .ci/run ran here passed these very sources. So what it built of them, which rt leaves in crates/*/out, is what a test can take; it has no stamp there, as what
-# rt's other commands build has.
-passed() { [ "$(cat build/passed 2>/dev/null)" = "$(sources)" ]; }
+# left: what rt ci has left in crates/*/out, each file with its sum: programs, and of a library the file that holds the sums of its others. A library with a stamp is of rt's other commands.
+left() {
+    local name
+    for name in crates/*; do
+        name=${name#crates/}
+        if [ -x "crates/$name/out/$name" ]; then sha256sum "crates/$name/out/$name"; fi
+        if [ ! -e "crates/$name/out/rlib/stamp" ]; then sha256sum "crates/$name/out/rlib/$name.rlib/format" 2>/dev/null || true; fi
+    done
+}
+
+# passed FILE..: rt ci has passed these very sources, and left these files: .ci/run writes down both, so that no test has to have anything proved again.
+passed() {
+    local file
+    [ "$(sed -n 1p build/passed 2>/dev/null)" = "$(sources)" ] || return 1
+    for file; do grep -qxF "$(sha256sum "$file" 2>/dev/null)" build/passed || return 1; done
+}
 
 # uses NAME: what a crate names in crates.txt. below NAME: the crates of this tree that it stands on, each once.
 uses() { sed 's/#.*//' crates.txt | awk -F : -v name="$1" '{ split($1, head, " ") } head[1] == name { print $2 }'; }
@@ -31,11 +44,9 @@ below() {
 
 # libraries NAME: those below a crate stand in their out/, of these sources: rt ci left them all, or else rt makes them, which takes long where it has kept nothing.
 libraries() {
-    local name left=1
-    for name in $(below "$1"); do
-        if [ -e "crates/$name/out/rlib/stamp" ] || [ ! -d "crates/$name/out/rlib/$name.rlib" ]; then left=0; fi
-    done
-    if [ "$left" = 1 ] && passed; then return; fi
+    local files
+    mapfile -t files < <(below "$1" | sed 's|.*|crates/&/out/rlib/&.rlib/format|')
+    if passed "${files[@]}"; then return; fi
     (cd "crates/$1" && rt check)
 }
 
