@@ -102,6 +102,19 @@ named() {
     esac
 }
 
+# widened ROOM: for a processor of 32 bits, ROOM/module.bc as a text in which each pointer has the room and the place that the module, made for 64 bits, supposes: eight octets of its own, and
+# the place eight octets on where it is handed back behind an octet. Where a module has one elsewhere between other values it is refused: nothing says that its place is the same.
+widened() {
+    local room=$1
+    (cd "$room" && "$tools/bin/clang" --target=x86_64-unknown-linux-gnu -S -emit-llvm -x ir module.bc -Xclang -disable-llvm-passes -o module.ll) || return 1
+    sed -E -e 's/= alloca ptr, align 8$/= alloca [8 x i8], align 8/' \
+        -e 's/(extractvalue \{ i8, ptr \} .*), 1$/\1, 2/' -e 's/\{ i8, ptr \}/{ i8, [7 x i8], ptr }/g' "$room/module.ll" >"$room/module.bc"
+    if grep -v '^attributes' "$room/module.bc" | grep -oE '[{[][^][{}]*\bptr\b[^][{}]*[]}]' | grep -vxF '{ ptr, i64 }'; then
+        echo "the module has a pointer that may have another place with 32 bits" >&2
+        return 1
+    fi
+}
+
 # compiled ROOM TARGET [WORDS]: ROOM/module.o, what the compiler was handed by its words, but for those that name the processor where it is for another one. What is compiled names x86-64 too
 # then, and its functions do, which the compiler passes over and says so: what it says is in ROOM/said, and is shown if it fails.
 compiled() {
@@ -109,6 +122,7 @@ compiled() {
     target=$(named "$2") || return 1
     [ -z "$target" ] || other='/^--target=/d; /^-march=/d; /^--sysroot=/d'
     mapfile -t words < <(sed "$other" "$room/words")
+    if [ "$2" = armv7 ]; then widened "$room" || return 1; fi
     shift 2
     (cd "$room" && "$tools/bin/clang" $target "${words[@]}" -Wno-override-module "$@") 2>"$room/said" || { cat "$room/said" >&2; return 1; }
 }

@@ -1,51 +1,69 @@
--- Whether an area is listed and the three ways of putting it in a list, from the place that a search found. Assumes nothing.
-use mathlib.Core.Path.{◌≡◌, refl, ap, ◌∙◌}
+-- The three ways of putting an area in a list, from what a search found. Assumes nothing.
+use mathlib.Core.Path.{◌≡◌, refl, sym}
 use mathlib.Core.Bool.{Bool, true, false, cond}
 use mathlib.Core.List.{List, [], ◌∷◌, ◌++◌}
-use Prim.Native.Nat.{ℕ, ◌+◌, ◌*◌, ◌≤◌, ◌<◌}
+use Prim.Native.Nat.{ℕ, suc, ◌+◌, ◌≤◌, ◌<◌}
 use native.Mathlib.Omega.{arith}
-use borrow.Author.Tests.{lt-ltb, le-ltb}
-use lib.Dec.{ltb, eqb}
-use lib.ListN.{get_or, set, drop}
-use Rattle.laws.specs.Upto.{seek_to}
-use Rattle.areas.specs.Areas.{same_area, areas_held, area_place, listed_in, marked, remarked, placed, placed_count}
+use borrow.Author.Tests.{ltb-true, lt-ltb, le-ltb, eq-eqb, ne_eqb}
+use lib.Dec.{ltb}
+use lib.ListN.{length, set, take, drop}
+use lib.Seq.{set-get_or, set-append_seam}
+use Rattle.std.specs.Prelude.{Some, None}
+use Rattle.areas.specs.Areas.{areas_held, area_place, area_found, listed_in, marked, placed, placed_count}
 
-pub size_small : (count : ℕ) → count < 40 → areas_held count ≡ count
+pub held_fits : (count : ℕ) → areas_held count ≤ 40
 unfolding areas_held
-size_small count h = rw (lt-ltb count 40 h)
+held_fits count = elim (ltb count 40) as (λ b. ltb count 40 ≡ b → cond b count 40 ≤ 40) [ true ↦ λ q. omega (arith, ltb-true count 40 q) | false ↦ λ q. omega arith ] refl
 
-chosen : (area protected old x : ℕ) → x ≡ marked area protected → cond (eqb protected 0) old x ≡ remarked area protected old
-chosen area protected old x m = rw m (by-test (eqb protected 0))
-  where
-    by-test : (b : Bool) → cond b old (area * 2 + cond b 0 1) ≡ cond b old (area * 2 + 1)
-    by-test true = refl
-    by-test false = refl
+module _ (area count : ℕ) (xs : List ℕ) where
+  pub found : (at : ℕ) → Some at ≡ area_found area count xs → (listed_in area count xs ≡ true) × (at ≡ area_place area count xs)
+  found at e = go (listed_in area count xs) refl
+    where
+      go : (b : Bool) → listed_in area count xs ≡ b → (listed_in area count xs ≡ true) × (at ≡ area_place area count xs)
+      go true q = (q, let f : Some at ≡ Some (area_place area count xs) = rw q at e in cc)
+      go false q = let f : Some at ≡ None = rw q at e in cc
 
-module _ (area count n at : ℕ) (xs : List ℕ) (en : n ≡ areas_held count) (ea : at ≡ seek_to (same_area area) n xs) where
-  place : at ≡ area_place area count xs
-  unfolding area_place
-  place = ea ∙ ap (λ (m : ℕ). seek_to (same_area area) m xs) en
+  pub lost : None ≡ area_found area count xs → listed_in area count xs ≡ false
+  lost e = go (listed_in area count xs) refl
+    where
+      go : (b : Bool) → listed_in area count xs ≡ b → listed_in area count xs ≡ false
+      go true q = let f : None ≡ Some (area_place area count xs) = rw q at e in cc
+      go false q = q
 
-  pub listed_by : ltb at n ≡ listed_in area count xs
+  pub inside : (at : ℕ) → Some at ≡ area_found area count xs → at < 40
   unfolding listed_in
-  listed_by = rw (place, en)
+  inside at e = let f = found at e in omega (arith, f.1, held_fits count, ltb-true (area_place area count xs) (areas_held count) f.0)
 
-  listed : at < n → listed_in area count xs ≡ true
-  unfolding listed_in
-  listed h = lt-ltb (area_place area count xs) (areas_held count) (omega (arith, place, en))
+  module _ (protected x : ℕ) (m : x ≡ marked area protected) where
+    pub put-over : (at : ℕ) → Some at ≡ area_found area count xs → (protected ≡ 0 → ⊥) → set xs at x ≡ placed area protected count xs
+    unfolding placed
+    put-over at e h = let f = found at e in rw (f.0, f.1, m, ne_eqb protected 0 h)
 
-  unlisted : n ≤ at → listed_in area count xs ≡ false
-  unfolding listed_in
-  unlisted h = le-ltb (area_place area count xs) (areas_held count) (omega (arith, place, en))
+    pub put_behind : None ≡ area_found area count xs → count < 40 → set xs count x ≡ placed area protected count xs
+    unfolding placed
+    put_behind e h = rw (lost e, lt-ltb count 40 h, m)
 
-  pub put-again : (protected v x : ℕ) → at < n → x ≡ marked area protected → v ≡ cond (eqb protected 0) (get_or xs at 0) x → (set xs at v ≡ placed area protected count xs) × (count ≡ placed_count area count xs)
-  unfolding placed placed_count
-  put-again protected v x h m e = (rw (listed h, e ∙ chosen area protected (get_or xs at 0) x m, place), rw (listed h))
+    pub put_full : None ≡ area_found area count xs → 40 ≤ count → drop 1 xs ++ (x ∷ []) ≡ placed area protected count xs
+    unfolding placed
+    put_full e h = rw (lost e, le-ltb count 40 h, m)
 
-  pub put-behind : (protected x : ℕ) → n ≤ at → count < 40 → x ≡ marked area protected → (set xs n x ≡ placed area protected count xs) × (count + 1 ≡ placed_count area count xs)
-  unfolding placed placed_count
-  put-behind protected x h k m = let s : n ≡ count = en ∙ size_small count k in (rw (unlisted h, lt-ltb count 40 k, m, s), rw (unlisted h, lt-ltb count 40 k))
+  pub put-stays : (protected at : ℕ) → Some at ≡ area_found area count xs → protected ≡ 0 → xs ≡ placed area protected count xs
+  unfolding placed
+  put-stays protected at e h = let f = found at e in rw (f.0, eq-eqb protected 0 h) (sym (set-get_or xs (area_place area count xs) 0))
 
-  pub put_full : (protected x : ℕ) (out : List ℕ) → n ≤ at → 40 ≤ count → x ≡ marked area protected → out ≡ drop 1 xs ++ (x ∷ []) → (out ≡ placed area protected count xs) × (count ≡ placed_count area count xs)
-  unfolding placed placed_count
-  put_full protected x out h k m o = (o ∙ rw (unlisted h, le-ltb count 40 k, m), rw (unlisted h, le-ltb count 40 k))
+  pub same_count : (at : ℕ) → Some at ≡ area_found area count xs → count ≡ placed_count area count xs
+  unfolding placed_count
+  same_count at e = rw (found at e).0
+
+  pub more_count : None ≡ area_found area count xs → count < 40 → count + 1 ≡ placed_count area count xs
+  unfolding placed_count
+  more_count e h = rw (lost e, lt-ltb count 40 h)
+
+  pub full_count : None ≡ area_found area count xs → 40 ≤ count → count ≡ placed_count area count xs
+  unfolding placed_count
+  full_count e h = rw (lost e, le-ltb count 40 h)
+
+-- the oldest goes to the end, and the new one comes in its place
+pub turned : (n : ℕ) (xs : List ℕ) (x : ℕ) → length xs ≡ suc n → (ys : List ℕ) → ys ≡ drop 1 xs ++ take 1 xs → set ys n x ≡ drop 1 xs ++ (x ∷ [])
+turned n [] x l ys e = absurd (omega arith)
+turned n (y ∷ xs) x l ys e = let q : n ≡ length xs = omega arith in rw (e, q) (set-append_seam xs y [] x)

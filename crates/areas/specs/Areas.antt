@@ -1,5 +1,5 @@
 -- An area list: an array of forty and a count, the oldest first; each element is twice the area, and one more where it is marked protected. Assumes nothing.
-use Rattle.std.specs.Prelude.{ℕ, ◌+◌, ◌*◌, ◌/◌, ◌%◌, Bool, cond, List, [], ◌∷◌, ◌++◌, ltb, eqb, set, get_or, take, drop, length, replicate}
+use Rattle.std.specs.Prelude.{ℕ, ◌+◌, ◌*◌, ◌/◌, ◌%◌, Bool, cond, Option, Some, None, List, [], ◌∷◌, ◌++◌, ltb, eqb, set, get_or, take, drop, length, replicate}
 use Rattle.laws.specs.Bounds.{at_most}
 use Rattle.laws.specs.Upto.{seek_to}
 use Rattle.areas.specs.declared.Task.{Task}
@@ -28,6 +28,10 @@ area_place area count xs = seek_to (same_area area) (areas_held count) xs
 
 unfoldable pub listed_in : ℕ → ℕ → List ℕ → Bool
 listed_in area count xs = ltb (area_place area count xs) (areas_held count)
+
+-- its place, if it is listed
+abbrev pub area_found : ℕ → ℕ → List ℕ → Option ℕ
+area_found area count xs = cond (listed_in area count xs) (Some (area_place area count xs)) None
 
 -- an area and the mark that a reject gives it
 abbrev pub marked : ℕ → ℕ → ℕ

@@ -1,14 +1,17 @@
 -- How a turn of each of the loops of `choose` goes. Assumes nothing.
 use Prim.Native.Nat.{ℕ, zero, suc, ◌+◌, ◌<◌, ◌≤◌}
 use mathlib.Core.Path.{◌≡◌, refl, sym, ap, ◌∙◌, subst}
-use mathlib.Core.Bool.{Bool, true, false, cond}
+use mathlib.Core.Bool.{Bool, true, false, cond, ◌||◌, true≢false}
 use mathlib.Core.List.{List, [], ◌∷◌, ◌++◌}
 use mathlib.Core.Logic.{⊎_elim}
 use native.Mathlib.Omega.{arith}
 use native.Mathlib.Nat.{eq-or-lt_of_le, le_of_suc-le-suc, le_antisymm}
 use native.Mathlib.Numerals.{add-one}
-use lib.ListN.{length, get_or, drop, set, length-append, length-set}
-use Rattle.laws.specs.Upto.{over}
+use lib.ListN.{length, get_or, take, drop, set, length-append, length-set}
+use lib.Seq.{take-suc}
+use Rattle.std.specs.List.{list_any}
+use Rattle.std.proofs.lemmas.List.Recursion.{or_push}
+use Rattle.laws.specs.Upto.{over, all_to}
 use Rattle.laws.proofs.Lists.{stored}
 use Rattle.record.specs.Tests.{either}
 use Rattle.cells.specs.Cells.{some_of, among, marked, left_out, permitted_to}
@@ -19,6 +22,10 @@ or_right false b e = e
 
 or_left : (a b : Bool) → a ≡ true → either a b ≡ true
 or_left a b e = rw e
+
+neither : (b : Bool) → cond b false false ≡ false
+neither true = refl
+neither false = refl
 
 -- A search, for a network or for a mark of it: it goes on while no place passes, has then looked everywhere, and ends at one that passes.
 module _ (p : ℕ → Bool) where
@@ -35,6 +42,38 @@ module _ (p : ℕ → Bool) where
   hit (suc n) j lt e =
       ⊎_elim (λ (q : j ≡ n). or_left (p n) (some_of p n) (subst (λ (m : ℕ). p m ≡ true) q e))
       (λ (q : j < n). or_right (p n) (some_of p n) (hit n j q e)) (eq-or-lt_of_le (le_of_suc-le-suc lt))
+
+-- the library's search of the first n elements is one of their places
+or_is : (a b c : Bool) → a ≡ b → (a || c) ≡ either c b
+or_is true true true e = refl
+or_is true true false e = refl
+or_is false false c e = elim c as (λ v. v ≡ either v false) [ true ↦ refl | false ↦ refl ]
+or_is true false c e = absurd (true≢false e)
+or_is false true c e = absurd (true≢false (sym e))
+
+pub any-some : (p : ℕ → Bool) (xs : List ℕ) (n : ℕ) → n ≤ length xs → list_any p (take n xs) ≡ some_of (λ i. p (get_or xs i 0)) n
+unfolding some_of
+any-some p xs zero h = refl
+any-some p xs (suc n) h =
+    rw (take-suc xs n 0 (omega arith)) (or_push (list_any p) p refl (λ _ _. refl) (take n xs) (get_or xs n 0) ∙ or_is _ _ (p (get_or xs n 0)) (any-some p xs n (omega arith)))
+
+-- Each of the first n passes exactly if no place fails.
+module _ (p : ℕ → Bool) (xs : List ℕ) where
+  passes : (n : ℕ) → ((i : ℕ) → i < n → p (get_or xs i 0) ≡ true) → all_to p n xs ≡ true
+  unfolding all_to
+  passes zero h = refl
+  passes (suc n) h = rw (passes n (λ i l. h i (omega arith)), h n (omega arith))
+
+  fails : (n i : ℕ) → i < n → p (get_or xs i 0) ≡ false → all_to p n xs ≡ false
+  unfolding all_to
+  fails zero i l e = absurd (omega arith)
+  fails (suc n) i l e =
+      ⊎_elim (λ (q : i ≡ n). rw (rw q at e) (neither (all_to p n xs)))
+      (λ (q : i < n). rw (fails n i q e)) (eq-or-lt_of_le (le_of_suc-le-suc l))
+
+  pub all-is : (r : Bool) → (r ≡ true → (i : ℕ) → i < length xs → p (get_or xs i 0) ≡ true) → (r ≡ false → (i : ℕ) × (i < length xs) × (p (get_or xs i 0) ≡ false)) → r ≡ all_to p (length xs) xs
+  all-is true h g = sym (passes (length xs) (h refl))
+  all-is false h g = let w = g refl in sym (fails (length xs) w.0 w.1 w.2)
 
 module _ (heard : List ℕ) (count : ℕ) (nets forbidden barred : List ℕ) (i : ℕ) where
   -- a number that was heard before, or is marked, is left out

@@ -1,5 +1,5 @@
 -- Document 02, R-2: of the networks heard those that an access permits, and what the call answers. Assumes nothing.
-use Rattle.std.specs.Prelude.{ℕ, zero, suc, Bool, false, cond, List, [], ◌∷◌, ◌++◌, length, get_or, leb, eqb}
+use Rattle.std.specs.Prelude.{ℕ, zero, suc, Bool, false, cond, List, [], ◌∷◌, ◌++◌, length, get_or, leb, eqb, Result, Ok, Err}
 use Rattle.laws.specs.Upto.{over, all_to}
 use Rattle.entries.specs.declared.Entries.{Entries}
 use Rattle.entries.specs.Places.{entries_held}
@@ -10,7 +10,6 @@ use Rattle.record.specs.declared.Record.{Record}
 use Rattle.record.specs.declared.Answer.{Answer}
 use Rattle.record.specs.declared.Answer.TheVariants.{Taken, Range, Short}
 use Rattle.ranges.specs.Valid.{valid_of}
-use Rattle.cells.specs.declared.Chosen.{Chosen}
 
 -- one of the first n places passes
 unfoldable pub some_of : (ℕ → Bool) → ℕ → Bool
@@ -54,9 +53,9 @@ may_choose r access heard = both (leb access 1) (both (leb (length heard) 64) (b
 unfoldable pub choice_answer : Record → ℕ → List ℕ → ℕ → Answer
 choice_answer r access heard n = cond (may_choose r access heard) (cond (leb (length heard) n) Taken Short) Range
 
--- the answer, and "their count"
-unfoldable pub choice_of : Record → ℕ → List ℕ → ℕ → Chosen
-choice_of r access heard n = record { answer = choice_answer r access heard n; count = cond (is_taken (choice_answer r access heard n)) (length (permitted_of r access heard)) 0 }
+-- "their count", or the answer
+unfoldable pub choice_of : Record → ℕ → List ℕ → ℕ → Result ℕ Answer
+choice_of r access heard n = cond (is_taken (choice_answer r access heard n)) (Ok (length (permitted_of r access heard))) (Err (choice_answer r access heard n))
 
 -- the second list after the call: "The rest of the second list stays"
 unfoldable pub list_of : Record → ℕ → List ℕ → List ℕ → List ℕ

@@ -1,62 +1,48 @@
 // Of the networks heard those that neither mark of an access bars, in the order heard, each once.
 #![tactic(auto)]
 
-ghost use Rattle.std.specs.Prelude.{◌≡◌, cond, ◌≤◌, eqb, length};
+ghost use Rattle.std.specs.Prelude.{◌≡◌, ◌≤◌, length};
 ghost use Rattle.laws.specs.Upto.{over, all_to};
 ghost use Rattle.record.specs.Tests.{is_short};
 ghost use Rattle.cells.specs.Cells as cells;
 
 use entries::Entries;
-use record::{Answer, Record, access_of, and, not, or};
+use record::{Answer, Record, access_of};
 
 // The most networks that the radio hands over.
 const MOST: usize = 64;
 
-// An answer, and how many networks were written.
-#[derive(Clone, Copy)]
-pub struct Chosen {
-    pub answer: Answer,
-    pub count: usize,
-}
-
+#[tactic(auto, unfolding(crate::specs::Cells::stands))]
 fn stands(same: bool, forbidden: u8, barred: u8) -> bool
     ensures { result ≡ cells.stands same forbidden barred }
 {
-    and(same, or(not(forbidden == 0), not(barred == 0)))
+    same && (forbidden != 0 || barred != 0)
 }
 
-// One match ends the look at a network.
-fn choose(
-    heard: &[u32],
-    count: usize,
-    nets: &[u32; 16],
-    forbidden: &[u8; 16],
-    barred: &[u8; 16],
-    out: &mut [u32],
-) -> usize
-    requires { (count ≤ 16) × (length heard.now ≤ length out.old) }
-    ensures value { result ≡ length (cells.permitted_to heard.now count nets.now forbidden.now barred.now (length heard.now)) }
-    ensures out_after { out.new ≡ over (cells.permitted_to heard.now count nets.now forbidden.now barred.now (length heard.now)) out.old }
+// Either mark stands at one of the first entries.
+fn marked(e: &Entries, count: usize, net: u32) -> bool
+    requires { count ≤ 16 }
+    ensures { result ≡ cells.marked e.now.nets e.now.forbidden e.now.barred net count }
 {
-    let mut n: usize = 0;
-    let mut i: usize = 0;
-    'next: while i < heard.len() {
-        let net = heard[i];
-        let before = i;
-        i += 1;
-        let mut j: usize = 0;
-        while j < before {
-            if heard[j] == net {
-                continue 'next;
-            }
-            j += 1;
+    for k in 0..count {
+        if stands(e.nets[k] == net, e.forbidden[k], e.barred[k]) {
+            return true;
         }
-        let mut k: usize = 0;
-        while k < count {
-            if stands(nets[k] == net, forbidden[k], barred[k]) {
-                continue 'next;
-            }
-            k += 1;
+    }
+    false
+}
+
+// A network is taken where it is heard first.
+fn choose(heard: &[u32], count: u8, e: &Entries, out: &mut [u32]) -> usize
+    requires { length heard.now ≤ length out.old }
+    ensures value { result ≡ length (cells.permitted_by heard.now count e.now) }
+    ensures out_after { out.new ≡ over (cells.permitted_by heard.now count e.now) out.old }
+{
+    let held = entries::size(count);
+    let mut n = 0;
+    for (i, &net) in heard.iter().enumerate() {
+        if heard[..i].contains(&net) || marked(e, held, net) {
+            continue;
         }
         out[n] = net;
         n += 1;
@@ -68,73 +54,28 @@ fn choose(
 fn short(heard: &[u32]) -> bool
     ensures { result ≡ all_to is_short (length heard.now) heard.now }
 {
-    let mut i: usize = 0;
-    while i < heard.len() {
-        if 16777216 <= heard[i] {
-            return false;
-        }
-        i += 1;
-    }
-    true
+    heard.iter().all(|&n| n < 16777216)
 }
 
-fn may(r: Record, access: u8, heard: &[u32]) -> bool
-    ensures { result ≡ cells.may_choose r access heard.now }
+#[tactic(auto, unfolding(crate::specs::Cells::may_choose))]
+fn may(r: &Record, access: u8, heard: &[u32]) -> bool
+    ensures { result ≡ cells.may_choose r.now access heard.now }
 {
-    if 1 < access {
-        return false;
-    }
-    if MOST < heard.len() {
-        return false;
-    }
-    if short(heard) {
-        ranges::valid(r)
-    } else {
-        false
-    }
+    access <= 1 && heard.len() <= MOST && short(heard) && ranges::fits(r)
 }
 
-fn entries_of(access: u8, e0: Entries, e1: Entries) -> Entries
-    ensures { result ≡ cond (eqb access 0) e0 e1 }
-{
-    if access == 0 { e0 } else { e1 }
-}
-
-fn sift(heard: &[u32], count: u8, e: Entries, out: &mut [u32]) -> usize
-    requires { length heard.now ≤ length out.old }
-    ensures value { result ≡ length (cells.permitted_by heard.now count e) }
-    ensures out_after { out.new ≡ over (cells.permitted_by heard.now count e) out.old }
-{
-    let n = entries::size(count);
-    let nets = e.nets;
-    let forbidden = e.forbidden;
-    let barred = e.barred;
-    choose(heard, n, &nets, &forbidden, &barred, out)
-}
-
-pub fn permitted(r: Record, access: u8, heard: &[u32], out: &mut [u32]) -> Chosen
-    ensures value { result ≡ cells.choice_of r access heard.now (length out.old) }
-    ensures out_after { out.new ≡ cells.list_of r access heard.now out.old }
+// How many networks were written.
+pub fn permitted(r: &Record, access: u8, heard: &[u32], out: &mut [u32]) -> Result<usize, Answer>
+    ensures value { result ≡ cells.choice_of r.now access heard.now (length out.old) }
+    ensures out_after { out.new ≡ cells.list_of r.now access heard.now out.old }
 {
     if !may(r, access, heard) {
-        return Chosen {
-            answer: Answer::Range,
-            count: 0,
-        };
+        return Err(Answer::Range);
     }
     if out.len() < heard.len() {
-        return Chosen {
-            answer: Answer::Short,
-            count: 0,
-        };
+        return Err(Answer::Short);
     }
     let own = access_of(r.hot, access);
-    let e0 = r.e0;
-    let e1 = r.e1;
-    let e = entries_of(access, e0, e1);
-    let count = sift(heard, own.entries, e, out);
-    Chosen {
-        answer: Answer::Taken,
-        count,
-    }
+    let e = if access == 0 { &r.e0 } else { &r.e1 };
+    Ok(choose(heard, own.entries, e, out))
 }

@@ -3,7 +3,7 @@
 -- and for an update (document 02, R-5) 1, 6, "the other checks as for a start not manual";
 -- for both "20 .. while T3346 runs, after 6" (document 02, R-6); 1, 4 for an import (document 02, R-8).
 -- Each check passes on to the next; the last one is taken. The record itself is tested before. An event's `protected` is 1 or 0. Assumes nothing.
-use Rattle.std.specs.Prelude.{ℕ, ◌%◌, Bool, cond, List, length, get_or, ltb, leb, eqb}
+use Rattle.std.specs.Prelude.{ℕ, ◌%◌, Bool, cond, List, length, get_or, ltb, leb, eqb, Ok, Err}
 use Rattle.laws.specs.Upto.{every}
 use Rattle.networks.specs.Networks.{networks_in}
 use Rattle.record.specs.Tests.{both, either, flip, within, is_flag, is_short, is_clear0, is_edition}
@@ -14,8 +14,8 @@ use Rattle.record.specs.declared.Answer.{Answer}
 use Rattle.record.specs.declared.Answer.TheVariants as answer
 use Rattle.entries.specs.declared.Seen.{Seen}
 use Rattle.messages.specs.declared.Reject.{Reject}
-use Rattle.messages.specs.declared.Reading.{Reading}
-use Rattle.messages.specs.declared.Reading.TheVariants as reading
+use Rattle.messages.specs.Message.{Reading}
+use Rattle.messages.specs.declared.Message.TheVariants as message
 use Rattle.turns.specs.declared.Row.{Row}
 use Rattle.turns.specs.declared.Draws.{Draws}
 use Rattle.turns.specs.Timers.{is_device_timer, runs_in, runs_on}
@@ -92,9 +92,9 @@ reject_answer h w protected g s =
 
 -- what was read: 13 to 18 of a fault; 10 of an accept; 2, 4 of a reject
 unfoldable pub read_answer : Hot → ℕ → ℕ → Reading → Seen → Answer
-read_answer h w protected (reading.Bad f at) s = answer.Malformed f at
-read_answer h w protected (reading.Accept g) s = check (flip (eqb protected 0)) answer.Unprotected answer.Taken
-read_answer h w protected (reading.Reject g) s = reject_answer h w protected g s
+read_answer h w protected (Err m) s = answer.Malformed m.fault m.at
+read_answer h w protected (Ok (message.Accept g)) s = check (flip (eqb protected 0)) answer.Unprotected answer.Taken
+read_answer h w protected (Ok (message.Reject g)) s = reject_answer h w protected g s
 
 -- "a draw for T3247, 1800 to 3600 s, checked even if unused"; "a second draw, 900 to 1800 s", the same (document 02, R-6)
 unfoldable pub message_range : ℕ → ℕ → Draws → Bool

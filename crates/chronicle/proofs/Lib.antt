@@ -2,6 +2,7 @@
 pub mod Framing
 pub mod Words
 pub mod Entering
+pub mod Backward
 pub mod Turning
 pub mod Fitting
 pub mod Noting

@@ -2,282 +2,178 @@
 ghost use Rattle.std.specs.Prelude.{◌≡◌, cond, eqb};
 ghost use Rattle.history.specs.History.{by_type};
 ghost use Rattle.chronicle.specs.Explained.{access_named};
+ghost use Rattle.chronicle.specs.Notes.{act_with, no_act};
 ghost use Rattle.chronicle.specs.Acts as acts;
 
-use crate::{Act, State};
+use crate::{Act, Change, State, Whom};
 use messages::octet;
-use record::{and, or};
 use rules::Event;
 
+#[tactic(auto, unfolding(crate::specs::Explained::access_named))]
 pub(crate) fn access_named(e: Event) -> u8
     ensures { result ≡ access_named e }
 {
     match e {
-        Event::Card {
-            edition: _,
-            home: _,
-        } => 0,
-        Event::Start {
-            access,
-            manual: _,
-            net: _,
-            code: _,
-        } => access,
-        Event::Message {
-            access,
-            protected: _,
-            draws: _,
-        } => access,
-        Event::Timer {
-            number: _,
-            access: _,
-        } => 0,
-        Event::Power => 0,
-        Event::Key { access: _, set: _ } => 0,
-        Event::Update {
-            access,
-            regtype: _,
-            net: _,
-            code: _,
-            uplink: _,
-            sessions: _,
-        } => access,
-        Event::Import => 0,
-        Event::Unknown => 0,
+        Event::Start { access, .. }
+        | Event::Message { access, .. }
+        | Event::Update { access, .. } => { access }
+        _ => 0,
     }
 }
 
 pub(crate) fn is_card_change(e: Event) -> bool
     ensures { result ≡ acts.is_card_change e }
 {
-    if let Event::Card {
-        edition: _,
-        home: _,
-    } = e
-    {
-        true
-    } else {
-        false
-    }
+    matches!(e, Event::Card { .. })
 }
 
 fn no_act() -> Act
-    ensures { result ≡ acts.no_act }
+    ensures { result ≡ no_act }
 {
     Act {
-        kind: 0,
-        whom: 0,
-        ban: 0,
-        bar: 0,
+        whom: Whom::Every,
+        ban: Change::Nothing,
+        bar: Change::Nothing,
     }
-}
-
-fn struck_by(protected: u8) -> u8
-    ensures { result ≡ acts.struck_by protected }
-{
-    if protected == 0 { 1 } else { 2 }
 }
 
 // At home nothing is banned.
-fn struck_away(home: bool, protected: u8) -> u8
-    ensures { result ≡ cond home 0 (acts.struck_by protected) }
-{
-    if home { 0 } else { struck_by(protected) }
-}
-
+#[tactic(auto, unfolding(crate::specs::Acts::reject_act))]
 fn reject_act(access: u8, home: u32, own: u32, protected: u8, cause: u8) -> Act
     ensures { result ≡ acts.reject_act access home own protected cause }
 {
-    if or(cause == 11, cause == 73) {
+    let struck = Change::Struck(protected != 0);
+    if cause == 11 || cause == 73 {
         return Act {
-            kind: 0,
-            whom: own,
-            ban: struck_away(own == home, protected),
-            bar: 0,
+            whom: Whom::One(own),
+            ban: if own == home { Change::Nothing } else { struck },
+            bar: Change::Nothing,
         };
     }
-    if or(cause == 27, and(cause == 72, access == 1)) {
+    if cause == 27 || cause == 72 && access == 1 {
         return Act {
-            kind: 0,
-            whom: own,
-            ban: 0,
-            bar: struck_by(protected),
-        };
-    }
-    no_act()
-}
-
-fn across_act(theirs: u32, held: bool, protected: u8, cause: u8) -> Act
-    ensures { result ≡ acts.across_act theirs held protected cause }
-{
-    if !held {
-        return no_act();
-    }
-    if protected == 0 {
-        return no_act();
-    }
-    if cause == 27 {
-        return Act {
-            kind: 0,
-            whom: theirs,
-            ban: 0,
-            bar: 4,
+            whom: Whom::One(own),
+            ban: Change::Nothing,
+            bar: struck,
         };
     }
     no_act()
 }
 
+#[tactic(auto, unfolding(history::specs::History::by_type))]
 fn own_act(access: u8, home: u32, own: u32, protected: u8, octets: &[u8]) -> Act
-    ensures { result ≡ by_type (acts.act_with 0 own 5 0) (acts.reject_act access home own protected) octets.now }
+    ensures { result ≡ by_type (act_with (Whom.One own) Change.Cleared Change.Nothing) (acts.reject_act access home own protected) octets.now }
 {
     if octet(octets, 2) == 0x42 {
         return Act {
-            kind: 0,
-            whom: own,
-            ban: 5,
-            bar: 0,
+            whom: Whom::One(own),
+            ban: Change::Cleared,
+            bar: Change::Nothing,
         };
     }
     reject_act(access, home, own, protected, octet(octets, 3))
 }
 
+#[tactic(auto, unfolding(history::specs::History::by_type, crate::specs::Acts::across_act))]
 fn other_act(theirs: u32, held: bool, protected: u8, octets: &[u8]) -> Act
-    ensures { result ≡ by_type acts.no_act (acts.across_act theirs held protected) octets.now }
+    ensures { result ≡ by_type no_act (acts.across_act theirs held protected) octets.now }
 {
-    if octet(octets, 2) == 0x42 {
-        return no_act();
+    if held && protected != 0 && octet(octets, 2) != 0x42 && octet(octets, 3) == 27 {
+        return Act {
+            whom: Whom::One(theirs),
+            ban: Change::Nothing,
+            bar: Change::ToLimit,
+        };
     }
-    across_act(theirs, held, protected, octet(octets, 3))
+    no_act()
 }
 
 fn timer_act(number: u8) -> Act
-    ensures { result ≡ cond (eqb number 4) (acts.act_with 1 0 6 6) acts.no_act }
+    ensures { result ≡ cond (eqb number 4) (act_with Whom.Every Change.Tested Change.Tested) no_act }
 {
     if number == 4 {
         return Act {
-            kind: 1,
-            whom: 0,
-            ban: 6,
-            bar: 6,
+            whom: Whom::Every,
+            ban: Change::Tested,
+            bar: Change::Tested,
         };
     }
     no_act()
 }
 
 fn import_act(access: u8) -> Act
-    ensures { result ≡ cond (eqb access 0) (acts.act_with 2 0 3 0) acts.no_act }
+    ensures { result ≡ cond (eqb access 0) (act_with Whom.Filed Change.Put Change.Nothing) no_act }
 {
     if access == 0 {
         return Act {
-            kind: 2,
-            whom: 0,
-            ban: 3,
-            bar: 0,
+            whom: Whom::Filed,
+            ban: Change::Put,
+            bar: Change::Nothing,
         };
     }
     no_act()
 }
 
-fn message_act(
-    mine: bool,
-    access: u8,
-    home: u32,
-    own: u32,
-    theirs: u32,
-    held: bool,
-    protected: u8,
-    octets: &[u8],
-) -> Act
-    ensures { result ≡ cond mine (by_type (acts.act_with 0 own 5 0) (acts.reject_act access home own protected) octets.now) (by_type acts.no_act (acts.across_act theirs held protected) octets.now) }
-{
-    if mine {
-        own_act(access, home, own, protected, octets)
-    } else {
-        other_act(theirs, held, protected, octets)
+impl State {
+    // The network that an access registers with.
+    pub(crate) fn pending(self, access: u8) -> u32
+        ensures { result ≡ acts.pending_in self access }
+    {
+        if access == 0 { self.pend0 } else { self.pend1 }
     }
-}
 
-pub(crate) fn act_of(
-    w: u8,
-    home: u32,
-    own: u32,
-    theirs: u32,
-    held: bool,
-    e: Event,
-    octets: &[u8],
-) -> Act
-    ensures { result ≡ acts.act_of w home own theirs held e octets.now }
-{
-    match e {
-        Event::Message {
-            access,
-            protected,
-            draws: _,
-        } => message_act(access == w, w, home, own, theirs, held, protected, octets),
-        Event::Timer { number, access: _ } => timer_act(number),
-        Event::Power => Act {
-            kind: 1,
-            whom: 0,
-            ban: 6,
-            bar: 5,
-        },
-        Event::Import => import_act(w),
-        _ => no_act(),
+    #[tactic(auto, unfolding(crate::specs::Acts::settled_of))]
+    fn settled(self, access: u8, net: u32) -> State
+        ensures { result ≡ acts.settled_of access net self }
+    {
+        if access == 0 {
+            State { pend0: net, ..self }
+        } else {
+            State { pend1: net, ..self }
+        }
     }
-}
 
-pub(crate) fn pending(x: State, access: u8) -> u32
-    ensures { result ≡ acts.pending_in x access }
-{
-    if access == 0 { x.pend0 } else { x.pend1 }
-}
-
-fn settled(access: u8, net: u32, x: State) -> State
-    ensures { result ≡ acts.settled_of access net x }
-{
-    let mut now = x;
-    if access == 0 {
-        now.pend0 = net;
-    } else {
-        now.pend1 = net;
+    pub(crate) fn moved(self, e: Event) -> State
+        ensures { result ≡ acts.moved_of e self }
+    {
+        match e {
+            Event::Card { home, .. } => State {
+                home,
+                pend0: 0,
+                pend1: 0,
+            },
+            Event::Start { access, net, .. } | Event::Update { access, net, .. } => {
+                self.settled(access, net)
+            }
+            _ => self,
+        }
     }
-    now
-}
 
-pub(crate) fn moved(e: Event, x: State) -> State
-    ensures { result ≡ acts.moved_of e x }
-{
-    match e {
-        Event::Card { edition: _, home } => State {
-            home,
-            pend0: 0,
-            pend1: 0,
-            count: 0,
-            noted: 0,
-            fit: x.fit,
-        },
-        Event::Start {
-            access,
-            manual: _,
-            net,
-            code: _,
-        } => settled(access, net, x),
-        Event::Update {
-            access,
-            regtype: _,
-            net,
-            code: _,
-            uplink: _,
-            sessions: _,
-        } => settled(access, net, x),
-        _ => x,
+    // For access `w`; `held` says whether the network of the event's own access has an entry there.
+    #[tactic(auto, unfolding(crate::specs::Acts::act_of, crate::specs::Explained::access_named))]
+    pub(crate) fn act(self, w: u8, held: bool, e: Event, octets: &[u8]) -> Act
+        ensures { result ≡ acts.act_of w self.home (acts.pending_in self w) (acts.pending_in self (access_named e)) held e octets.now }
+    {
+        match e {
+            Event::Message {
+                access,
+                protected,
+                ..
+            } => {
+                if access == w {
+                    own_act(w, self.home, self.pending(w), protected, octets)
+                } else {
+                    other_act(self.pending(access), held, protected, octets)
+                }
+            }
+            Event::Timer { number, .. } => timer_act(number),
+            Event::Power => Act {
+                whom: Whom::Every,
+                ban: Change::Tested,
+                bar: Change::Cleared,
+            },
+            Event::Import => import_act(w),
+            _ => no_act(),
+        }
     }
-}
-
-pub(crate) fn unfit(x: State) -> State
-    ensures { result ≡ acts.unfit_of x }
-{
-    let mut now = x;
-    now.fit = false;
-    now
 }

@@ -1,108 +1,84 @@
-// What a word makes of what is seen of a network.
-ghost use Rattle.std.specs.Prelude.{◌≡◌, cond, not, ◌&&◌, ◌+◌, ◌<◌, ◌≤◌, ltb};
-ghost use Rattle.history.specs.Tale.{is_put, is_begun, news};
+// What a taken event makes of what is seen of a network.
+ghost use Rattle.std.specs.Prelude.{◌≡◌, cond, ◌+◌, ◌<◌, ◌≤◌};
+ghost use Rattle.history.specs.Tale.{is_put, news};
 ghost use Rattle.chronicle.specs.Explained.{limits_of};
-ghost use Rattle.chronicle.specs.Words.{word_of, counter_after, marked_after, on_list_after, view_after};
+ghost use Rattle.chronicle.specs.Words.{word_of, counter_after, mark_after, on_list_after, view_after};
+ghost use Rattle.chronicle.specs.Notes.{puts_in};
 
-use crate::{OnList, View};
-use record::or;
+use crate::{Act, Change, Limits, OnList, View};
 
-// A reject or an import, which sets the mark.
-pub(crate) fn is_put(word: u8) -> bool
-    ensures { result ≡ is_put (word_of word) }
-{
-    if word == 1 {
-        return true;
+impl Change {
+    // A reject or an import, which sets the mark.
+    fn is_put(self) -> bool
+        ensures { result ≡ is_put (word_of self) }
+    {
+        matches!(self, Change::Struck(_) | Change::Put)
     }
-    if word == 2 {
-        return true;
-    }
-    word == 3
-}
 
-fn more(limit: u8, n: u8) -> u8
-    ensures { result ≡ cond (ltb n limit) (n + 1) n }
-{
-    if n < limit { n + 1 } else { n }
-}
+    #[tactic(auto, unfolding(crate::specs::Words::word_of, crate::specs::Words::counter_after))]
+    fn count(self, limit: u8, n: u8) -> u8
+        ensures { result ≡ counter_after limit (word_of self) n }
+    {
+        match self {
+            Change::Struck(protected) => {
+                if protected {
+                    limit
+                } else if n < limit {
+                    n + 1
+                } else {
+                    n
+                }
+            }
+            Change::ToLimit => limit,
+            _ => n,
+        }
+    }
 
-fn counted(limit: u8, word: u8, n: u8) -> u8
-    ensures { result ≡ counter_after limit (word_of word) n }
-{
-    if word == 1 {
-        return more(limit, n);
-    }
-    if word == 2 {
-        return limit;
-    }
-    if word == 4 {
-        return limit;
-    }
-    n
-}
-
-// "each counter above 0 and below its limit clears the mark"
-fn kept(limit: u8, n: u8, marked: bool) -> bool
-    ensures { result ≡ (not (is_begun limit n) && marked) }
-{
-    if n == 0 {
-        return marked;
-    }
-    if n < limit {
-        return false;
-    }
-    marked
-}
-
-fn marked_by(limit: u8, word: u8, n: u8, marked: bool) -> bool
-    ensures { result ≡ marked_after limit (word_of word) n marked }
-{
-    if is_put(word) {
-        return true;
-    }
-    if word == 5 {
-        return false;
-    }
-    if word == 6 {
-        return kept(limit, n, marked);
-    }
-    marked
-}
-
-fn last_at(put: bool, at: usize, before: usize) -> usize
-    ensures { result ≡ cond put at before }
-{
-    if put { at } else { before }
-}
-
-fn on_list_after(limit: u8, word: u8, at: usize, x: OnList) -> OnList
-    ensures { result ≡ on_list_after limit (word_of word) at x }
-{
-    OnList {
-        count: counted(limit, word, x.count),
-        marked: marked_by(limit, word, x.count, x.marked),
-        at: last_at(is_put(word), at, x.at),
+    // "each counter above 0 and below its limit clears the mark"
+    #[tactic(auto, unfolding(crate::specs::Words::word_of, crate::specs::Words::mark_after, history::specs::Tale::is_begun))]
+    fn mark(self, limit: u8, n: u8, at: usize, before: Option<usize>) -> Option<usize>
+        ensures { result ≡ mark_after limit (word_of self) n at before }
+    {
+        match self {
+            Change::Struck(_) | Change::Put => Some(at),
+            Change::Cleared => None,
+            Change::Tested => { if 0 < n && n < limit { None } else { before } }
+            _ => before,
+        }
     }
 }
 
-fn aged(put: bool, age: usize) -> usize
-    requires { age < 4096 }
-    ensures { result ≡ cond put 0 (age + 1) }
-{
-    if put { 0 } else { age + 1 }
+impl Act {
+    pub(crate) fn is_put(self) -> bool
+        ensures { result ≡ puts_in self }
+    {
+        self.ban.is_put() || self.bar.is_put()
+    }
 }
 
-pub(crate) fn view_after(banlimit: u8, n1limit: u8, ban: u8, bar: u8, at: usize, x: View) -> View
-    requires { x.age < 4096 }
-    ensures value { result ≡ view_after (limits_of banlimit n1limit) (news (word_of ban) (word_of bar)) at x }
-    ensures age_bound { result.age ≤ x.age + 1 }
-{
-    let own = on_list_after(banlimit, ban, at, x.ban);
-    let other = on_list_after(n1limit, bar, at, x.bar);
-    let age = aged(or(is_put(ban), is_put(bar)), x.age);
-    View {
-        ban: own,
-        bar: other,
-        age,
+impl OnList {
+    #[tactic(auto, unfolding(crate::specs::Words::on_list_after))]
+    fn after(self, limit: u8, change: Change, at: usize) -> OnList
+        ensures { result ≡ on_list_after limit (word_of change) at self }
+    {
+        OnList {
+            count: change.count(limit, self.count),
+            mark: change.mark(limit, self.count, at, self.mark),
+        }
+    }
+}
+
+impl View {
+    #[tactic(auto, unfolding(crate::specs::Words::view_after, history::specs::Tale::puts))]
+    pub(crate) fn after(self, limits: Limits, act: Act, at: usize) -> View
+        requires { self.age < 4096 }
+        ensures value { result ≡ view_after (limits_of limits.ban limits.n1) (news (word_of act.ban) (word_of act.bar)) at self }
+        ensures age_bound { result.age ≤ self.age + 1 }
+    {
+        View {
+            ban: self.ban.after(limits.ban, act.ban, at),
+            bar: self.bar.after(limits.n1, act.bar, at),
+            age: if act.is_put() { 0 } else { self.age + 1 },
+        }
     }
 }

@@ -3,9 +3,10 @@ ghost use Rattle.std.specs.Prelude.{◌≡◌};
 ghost use Rattle.history.specs.Tale.{is_one_of};
 ghost use Rattle.history.specs.History.{names_in};
 ghost use Rattle.chronicle.specs.Frames.{octets_at};
-ghost use Rattle.chronicle.specs.Notes.{concerns_in};
+ghost use Rattle.chronicle.specs.Notes.{is_gone, concerns_in};
 
 use crate::frames::octets_at;
+use crate::{Note, Whom};
 use networks::{is_unused, network_at};
 
 // Whether a card's file names a network.
@@ -15,24 +16,29 @@ fn named(file: &[u8], net: u32) -> bool
     if is_unused(net) {
         return false;
     }
-    let mut i: usize = 0;
-    while 2 < file.len() - i {
-        if network_at(file, i) == net {
+    for part in file.chunks_exact(3) {
+        if network_at(part, 0) == net {
             return true;
         }
-        i += 3;
     }
     false
 }
 
-pub(crate) fn concerns(log: &[u8], kind: u8, whom: u32, at: usize, net: u32) -> bool
-    ensures { result ≡ concerns_in (octets_at log.now at) kind whom net }
-{
-    if kind == 1 {
-        return true;
+impl Note {
+    pub(crate) fn is_gone(self, net: u32) -> bool
+        ensures { result ≡ is_gone self.gone net }
+    {
+        matches!(self.gone, Some(gone) if gone == net)
     }
-    if kind == 2 {
-        return named(octets_at(log, at), net);
+
+    #[tactic(auto, unfolding(crate::specs::Notes::concerns_in))]
+    pub(crate) fn concerns(self, log: &[u8], net: u32) -> bool
+        ensures { result ≡ concerns_in (octets_at log.now self.at) self.act.whom net }
+    {
+        match self.act.whom {
+            Whom::One(one) => one == net,
+            Whom::Every => true,
+            Whom::Filed => named(octets_at(log, self.at), net),
+        }
     }
-    whom == net
 }

@@ -1,11 +1,10 @@
 -- The table slot by slot: what an ask leaves in each, and whom it names. Assumes nothing.
-use Rattle.std.proofs.Common.{◌≡◌, ℕ, zero, suc, ◌+◌, ◌<◌, ◌≤◌, Bool, true, false, cond, eqb, ltb, ◌⊎◌, set, refl, ap, ◌∙◌, inl, inr, ⊎_elim, arith, length-set, get_or-set_other, get_or-set_same, ltb-false, ltb-true, lt-ltb, eqb-true}
+use Rattle.std.proofs.Common.{◌≡◌, ℕ, zero, suc, ◌+◌, ◌<◌, ◌≤◌, Bool, true, false, cond, eqb, ltb, ◌⊎◌, set, refl, ap, ◌∙◌, inl, inr, ⊎_elim, arith, Option, Some, None, IfSome, length-set, get_or-set_other, get_or-set_same, ltb-false, ltb-true, lt-ltb, eqb-true}
 use mathlib.Core.Path.{subst⁻¹}
 use borrow.Author.Tests.{eqb-false}
 use Rattle.deadlines.specs.declared.Slot.{Slot}
 use Rattle.deadlines.specs.declared.Table.{Table}
 use Rattle.deadlines.specs.declared.Best.{Best}
-use Rattle.deadlines.specs.declared.Named.TheVariants.{Timer, Nothing}
 use Rattle.deadlines.specs.Clock.{since}
 use Rattle.deadlines.specs.Slots.{rolled, due, weight}
 use Rattle.deadlines.specs.Asking.{slot_at, put_at, roll_to, better, best_to, named_by, asked, after_ask}
@@ -104,28 +103,28 @@ ripe now x l = go (due now x) l
     go true f = refl
     go false f = absurd (omega arith)
 
-none_named : (b : Best) → named_by b ≡ Nothing → b.most ≡ 0
+none_named : (b : Best) → named_by b ≡ None → b.most ≡ 0
 none_named b e = go (eqb b.most 0) refl e
   where
-    go : (c : Bool) → eqb b.most 0 ≡ c → cond c Nothing (Timer b.at) ≡ Nothing → b.most ≡ 0
+    go : (c : Bool) → eqb b.most 0 ≡ c → cond c None (Some b.at) ≡ None → b.most ≡ 0
     go true f g = eqb-true b.most 0 f
     go false f g = let z : ◌≡◌ {A = ℕ} 0 1 = cc in absurd (omega arith)
 
-one-named : (b : Best) (j : ℕ) → named_by b ≡ Timer j → (b.most ≡ 0 → ⊥) × (b.at ≡ j)
+one-named : (b : Best) (j : ℕ) → named_by b ≡ Some j → (b.most ≡ 0 → ⊥) × (b.at ≡ j)
 one-named b j e = go (eqb b.most 0) refl e
   where
-    go : (c : Bool) → eqb b.most 0 ≡ c → cond c Nothing (Timer b.at) ≡ Timer j → (b.most ≡ 0 → ⊥) × (b.at ≡ j)
+    go : (c : Bool) → eqb b.most 0 ≡ c → cond c None (Some b.at) ≡ Some j → (b.most ≡ 0 → ⊥) × (b.at ≡ j)
     go true f g = let z : ◌≡◌ {A = ℕ} 0 1 = cc in absurd (omega arith)
     go false f g = (eqb-false b.most 0 f, cc)
 
 -- "No timer due is its own reply"
-pub nothing-due : (now : ℕ) (t : Table) → asked now t ≡ Nothing → (i : ℕ) → i < 10 → due now (slot_at (after_ask now t) i) ≡ false
+pub nothing-due : (now : ℕ) (t : Table) → asked now t ≡ None → (i : ℕ) → i < 10 → due now (slot_at (after_ask now t) i) ≡ false
 unfolding asked
 nothing-due now t e i l =
     let z : (best_to now 10 (after_ask now t)).most ≡ 0 = none_named (best_to now 10 (after_ask now t)) e in
     light now (slot_at (after_ask now t) i) (omega (arith, (top now 10 (after_ask now t)).most i l))
 
-pub furthest-named : (now : ℕ) (t : Table) (j : ℕ) → asked now t ≡ Timer j → Furthest now (after_ask now t) j
+pub furthest-named : (now : ℕ) (t : Table) (j : ℕ) → asked now t ≡ Some j → Furthest now (after_ask now t) j
 unfolding asked
 furthest-named now t j e = go (best_to now 10 (after_ask now t)) (top now 10 (after_ask now t)) (one-named (best_to now 10 (after_ask now t)) j e)
   where
@@ -145,3 +144,11 @@ furthest-named now t j e = go (best_to now 10 (after_ask now t)) (top now 10 (af
 
     go : (b : Best) → Top now 10 u b → (b.most ≡ 0 → ⊥) × (b.at ≡ j) → Furthest now u j
     go b h w = rw w.1 at (⊎_elim (λ z. absurd (w.0 z)) (λ g. take b h g w.0) h.who)
+
+-- so whom an ask names is one of the ten
+pub asked-within : (now : ℕ) (t : Table) → IfSome (asked now t) (λ at. at < 10)
+asked-within now t = go (asked now t) refl
+  where
+    go : (x : Option ℕ) → asked now t ≡ x → IfSome x (λ at. at < 10)
+    go (Some j) e = (furthest-named now t j e).below
+    go None e = tt

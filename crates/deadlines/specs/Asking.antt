@@ -1,12 +1,10 @@
 -- The table of ten slots, and whom an ask names. Assumes nothing.
-use Rattle.std.specs.Prelude.{◌≡◌, ℕ, zero, suc, ◌<◌, ◌≤◌, true, cond, List, length, replicate, ◌==◌, nat_lt, slice_index, slice_set}
+use Rattle.std.specs.Prelude.{◌≡◌, ℕ, zero, suc, ◌<◌, ◌≤◌, true, cond, List, Option, Some, None, length, replicate, ◌==◌, nat_lt, slice_index, slice_set}
 use Rattle.deadlines.specs.Clock.{since}
 use Rattle.deadlines.specs.Slots.{rolled, due, weight}
 use Rattle.deadlines.specs.declared.Slot.{Slot}
 use Rattle.deadlines.specs.declared.Table.{Table}
 use Rattle.deadlines.specs.declared.Best.{Best}
-use Rattle.deadlines.specs.declared.Named.{Named}
-use Rattle.deadlines.specs.declared.Named.TheVariants.{Timer, Nothing}
 
 abbrev pub table_of : List ℕ → List ℕ → List ℕ → Table
 table_of held ends rests = record { rests = rests; ends = ends; held = held }
@@ -41,21 +39,21 @@ unfoldable pub best_to : ℕ → ℕ → Table → Best
 best_to now zero t = no_best
 best_to now (suc n) t = better (best_to now n t) n (weight now (slot_at t n))
 
-abbrev pub named_by : Best → Named
-named_by b = cond (b.most == 0) Nothing (Timer b.at)
+abbrev pub named_by : Best → Option ℕ
+named_by b = cond (b.most == 0) None (Some b.at)
 
 -- an ask first goes on to the lap that runs
 unfoldable pub after_ask : ℕ → Table → Table
 after_ask now t = roll_to now 10 t
 
 -- "for a time now, name the timer due"; "No timer due is its own reply"
-unfoldable pub asked : ℕ → Table → Named
+unfoldable pub asked : ℕ → Table → Option ℕ
 asked now t = named_by (best_to now 10 (after_ask now t))
 
 -- the slot named, or 10
-unfoldable pub place_of : Named → ℕ
-place_of (Timer at) = at
-place_of Nothing = 10
+unfoldable pub place_of : Option ℕ → ℕ
+place_of (Some at) = at
+place_of None = 10
 
 -- an array of ten is a list of ten
 pub record Ten (t : Table) : Type 0 where

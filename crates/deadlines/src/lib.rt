@@ -6,10 +6,6 @@ mod asking;
 mod slots;
 mod waiting;
 
-pub use arming::{arm, fits};
-pub use asking::{ask, place};
-pub use waiting::wait;
-
 // One timer: held or not, the deadline at which its lap ends, and the milliseconds that rest after that lap.
 #[derive(Clone, Copy)]
 pub struct Slot {
@@ -19,6 +15,7 @@ pub struct Slot {
 }
 
 // Slots in the order of ties: T3510, T3511, T3502, T3346, of access 0 and of access 1 each, T3512, T3247. Any octets are a table; all zero, no timer has a deadline.
+// Kept: three columns and not ten slots, since the C interface has them.
 #[repr(C)]
 #[derive(Clone, Copy)]
 pub struct Table {
@@ -28,15 +25,9 @@ pub struct Table {
 }
 
 // The slot furthest past its deadline so far, and one more than how far, in milliseconds.
+// Kept: 0 and not an Option where none is due, since weight and best_to of specs/, on which the theorem furthest-named stands, count so.
 #[derive(Clone, Copy)]
 pub struct Best {
     pub at: usize,
     pub most: u64,
-}
-
-// The slot of the timer that is due.
-#[derive(Clone, Copy)]
-pub enum Named {
-    Timer(usize),
-    Nothing,
 }

@@ -1,90 +1,91 @@
 // One timer's slot.
 ghost use Rattle.std.specs.Prelude.{◌≡◌};
-ghost use Rattle.deadlines.specs.Clock.{since, past, lap_of};
-ghost use Rattle.deadlines.specs.Slots.{started, all_of, ended, roll, rolled, due, weight};
+ghost use Rattle.deadlines.specs.Clock.{since, past};
+ghost use Rattle.deadlines.specs.Slots.{started, stopped, ended, roll, rolled, due, weight};
 
 use crate::Slot;
 
-pub(crate) fn late(time: u32, ends: u32) -> u32
-    ensures { result ≡ since time ends }
-{
-    std::num::wrapping_sub_u32(time, ends)
-}
+// No lap is longer than 2^31 - 1 milliseconds.
+const LAP: u64 = 2147483647;
 
-fn lap(length: u64) -> u32
-    ensures { result ≡ lap_of length }
-{
-    if length < 2147483648 {
-        length as u32
-    } else {
-        2147483647
+impl Slot {
+    #[tactic(auto, unfolding(crate::specs::Slots::started, crate::specs::Clock::lap_of))]
+    pub(crate) fn start(time: u32, length: u64) -> Self
+        ensures { result ≡ started time length }
+    {
+        let first = length.min(LAP);
+        Slot {
+            held: 1,
+            ends: time.wrapping_add(first as u32),
+            rests: length - first,
+        }
     }
-}
 
-pub(crate) fn wide(x: u32) -> u64
-    ensures { result ≡ x }
-{
-    x as u64
-}
-
-pub(crate) fn start(time: u32, length: u64) -> Slot
-    ensures { result ≡ started time length }
-{
-    let first = lap(length);
-    let ends = std::num::wrapping_add_u32(time, first);
-    Slot {
-        held: 1,
-        ends: ends,
-        rests: length - wide(first),
+    pub(crate) fn stop() -> Self
+        ensures { result ≡ stopped }
+    {
+        Slot {
+            held: 0,
+            ends: 0,
+            rests: 0,
+        }
     }
-}
 
-fn all(a: bool, b: bool, c: bool) -> bool
-    ensures { result ≡ all_of a b c }
-{
-    if a { if b { c } else { false } } else { false }
-}
-
-pub(crate) fn is_past(time: u32, ends: u32) -> bool
-    ensures { result ≡ past time ends }
-{
-    late(time, ends) < 2147483648
-}
-
-fn lap_over(time: u32, s: Slot) -> bool
-    ensures { result ≡ ended time s }
-{
-    all(s.held != 0, s.rests != 0, is_past(time, s.ends))
-}
-
-fn is_due(time: u32, s: Slot) -> bool
-    ensures { result ≡ due time s }
-{
-    all(s.held != 0, s.rests == 0, is_past(time, s.ends))
-}
-
-fn roll_once(time: u32, s: Slot) -> Slot
-    ensures { result ≡ roll time s }
-{
-    if lap_over(time, s) {
-        start(s.ends, s.rests)
-    } else {
-        s
+    #[tactic(auto, unfolding(crate::specs::Clock::since))]
+    pub(crate) fn late(self, time: u32) -> u32
+        ensures { result ≡ since time self.ends }
+    {
+        time.wrapping_sub(self.ends)
     }
-}
 
-pub(crate) fn roll_on(time: u32, s: Slot) -> Slot
-    ensures { result ≡ rolled time s }
-{
-    roll_once(time, roll_once(time, s))
-}
+    #[tactic(auto, unfolding(crate::specs::Clock::past))]
+    pub(crate) fn is_past(self, time: u32) -> bool
+        ensures { result ≡ past time self.ends }
+    {
+        self.late(time) < 2147483648
+    }
 
-pub(crate) fn weigh(time: u32, s: Slot) -> u64
-    ensures { result ≡ weight time s }
-{
-    if is_due(time, s) {
-        wide(late(time, s.ends)) + 1
-    } else {
-        0
+    #[tactic(auto, unfolding(crate::specs::Slots::ended))]
+    fn lap_over(self, time: u32) -> bool
+        ensures { result ≡ ended time self }
+    {
+        self.held != 0 && self.rests != 0 && self.is_past(time)
+    }
+
+    #[tactic(auto, unfolding(crate::specs::Slots::due))]
+    fn is_due(self, time: u32) -> bool
+        ensures { result ≡ due time self }
+    {
+        self.held != 0 && self.rests == 0 && self.is_past(time)
+    }
+
+    #[tactic(auto, unfolding(crate::specs::Slots::roll))]
+    fn roll_once(self, time: u32) -> Self
+        ensures { result ≡ roll time self }
+    {
+        if self.lap_over(time) {
+            Slot::start(self.ends, self.rests)
+        } else {
+            self
+        }
+    }
+
+    // Two laps at most can be over at a time.
+    #[tactic(auto, unfolding(crate::specs::Slots::rolled))]
+    pub(crate) fn roll_on(self, time: u32) -> Self
+        ensures { result ≡ rolled time self }
+    {
+        self.roll_once(time).roll_once(time)
+    }
+
+    #[tactic(auto, unfolding(crate::specs::Slots::weight))]
+    pub(crate) fn weigh(self, time: u32) -> u64
+        ensures { result ≡ weight time self }
+    {
+        if self.is_due(time) {
+            u64::from(self.late(time)) + 1
+        } else {
+            0
+        }
     }
 }

@@ -1,53 +1,44 @@
 // For how long nobody has to ask.
 ghost use Rattle.std.specs.Prelude.{◌≡◌};
-ghost use Rattle.deadlines.specs.Asking.{table_of};
-ghost use Rattle.deadlines.specs.Waiting.{lesser, left_in, spare_in, wait_to};
+ghost use Rattle.deadlines.specs.Clock.{since};
+ghost use Rattle.deadlines.specs.Waiting.{left_in, spare_in, wait_of};
 
-use crate::Slot;
-use crate::slots::{is_past, late};
+use crate::{Slot, Table};
 
-fn least(a: u32, b: u32) -> u32
-    ensures { result ≡ lesser a b }
-{
-    if b < a { b } else { a }
-}
+impl Slot {
+    #[tactic(auto, unfolding(crate::specs::Waiting::left_in, crate::specs::Clock::since))]
+    fn left(self, time: u32) -> u32
+        ensures { result ≡ left_in time self }
+    {
+        if self.is_past(time) {
+            0
+        } else {
+            self.ends.wrapping_sub(time)
+        }
+    }
 
-fn left(time: u32, s: Slot) -> u32
-    ensures { result ≡ left_in time s }
-{
-    if is_past(time, s.ends) {
-        0
-    } else {
-        late(s.ends, time)
+    #[tactic(auto, unfolding(crate::specs::Waiting::spare_in))]
+    fn spare(self, time: u32) -> u32
+        ensures { result ≡ spare_in time self }
+    {
+        if self.held == 0 {
+            600000
+        } else {
+            self.left(time)
+        }
     }
 }
 
-fn spare(time: u32, s: Slot) -> u32
-    ensures { result ≡ spare_in time s }
-{
-    if s.held == 0 { 600000 } else { left(time, s) }
-}
-
-// The milliseconds until the first lap ends, 600 s at most: by then a round has to start.
-pub fn wait(time: u32, held: &[u8; 10], ends: &[u32; 10], rests: &[u64; 10]) -> u32
-    ensures { result ≡ wait_to time 10 (table_of held.now ends.now rests.now) }
-{
-    let mut w: u32 = 600000;
-    let mut i: usize = 0;
-    while i < 10 {
-        let h = held[i];
-        let e = ends[i];
-        let l = rests[i];
-        let s = spare(
-            time,
-            Slot {
-                held: h,
-                ends: e,
-                rests: l,
-            },
-        );
-        w = least(w, s);
-        i += 1;
+impl Table {
+    // The milliseconds until the first lap ends, 600 s at most: by then a round has to start.
+    #[tactic(auto, unfolding(crate::specs::Waiting::wait_to, crate::specs::Waiting::lesser))]
+    pub fn wait(&self, time: u32) -> u32
+        ensures { result ≡ wait_of time self.now }
+    {
+        let mut w: u32 = 600000;
+        for i in 0..10 {
+            w = w.min(self.slot(i).spare(time));
+        }
+        w
     }
-    w
 }

@@ -1,5 +1,5 @@
 -- Effects of a taken event: numbers, timers, work on the arrays, requests. Assumes nothing.
-use Rattle.std.specs.Prelude.{ℕ, Bool, false, cond, eqb}
+use Rattle.std.specs.Prelude.{ℕ, Bool, false, cond, eqb, is_some, unwrap_or}
 use Rattle.record.specs.Setters.{with_entries}
 use Rattle.record.specs.Tests.{flip}
 use Rattle.record.specs.declared.Access.{Access}
@@ -136,7 +136,7 @@ key_effect h w set = plain h w (key_set set (access_of h w)) false
 -- Document 02, R-5: "An accept on access 0 starts T3512: the time given, which is kept, else the one kept, ..; not if zero or deactivated",
 -- which is kept as zero; a periodic update is "due until the next accept"
 unfoldable pub t3512_time : Accept → Device → ℕ
-t3512_time g d = cond g.paced g.t3512length d.t3512length
+t3512_time g d = unwrap_or g.t3512length d.t3512length
 
 unfoldable pub accept_t3512 : ℕ → ℕ → Order
 accept_t3512 w time = cond (eqb w 0) (cond (eqb time 0) Leave (Run time)) Leave
@@ -152,7 +152,7 @@ accept_work s g = record { mine = deed.Accept s; theirs = deed.Nothing; roaming 
 unfoldable pub accept_effect : Hot → ℕ → Accept → Seen → Effect
 accept_effect h w g s = record {
   dev = accept_device w (t3512_time g h.dev) h.dev;
-  mine = accepted g.given g.count (cond g.timed g.t3502length 720) (access_of h w);
+  mine = accepted (is_some g.guti) g.count (unwrap_or g.t3502length 720) (access_of h w);
   theirs = still (other_of h w);
   t3247 = Leave;
   t3512 = accept_t3512 w (t3512_time g h.dev);

@@ -1,36 +1,28 @@
 // An import of the card's forbidden networks.
-ghost use Rattle.std.specs.Prelude.{◌≡◌, cond};
+ghost use Rattle.std.specs.Prelude.{◌≡◌, ℕ, option_map, unwrap_or};
 ghost use Rattle.effects.specs.Effects as rules;
 
-use crate::{Keep, Sides, Work};
-use areas::Task;
+use crate::parts::idle;
+use crate::{Sides, Work};
 use entries::Deed;
 use record::with_entries;
+use turns::Turn;
 
-fn import_work() -> Work
-    ensures { result ≡ rules.import_work }
+// What an import, after which access 0 has so many entries, adds to an event that changes nothing. It comes behind the other effects: as one more of them it made all of them slower.
+#[tactic(auto, unfolding(crate::specs::Effects::imported_sides))]
+pub fn import_effect(entries: Option<u8>, x: Sides) -> Sides
+    ensures { result ≡ unwrap_or (option_map (λ (n : ℕ). rules.imported_sides n x) entries) x }
 {
-    Work {
-        mine: Deed::Import,
-        theirs: Deed::Nothing,
-        roaming: Task::Nothing,
-        regional: Task::Nothing,
-        keep: Keep::Nothing,
+    let Some(entries) = entries else {
+        return x;
+    };
+    let access = with_entries(entries, x.t0.access);
+    Sides {
+        t0: Turn { access, ..x.t0 },
+        work: Work {
+            mine: Deed::Import,
+            ..idle()
+        },
+        ..x
     }
-}
-
-// What an import adds to an event that changes nothing. It comes behind the other effects: as one more of them it made all of them slower.
-pub fn import_effect(import: bool, entries: u8, x: Sides) -> Sides
-    ensures { result ≡ cond import (rules.imported_sides entries x) x }
-{
-    if import {
-        let t = x.t0;
-        let mut turn = t;
-        turn.access = with_entries(entries, t.access);
-        let mut q = x;
-        q.t0 = turn;
-        q.work = import_work();
-        return q;
-    }
-    x
 }

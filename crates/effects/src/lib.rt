@@ -1,5 +1,4 @@
-// Effects of a taken event: numbers, timers, work on the arrays, requests. Where an access's numbers are handed on whole they are asked for
-// afresh: a local that is used twice would be copied.
+// Effects of a taken event: numbers, timers, work on the arrays, requests.
 #![tactic(auto)]
 
 use areas::Task;
@@ -23,6 +22,7 @@ pub use rejects::reject_effect;
 pub use starts::{key_effect, start_effect, stop_over_0, update_effect};
 
 // What is kept of the octets: an accept's GUTI and equivalents, a card's SUCI.
+// Kept: no plainer, nothing is one of three cases, as in `Deed` and `Task` beside it.
 #[derive(Clone, Copy)]
 pub enum Keep {
     Nothing,
@@ -40,7 +40,7 @@ pub struct Work {
     pub keep: Keep,
 }
 
-// A taken event: the device's numbers, the turns of access 0 and 1, T3247, T3512, the work, and whether a restart is asked. The turns are sorted out at each event, so that an access that it leaves alone is handed on as it is.
+// A taken event: the device's numbers, the turns of access 0 and 1, T3247, T3512, the work, and whether a restart is asked.
 #[derive(Clone, Copy)]
 pub struct Sides {
     pub dev: Device,

@@ -5,10 +5,11 @@ ghost use Rattle.effects.specs.Effects as rules;
 ghost use Rattle.effects.specs.Effects.{sides_of};
 
 use crate::Sides;
-use crate::parts::{idle, plain, side};
-use record::{Hot, access_of, other_of};
-use turns::{Order, key_set, started, still, updated};
+use crate::parts::plain;
+use record::{Hot, access_of};
+use turns::{Order, key_set, started, updated};
 
+#[tactic(auto, unfolding(crate::specs::Effects::start_effect))]
 pub fn start_effect(h: Hot, w: u8, net: u32, code: u32) -> Sides
     ensures { result ≡ sides_of w (rules.start_effect h w net code) }
 {
@@ -22,6 +23,8 @@ pub fn stop_over_0(w: u8) -> Order
     if w == 0 { Order::Stop } else { Order::Leave }
 }
 
+// Kept: what may not change: `update_effect` takes the numbers of an update one by one, as document 02, R-5, has them; a struct of them would be taken apart again where each is set.
+#[tactic(auto, unfolding(crate::specs::Effects::update_effect, crate::specs::Effects::sides_of))]
 pub fn update_effect(
     h: Hot,
     w: u8,
@@ -33,25 +36,14 @@ pub fn update_effect(
 ) -> Sides
     ensures { result ≡ sides_of w (rules.update_effect h w regtype net code uplink sessions) }
 {
-    let dev = h.dev;
-    let a = access_of(h, w);
-    let mine = updated(regtype, net, code, uplink, sessions, a);
-    let theirs = still(other_of(h, w));
-    let t3512 = stop_over_0(w);
-    let work = idle();
-    let t0 = side(w, mine, theirs);
-    let t1 = side(w, theirs, mine);
+    let mine = updated(regtype, net, code, uplink, sessions, access_of(h, w));
     Sides {
-        dev,
-        t0,
-        t1,
-        t3247: Order::Leave,
-        t3512,
-        work,
-        restart: false,
+        t3512: stop_over_0(w),
+        ..plain(h, w, mine, false)
     }
 }
 
+#[tactic(auto, unfolding(crate::specs::Effects::key_effect))]
 pub fn key_effect(h: Hot, w: u8, set: u8) -> Sides
     ensures { result ≡ sides_of w (rules.key_effect h w set) }
 {

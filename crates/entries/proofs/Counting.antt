@@ -2,21 +2,21 @@
 use Prim.Native.Nat.{ℕ, suc, ◌+◌, ◌≤◌, ◌<◌}
 use mathlib.Core.Path.{◌≡◌, refl, sym, ◌∙◌, ap}
 use mathlib.Core.Bool.{Bool, true, false, cond}
-use mathlib.Core.List.{List, [], ◌∷◌}
+use mathlib.Core.List.{List, [], ◌∷◌, ◌++◌}
 use native.Mathlib.Nat.{add-zero}
 use native.Mathlib.Numerals.{add-one}
 use native.Mathlib.Omega.{arith}
 use lib.Dec.{ltb, eqb}
-use lib.ListN.{length, set, drop, length-set}
+use lib.ListN.{length, set, length-set}
 use borrow.Author.Tests.{lt-ltb, le-ltb}
 use Rattle.laws.specs.Bounds.{at_most}
 use Rattle.laws.specs.Upto.{seek_to}
 use Rattle.laws.proofs.Seek.{seek-added}
 use Rattle.networks.specs.Networks.{unused, network_at, used_by, networks_in}
-use Rattle.networks.proofs.Reading.{file-next, file-over}
 use Rattle.entries.specs.Places.{same_net, entries_held, place_in, has_entry, put_at}
 use Rattle.entries.specs.Entries.{new_in, held_with}
 use Rattle.entries.specs.Counting.{known_to, known_both, is_passed}
+use Rattle.entries.proofs.Chunks.{chunk-next, chunk-over}
 
 -- it goes by who is known, however that is said
 pub new-same : (f g : ℕ → Bool) → ((m : ℕ) → f m ≡ g m) → (xs : List ℕ) → new_in f xs ≡ new_in g xs
@@ -90,16 +90,15 @@ counted : (n : ℕ) (known : ℕ → Bool) → n ≤ 16 → n ≡ at_most 17 (n 
 unfolding new_in
 counted n known h = let e : n + 0 ≡ n = omega arith in rw (e, lt-ltb n 17 (omega arith))
 
--- how far a count has come: k are new so far, and the new ones from place i on are still to be counted
+-- how far a count has come: k are new so far, and those of what is left are still to be counted
 module _ (count : ℕ) (file nets : List ℕ) (n : ℕ) where
-  abbrev pub Counting : List ℕ → ℕ → ℕ → Type 0
-  Counting new k i =
-      (i ≤ length file) × (n + k ≤ 16) × (length new ≡ 16) × (held_with count file nets ≡ at_most 17 (n + k + length (new_in (known_both n nets k new) (networks_in (drop i file)))))
+  abbrev pub Counting : List ℕ → ℕ → List ℕ → Type 0
+  Counting new k s =
+      (n + k ≤ 16) × (length new ≡ 16) × (held_with count file nets ≡ at_most 17 (n + k + length (new_in (known_both n nets k new) (networks_in s))))
 
-  pub count-first : (new : List ℕ) → length new ≡ 16 → n ≡ entries_held count → n ≤ 16 → Counting new 0 0
+  pub count-first : (new : List ℕ) → length new ≡ 16 → n ≡ entries_held count → n ≤ 16 → Counting new 0 file
   unfolding held_with has_entry place_in seek_to
   count-first new l e h = (
-    omega arith,
     omega arith,
     l,
     rw (← e, add-zero n) (ap (λ (xs : List ℕ). at_most 17 (n + length xs)) (new-same (known_to n nets) (known_both n nets 0 new) (λ m. none (known_to n nets m)) (networks_in file))),
@@ -109,20 +108,17 @@ module _ (count : ℕ) (file nets : List ℕ) (n : ℕ) where
       none true = refl
       none false = refl
 
-  module _ (new : List ℕ) (k i : ℕ) (c : Counting new k i) (h : i + 2 < length file) (net : ℕ) (q : net ≡ network_at file i) (next : ℕ) (e : next ≡ cond (is_passed net n nets k new) k (k + 1)) where
-    abbrev rest : List ℕ
-    rest = networks_in (drop (i + 3) file)
+  module _ (new : List ℕ) (k : ℕ) (s : List ℕ) (c : Counting new k s) (x rest : List ℕ) (split : s ≡ x ++ rest) (three : length x ≡ 3) (net : ℕ) (q : net ≡ network_at x 0) (next : ℕ) (e : next ≡ cond (is_passed net n nets k new) k (k + 1)) where
+    still : held_with count file nets ≡ at_most 17 (n + k + length (new_in (known_both n nets k new) (used_by net (networks_in rest))))
+    still = c.2 ∙ ap (λ (xs : List ℕ). at_most 17 (n + k + length (new_in (known_both n nets k new) xs))) (chunk-next s x rest split three ∙ ap (λ (m : ℕ). used_by m (networks_in rest)) (sym q))
 
-    still : held_with count file nets ≡ at_most 17 (n + k + length (new_in (known_both n nets k new) (used_by net rest)))
-    still = c.3 ∙ ap (λ (xs : List ℕ). at_most 17 (n + k + length (new_in (known_both n nets k new) xs))) (file-next i file h ∙ ap (λ (m : ℕ). used_by m rest) (sym q))
-
-    pub count_next : (more : List ℕ) → more ≡ cond (is_passed net n nets k new) new (put_at new k net) → n + next ≤ 16 → Counting more next (i + 3)
+    pub count_next : (more : List ℕ) → more ≡ cond (is_passed net n nets k new) new (put_at new k net) → n + next ≤ 16 → Counting more next rest
     count_next more f g =
-        rw (e, f) (omega arith, rw e at g, joined_length n nets net k new c.1 c.2, still ∙ ap (at_most 17) (joined n nets net k new c.1 c.2 rest (rw e at g)))
+        rw (e, f) (rw e at g, joined_length n nets net k new c.0 c.1, still ∙ ap (at_most 17) (joined n nets net k new c.0 c.1 (networks_in rest) (rw e at g)))
 
     pub count-full : 16 < n + next → 17 ≡ held_with count file nets
-    count-full g = full n nets net k new c.1 c.2 rest (rw e at g) ∙ sym still
+    count-full g = full n nets net k new c.0 c.1 (networks_in rest) (rw e at g) ∙ sym still
 
-  pub count-over : (new : List ℕ) (k i : ℕ) → Counting new k i → length file ≤ i + 2 → n + k ≡ held_with count file nets
-  count-over new k i c h =
-      counted (n + k) (known_both n nets k new) c.1 ∙ sym (c.3 ∙ ap (λ (xs : List ℕ). at_most 17 (n + k + length (new_in (known_both n nets k new) xs))) (file-over i file h))
+  pub count-over : (new : List ℕ) (k : ℕ) (s : List ℕ) → Counting new k s → length s < 3 → n + k ≡ held_with count file nets
+  count-over new k s c h =
+      counted (n + k) (known_both n nets k new) c.0 ∙ sym (c.2 ∙ ap (λ (xs : List ℕ). at_most 17 (n + k + length (new_in (known_both n nets k new) xs))) (chunk-over s h))

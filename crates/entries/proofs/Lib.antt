@@ -1,4 +1,5 @@
 -- Laws of the entries.
+pub mod Chunks
 pub mod Counting
 pub mod Joining
 pub mod Laws

@@ -1,17 +1,19 @@
 -- Those of sixteen elements that pass, as the bits of a number, the first as the lowest: its trailing zeros are the place of the first that passes. Assumes nothing.
-use Prim.Native.Nat.{ℕ, zero, suc, ◌+◌, ◌-◌, ◌*◌, ◌/◌, ◌^◌, ◌≤◌, ◌<◌}
+use Prim.Native.Nat.{ℕ, zero, suc, ◌+◌, ◌*◌, ◌%◌, ◌^◌, ◌≤◌, ◌<◌}
 use mathlib.Core.Path.{◌≡◌, refl, sym, ap, ◌∙◌}
 use mathlib.Core.Bool.{Bool, true, false, cond}
 use mathlib.Core.List.{List, [], ◌∷◌}
-use native.Mathlib.Nat.{add-zero, add-mul, mul_assoc, mul_comm, mul-div_cancel, mul-one, one-mul, pow-suc}
+use native.Mathlib.Nat.{add-zero, pow-suc, mod-eq_of_lt}
 use native.Mathlib.Numerals.{add-one}
 use native.Mathlib.Omega.{arith}
 use lib.Arith.{digits_div, digits_mod}
-use lib.Bits.{bit_or, or_shifted, or_zero_r}
+use lib.Bits.{bit_or, or_zero_r}
+use Rattle.std.specs.Int.Bits.{or_shifted_r}
 use lib.Count.{count_trailing_zeros}
 use lib.ListN.{get_or, drop}
 use lib.Pow.{pow-lt}
-use lib.Seq.{get_or-drop, drop-drop}
+use mir.Val.{bool_byte}
+use lib.Seq.{get_or-drop}
 use Rattle.laws.specs.Upto.{seek_to}
 use Rattle.laws.proofs.Seek.{seek_is, seek-before, seek_found}
 
@@ -20,14 +22,6 @@ low : (n m : ℕ) (s : Bool) → count_trailing_zeros (suc n) (m * 2 + cond s 1 
 unfolding count_trailing_zeros
 low n m true = rw (digits_mod m {m = 2} {r = 1} (omega arith))
 low n m false = rw (digits_mod m {m = 2} {r = 0} (omega arith), digits_div m {m = 2} {r = 0} (omega arith))
-
--- the same digit, with j zeros below it
-below : (a j : ℕ) (s : Bool) → bit_or (a * 2 ^ suc j) (cond s (2 ^ j) 0) ≡ (a * 2 + cond s 1 0) * 2 ^ j
-below a j true = or_shifted a (suc j) (2 ^ j) (pow-lt (omega arith)) ∙ rw (pow-suc, add-mul, mul_assoc, mul_comm 2 (2 ^ j), one-mul)
-below a j false = or_zero_r (a * 2 ^ suc j) ∙ rw (pow-suc, add-zero, mul_assoc, mul_comm 2 (2 ^ j))
-
-halved : (j : ℕ) → 2 ^ suc j / 2 ≡ 2 ^ j
-halved j = rw pow-suc (mul-div_cancel (2 ^ j) (omega arith))
 
 -- the first n elements, each a digit
 unfoldable pub passing : (ℕ → Bool) → ℕ → List ℕ → ℕ
@@ -40,36 +34,47 @@ lowest p zero xs = refl
 lowest p (suc n) [] = low n (passing p n []) (p 0) ∙ rw (lowest p n [])
 lowest p (suc n) (x ∷ xs) = low n (passing p n xs) (p x) ∙ rw (lowest p n xs)
 
-module _ (p : ℕ → Bool) (xs : List ℕ) where
-  peel : (k i : ℕ) → passing p (suc k) (drop i xs) ≡ passing p k (drop (suc i) xs) * 2 + cond (p (get_or xs i 0)) 1 0
-  unfolding passing
-  peel k i = rw (drop-drop, get_or-drop, add-one, add-zero)
+pub mask-none : (p : ℕ → Bool) (xs : List ℕ) → 0 ≡ passing p 0 xs
+unfolding passing
+mask-none p xs = refl
 
-  -- the digits of the elements from i on stand, and the one before them is the next
-  pub record Masked (i m b : ℕ) : Type 0 where
-    pub within : i ≤ 16
-    pub digits : m ≡ passing p (16 - i) (drop i xs) * 2 ^ i
-    pub next : b ≡ 2 ^ i / 2
+within : (p : ℕ → Bool) (n : ℕ) (xs : List ℕ) → passing p n xs < 2 ^ n
+unfolding passing
+within p zero xs = omega arith
+within p (suc n) xs = rw pow-suc (go (p (get_or xs 0 0)) (within p n (drop 1 xs)))
+  where
+    go : (s : Bool) → passing p n (drop 1 xs) < 2 ^ n → passing p n (drop 1 xs) * 2 + cond s 1 0 < 2 ^ n * 2
+    go true h = omega arith
+    go false h = omega arith
 
-  pub mask-none : Masked 16 0 32768
-  unfolding passing
-  mask-none = record { within = omega arith; digits = refl; next = refl }
+-- one more element is one more digit above the others
+above : (p : ℕ → Bool) (n : ℕ) (xs : List ℕ) → passing p (suc n) xs ≡ passing p n xs + cond (p (get_or xs n 0)) (2 ^ n) 0
+unfolding passing
+above p zero xs = refl
+above p (suc n) xs =
+    let e : 1 + n ≡ suc n = omega arith in
+    rw (above p n (drop 1 xs), get_or-drop, e, pow-suc) (go (p (get_or xs (suc n) 0)) (p (get_or xs 0 0)))
+  where
+    go : (s t : Bool) → (passing p n (drop 1 xs) + cond s (2 ^ n) 0) * 2 + cond t 1 0 ≡ passing p n (drop 1 xs) * 2 + cond t 1 0 + cond s (2 ^ n * 2) 0
+    go true t = omega arith
+    go false t = omega arith
 
-  pub mask-more : (i m b : ℕ) → Masked i m b → 0 < i → Masked (i - 1) (bit_or m (cond (p (get_or xs (i - 1) 0)) b 0)) (b / 2)
-  mask-more zero m b d h = absurd (omega arith)
-  mask-more (suc j) m b d h =
-      let q : suc j - 1 ≡ j = omega arith in
-      let r : 16 - j ≡ suc (16 - suc j) = omega arith in
-      let g : b ≡ 2 ^ j = d.next ∙ halved j in
-      rw (q, g) (record { within = omega arith; digits = rw (r, d.digits, peel (16 - suc j) j) (below (passing p (16 - suc j) (drop (suc j) xs)) j (p (get_or xs j 0))); next = refl })
+pub mask-more : (p : ℕ → Bool) (i : ℕ) (xs : List ℕ) → i < 16 → bit_or (passing p i xs) (bool_byte (p (get_or xs i 0)) * 2 ^ i % 65536) ≡ passing p (i + 1) xs
+mask-more p i xs h = rw (add-one, above p i xs) (go (p (get_or xs i 0)))
+  where
+    go : (s : Bool) → bit_or (passing p i xs) (bool_byte s * 2 ^ i % 65536) ≡ passing p i xs + cond s (2 ^ i) 0
+    go true =
+        let k : 1 * 2 ^ i < 65536 = omega (arith, pow-lt {i = i} {j = 16} h) in
+        rw (mod-eq_of_lt k) (or_shifted_r 1 i (passing p i xs) (within p i xs) ∙ omega arith)
+    go false = let e : 0 * 2 ^ i % 65536 ≡ 0 = omega arith in rw e (or_zero_r (passing p i xs) ∙ sym (add-zero (passing p i xs)))
 
-  module _ (n i m b : ℕ) (d : Masked i m b) (h : i ≤ 0) where
-    whole : count_trailing_zeros 16 m ≡ seek_to p 16 xs
-    whole = let z : i ≡ 0 = omega arith in ap (count_trailing_zeros 16) (rw z at d.digits ∙ mul-one (passing p 16 xs)) ∙ lowest p 16 xs
+module _ (p : ℕ → Bool) (xs : List ℕ) (n m : ℕ) (d : m ≡ passing p 16 xs) where
+  whole : count_trailing_zeros 16 m ≡ seek_to p 16 xs
+  whole = ap (count_trailing_zeros 16) d ∙ lowest p 16 xs
 
-    -- what is found among sixteen is found among n, if it is one of them
-    pub mask-hit : n ≤ 16 → count_trailing_zeros 16 m < n → count_trailing_zeros 16 m ≡ seek_to p n xs
-    mask-hit k f = rw whole (sym (seek_is p n xs (seek_to p 16 xs) (omega (arith, whole)) (seek-before p 16 xs) (λ g. seek_found p 16 xs (omega (arith, whole)))))
+  -- what is found among sixteen is found among n, if it is one of them
+  pub mask-hit : n ≤ 16 → count_trailing_zeros 16 m < n → count_trailing_zeros 16 m ≡ seek_to p n xs
+  mask-hit k f = rw whole (sym (seek_is p n xs (seek_to p 16 xs) (omega (arith, whole)) (seek-before p 16 xs) (λ g. seek_found p 16 xs (omega (arith, whole)))))
 
-    pub mask-miss : n ≤ count_trailing_zeros 16 m → n ≡ seek_to p n xs
-    mask-miss f = sym (seek_is p n xs n (omega arith) (λ k g. seek-before p 16 xs k (omega (arith, whole))) (λ g. absurd (omega arith)))
+  pub mask-miss : n ≤ count_trailing_zeros 16 m → n ≡ seek_to p n xs
+  mask-miss f = sym (seek_is p n xs n (omega arith) (λ k g. seek-before p 16 xs k (omega (arith, whole))) (λ g. absurd (omega arith)))

@@ -2,13 +2,14 @@
 use Prim.Native.Nat.{ℕ, ◌+◌, ◌≤◌, ◌<◌}
 use mathlib.Core.Path.{◌≡◌, refl, sym, ◌∙◌, ap}
 use mathlib.Core.Bool.{Bool, true, false, cond, true≢false}
-use mathlib.Core.List.{List, [], ◌∷◌}
+use mathlib.Core.List.{List, [], ◌∷◌, ◌++◌}
 use lib.Dec.{eqb}
 use lib.ListN.{length, drop}
 use borrow.Author.Tests.{eqb-true}
 use Rattle.networks.specs.Networks.{network_of, unused, network_at, used_by, networks_in}
 use Rattle.networks.proofs.Reading.{file-next, file-over}
 use Rattle.entries.specs.Entries.{is_filed}
+use Rattle.entries.proofs.Chunks.{chunk-next, chunk-over}
 
 -- one more network before the rest, unless it is none
 among-used : (n x : ℕ) (rest : List ℕ) → eqb n unused ≡ false → is_filed n (used_by x rest) ≡ cond (eqb x n) true (is_filed n rest)
@@ -48,3 +49,19 @@ module _ (n : ℕ) (file : List ℕ) (u : eqb n unused ≡ false) (i : ℕ) (c :
   pub name-over : length file ≤ i + 2 → is_filed n (networks_in file) ≡ false
   unfolding is_filed
   name-over h = c ∙ ap (is_filed n) (file-over i file h)
+
+-- the same, three octets at a time
+module _ (n : ℕ) (file : List ℕ) (u : eqb n unused ≡ false) (s : List ℕ) (c : is_filed n (networks_in file) ≡ is_filed n (networks_in s)) where
+  module _ (x rest : List ℕ) (split : s ≡ x ++ rest) (three : length x ≡ 3) (net : ℕ) (q : net ≡ network_at x 0) where
+    one : is_filed n (networks_in file) ≡ cond (eqb net n) true (is_filed n (networks_in rest))
+    one = c ∙ ap (is_filed n) (chunk-next s x rest split three) ∙ rw (q) (among-used n (network_at x 0) (networks_in rest) u)
+
+    pub named-here : eqb net n ≡ true → is_filed n (networks_in file) ≡ true
+    named-here e = rw e at one
+
+    pub named_behind : eqb net n ≡ false → is_filed n (networks_in file) ≡ is_filed n (networks_in rest)
+    named_behind e = rw e at one
+
+  pub named_nowhere : length s < 3 → is_filed n (networks_in file) ≡ false
+  unfolding is_filed
+  named_nowhere h = c ∙ ap (is_filed n) (chunk-over s h)

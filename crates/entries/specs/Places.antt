@@ -22,5 +22,5 @@ unfoldable pub peek_at : List ℕ → ℕ → ℕ → ℕ
 peek_at xs at n = cond (ltb at n) (get_or xs at 0) 0
 
 -- sixteen is the place in a full table: nothing is stored there
-unfoldable pub put_at : List ℕ → ℕ → ℕ → List ℕ
+unfoldable pub put_at : {A : Type 0} → List A → ℕ → A → List A
 put_at xs at v = cond (ltb at 16) (set xs at v) xs

@@ -2,10 +2,12 @@
 ghost use Rattle.std.specs.Prelude.{◌≡◌, cond, false, ltb, eqb};
 ghost use Rattle.laws.specs.Upto.{upto};
 ghost use Rattle.entries.specs.Places.{entries_held};
+ghost use Rattle.entries.specs.Entries.{ranks_after, with_ranks};
 ghost use Rattle.entries.specs.Order.{fallen, last_at, rank_at, leaver_to};
 
-use crate::{put, size};
+use crate::{Deed, Entries, put, size};
 
+#[tactic(auto, unfolding(crate::specs::Order::fallen))]
 fn fall(r: u8, rank: u8) -> u8
     ensures { result ≡ fallen r rank }
 {
@@ -16,26 +18,23 @@ fn fall(r: u8, rank: u8) -> u8
 fn close_up(r: u8, ranks: &mut [u8; 16])
     ensures { ranks.new ≡ upto (λ x. fallen r) 16 ranks.old ranks.old }
 {
-    let mut i: usize = 0;
-    while i < 16 {
-        let rank = ranks[i];
-        ranks[i] = fall(r, rank);
-        i += 1;
+    for i in 0..16 {
+        ranks[i] = fall(r, ranks[i]);
     }
 }
 
 // A place in use is left by its rank and comes last; a free one is one more.
+#[tactic(auto, unfolding(crate::specs::Order::last_at))]
 fn to_end(at: usize, count: u8, ranks: &mut [u8; 16])
     ensures { ranks.new ≡ last_at at (entries_held count) ranks.old }
 {
     let n = size(count);
     if at < n {
-        let r = ranks[at];
-        close_up(r, ranks);
+        close_up(ranks[at], ranks);
         put(ranks, at, (n - 1) as u8);
-        return;
+    } else {
+        put(ranks, at, n as u8);
     }
-    put(ranks, at, n as u8);
 }
 
 pub fn last_when(when: bool, at: usize, count: u8, ranks: &mut [u8; 16])
@@ -46,6 +45,7 @@ pub fn last_when(when: bool, at: usize, count: u8, ranks: &mut [u8; 16])
     }
 }
 
+#[tactic(auto, unfolding(crate::specs::Order::rank_at))]
 fn rank_at(ranks: &[u8; 16], at: usize) -> u8
     ensures { result ≡ rank_at ranks.now at }
 {
@@ -55,32 +55,34 @@ fn rank_at(ranks: &[u8; 16], at: usize) -> u8
 fn goes(forbidden: u8, barred: u8, rank: u8, lowest: u8) -> bool
     ensures { result ≡ cond (cond (eqb forbidden 0) (eqb barred 0) false) (ltb rank lowest) false }
 {
-    if forbidden != 0 {
-        return false;
-    }
-    if barred != 0 {
-        return false;
-    }
-    rank < lowest
+    forbidden == 0 && barred == 0 && rank < lowest
 }
 
-fn either(first: bool, a: usize, b: usize) -> usize
-    ensures { result ≡ cond first a b }
-{
-    if first { a } else { b }
-}
-
-// Where all sixteen have a mark, sixteen.
-pub fn leaver(forbidden: &[u8; 16], barred: &[u8; 16], ranks: &[u8; 16]) -> usize
-    ensures { result ≡ leaver_to 16 forbidden.now barred.now ranks.now }
-{
-    let mut at: usize = 16;
-    let mut i: usize = 0;
-    while i < 16 {
-        let lowest = rank_at(ranks, at);
-        let older = goes(forbidden[i], barred[i], ranks[i], lowest);
-        at = either(older, i, at);
-        i += 1;
+impl Entries {
+    // Kept: what may not change: sixteen, where all have a mark: it is the place of a network that finds none (`leaver_to`, `place_for`).
+    #[tactic(auto, unfolding(crate::specs::Order::leaver_to))]
+    pub fn leaver(&self) -> usize
+        ensures { result ≡ leaver_to 16 self.now.forbidden self.now.barred self.now.ranks }
+    {
+        let mut at = 16;
+        for i in 0..16 {
+            let lowest = rank_at(&self.ranks, at);
+            if goes(self.forbidden[i], self.barred[i], self.ranks[i], lowest) {
+                at = i;
+            }
+        }
+        at
     }
-    at
+
+    // An import's own order comes with its file.
+    #[tactic(auto, unfolding(crate::specs::Entries::ranks_after))]
+    pub fn reorder(&mut self, k: Deed, count: u8)
+        ensures { self.new ≡ with_ranks (ranks_after k count self.old.ranks) self.old }
+    {
+        match k {
+            Deed::Ban(s) | Deed::Bar(s) => to_end(s.at, count, &mut self.ranks),
+            Deed::Fresh => self.ranks = [0; 16],
+            _ => {}
+        }
+    }
 }

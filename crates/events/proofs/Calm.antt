@@ -3,10 +3,10 @@ use Prim.Native.Nat.{ℕ}
 use mathlib.Core.Path.{◌≡◌, refl, sym}
 use mathlib.Core.Bool.{Bool, true, false, cond, false≢true}
 use mathlib.Core.List.{List}
+use Rattle.std.specs.Prelude.{None}
 use lib.Dec.{eqb}
 use Rattle.entries.specs.declared.Deed.{Deed}
 use Rattle.entries.specs.declared.Deed.TheVariants as deed
-use Rattle.entries.specs.declared.Entries.{Entries}
 use Rattle.entries.specs.declared.Seen.{Seen}
 use Rattle.entries.specs.Entries.{entries_after, marks_after, ranks_after, with_file, is_import}
 use Rattle.areas.specs.Areas.{list_after, count_after}
@@ -14,6 +14,7 @@ use Rattle.record.specs.declared.Access.{Access}
 use Rattle.record.specs.declared.Answer.{Answer}
 use Rattle.record.specs.declared.Device.{Device}
 use Rattle.record.specs.declared.Hot.{Hot}
+use Rattle.record.specs.declared.Record.{Record}
 use Rattle.record.specs.Answers.{is_taken}
 use Rattle.record.specs.Sides.{hot_of}
 use Rattle.turns.specs.Timers.{is_device_timer}
@@ -22,11 +23,11 @@ use Rattle.effects.specs.Effects.{Effect, idle, ticked, scheduled, start_effect,
 use Rattle.rules.specs.declared.Event.{Event}
 use Rattle.rules.specs.declared.Event.TheVariants.{Card, Start, Message, Timer, Power, Key, Update, Import, Unknown}
 use Rattle.rules.specs.declared.Plan.{Plan}
-use Rattle.rules.specs.declared.Site.TheVariants as site
 use Rattle.rules.specs.Plan.{access_in, answer_of, effect_of, hot_after, taken_plan, refused_plan, decided_by, plan_of, site_of, deed_on, deed_of}
 use Rattle.rules.specs.Sides.{has_work, numbers_plan, work_plan}
 use Rattle.events.specs.Alike.{Alike}
-use Rattle.events.specs.Parts.{planned_of, table_after, with_counts, done_of, parts_of, carried_out, parts_after}
+use Rattle.events.specs.Parts.{listed_of, table_after, with_counts, done_of, carried_out, kept_after, guti_after, equivalents_after, suci_after}
+use Rattle.events.specs.Step.{with_hot, together, joined_of}
 
 -- only the marks are looked at, and no octets
 pub by-marks : (h : Hot) (e : Event) (s t : Seen) (listed : Bool) (octets : List ℕ) → has_work e ≡ false → Alike s t → numbers_plan h e s listed ≡ plan_of h e t listed octets
@@ -41,13 +42,8 @@ by-marks h (Update w regtype net code uplink sessions) s t listed octets i a = r
 by-marks h Import s t listed octets i a = absurd (false≢true (sym i))
 by-marks h Unknown s t listed octets i a = refl
 
--- with work, the plan is the event's
-pub worked : (h : Hot) (e : Event) (s : Seen) (octets : List ℕ) (p : Plan) → has_work e ≡ true → p ≡ work_plan h e s octets → p ≡ plan_of h e s false octets
-unfolding work_plan
-worked h e s octets p i q = rw i at q
-
 -- an event that may have work looks no area up
-pub no-site : (e : Event) → has_work e ≡ true → site.Nothing ≡ site_of e
+no-site : (e : Event) → has_work e ≡ true → site_of e ≡ None
 unfolding has_work site_of
 no-site (Card edition home) i = refl
 no-site (Start w manual net code) i = absurd (false≢true i)
@@ -58,6 +54,11 @@ no-site (Key w set) i = absurd (false≢true i)
 no-site (Update w regtype net code uplink sessions) i = absurd (false≢true i)
 no-site Import i = refl
 no-site Unknown i = absurd (false≢true i)
+
+-- so with work, the plan is the event's
+pub work-plan : (h : Hot) (e : Event) (s : Seen) (octets roaming regional : List ℕ) → has_work e ≡ true → work_plan h e s octets ≡ plan_of h e s (listed_of (site_of e) h roaming regional) octets
+unfolding work_plan listed_of
+work-plan h e s octets roaming regional i = rw (i, no-site e i)
 
 -- no work, and the lists' counts of these numbers
 record Calm (h : Hot) (p : Plan) : Type 0 where
@@ -108,11 +109,11 @@ either : (b : Bool) → cond {A = Deed} b deed.Nothing deed.Nothing ≡ deed.Not
 either true = refl
 either false = refl
 
-carried : (h : Hot) (p : Plan) (octets : List ℕ) (x y : Entries) (a b : List ℕ) → Calm h p → parts_of (record { plan = p; hot = p.hot }) x y a b ≡ carried_out p octets h x y a b
-unfolding carried_out done_of table_after deed_of deed_on entries_after marks_after ranks_after with_file is_import list_after count_after with_counts
-carried h p octets x y a b k = rw (k.idles, either (eqb p.access 0), either (eqb p.access 1), ← k.roams, ← k.regions)
+-- the numbers alone change
+carried : (r : Record) (p : Plan) (octets : List ℕ) → Calm r.hot p → with_hot p.hot r ≡ (joined_of r octets (carried_out p octets r.hot r.e0 r.e1 r.roaming r.regional)).next
+unfolding joined_of together carried_out done_of table_after deed_of deed_on entries_after marks_after ranks_after with_file is_import list_after count_after with_counts kept_after guti_after equivalents_after suci_after
+carried r p octets k = rw (k.idles, either (eqb p.access 0), either (eqb p.access 1), ← k.roams, ← k.regions)
 
-pub quiet : (h : Hot) (e : Event) (octets : List ℕ) (x y : Entries) (a b : List ℕ) (p : Plan) → has_work e ≡ false → p ≡ planned_of h e octets x y a b
-    → parts_of (record { plan = p; hot = p.hot }) x y a b ≡ parts_after h e octets x y a b
-unfolding parts_after planned_of
-quiet h e octets x y a b p i q = rw q (carried h (planned_of h e octets x y a b) octets x y a b (calm h e _ _ octets i))
+pub quiet : (r : Record) (e : Event) (octets : List ℕ) (s : Seen) (listed : Bool) → has_work e ≡ false
+    → with_hot (plan_of r.hot e s listed octets).hot r ≡ (joined_of r octets (carried_out (plan_of r.hot e s listed octets) octets r.hot r.e0 r.e1 r.roaming r.regional)).next
+quiet r e octets s listed i = carried r (plan_of r.hot e s listed octets) octets (calm r.hot e s listed octets i)

@@ -3,7 +3,8 @@ pub mod Networks
 pub mod Rest
 pub mod Calm
 pub mod Whole
+pub mod Left
+pub mod Front
 pub mod Second
 pub mod Orders
-pub mod Sights
-pub mod Sure
+pub mod Columns

@@ -5,13 +5,14 @@ use mathlib.Core.Bool.{Bool, true, false, cond}
 use mathlib.Core.List.{List}
 use lib.Dec.{eqb}
 use lib.ListN.{replicate}
+use Rattle.std.specs.Prelude.{Ok, Err}
 use Rattle.entries.specs.declared.Deed.{Deed}
 use Rattle.entries.specs.declared.Deed.TheVariants as deed
 use Rattle.entries.specs.declared.Seat.{Seat}
 use Rattle.entries.specs.declared.Seen.{Seen}
 use Rattle.entries.specs.Entries.{seat_of, ranks_after}
-use Rattle.messages.specs.declared.Reading.{Reading}
-use Rattle.messages.specs.declared.Reading.TheVariants as reading
+use Rattle.messages.specs.Message.{Reading}
+use Rattle.messages.specs.declared.Message.TheVariants as message
 use Rattle.messages.specs.Message.{reading_of}
 use Rattle.record.specs.declared.Hot.{Hot}
 use Rattle.record.specs.Answers.{is_taken}
@@ -80,10 +81,10 @@ mark-beside n1_not_allowed_and_counted s false net count ranks = refl
 module _ (h : Hot) where
   message-paired : (w protected : ℕ) (draws : Draws) (m : Reading) (s : Seen) → Paired (message_effect h w protected draws m s)
   unfolding ranks_after message_effect accept_effect reject_effect row_work row_deed
-  message-paired w protected draws (reading.Accept g) s count ranks = refl
-  message-paired w protected draws (reading.Reject g) s count ranks =
+  message-paired w protected draws (Ok (message.Accept g)) s count ranks = refl
+  message-paired w protected draws (Ok (message.Reject g)) s count ranks =
       mark-beside (mark_in (row_text (row_now h w protected g))) (seat_of s (access_of h w).net protected) (across_n1 w protected g.cause (row_now h w protected g)) (access_of h w).net count ranks
-  message-paired w protected draws (reading.Bad f at) s count ranks = refl
+  message-paired w protected draws (Err m) s count ranks = refl
 
   timer-paired : (number w : ℕ) → Paired (timer_effect h number w)
   unfolding ranks_after timer_effect device_effect t3247_effect t3512_effect clock_effect

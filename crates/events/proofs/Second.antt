@@ -4,13 +4,14 @@ use mathlib.Core.Path.{◌≡◌, refl}
 use mathlib.Core.Bool.{Bool, true, false, cond}
 use mathlib.Core.List.{List}
 use lib.Dec.{eqb}
+use Rattle.std.specs.Prelude.{Ok, Err}
 use Rattle.entries.specs.declared.Deed.{Deed}
 use Rattle.entries.specs.declared.Deed.TheVariants as deed
 use Rattle.entries.specs.declared.Seat.{Seat}
 use Rattle.entries.specs.declared.Seen.{Seen}
 use Rattle.entries.specs.Entries.{seat_of, is_import}
-use Rattle.messages.specs.declared.Reading.{Reading}
-use Rattle.messages.specs.declared.Reading.TheVariants as reading
+use Rattle.messages.specs.Message.{Reading}
+use Rattle.messages.specs.declared.Message.TheVariants as message
 use Rattle.messages.specs.Message.{reading_of}
 use Rattle.record.specs.declared.Hot.{Hot}
 use Rattle.record.specs.Answers.{is_taken}
@@ -43,12 +44,12 @@ None x = (is_import x.work.mine ≡ false) × (is_import x.work.theirs ≡ false
 module _ (h : Hot) where
   message-none : (w protected : ℕ) (draws : Draws) (m : Reading) (s : Seen) → None (message_effect h w protected draws m s)
   unfolding is_import message_effect accept_effect reject_effect row_work row_deed
-  message-none w protected draws (reading.Accept g) s = (refl, refl)
-  message-none w protected draws (reading.Reject g) s = (
+  message-none w protected draws (Ok (message.Accept g)) s = (refl, refl)
+  message-none w protected draws (Ok (message.Reject g)) s = (
     mark-none (mark_in (row_text (row_now h w protected g))) (seat_of s (access_of h w).net protected),
     either (across_n1 w protected g.cause (row_now h w protected g)) (deed.ToLimit (access_of h w).net) deed.Nothing refl refl,
   )
-  message-none w protected draws (reading.Bad f at) s = (refl, refl)
+  message-none w protected draws (Err m) s = (refl, refl)
 
   timer-none : (number w : ℕ) → None (timer_effect h number w)
   unfolding is_import timer_effect device_effect t3247_effect t3512_effect clock_effect

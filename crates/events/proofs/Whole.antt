@@ -1,69 +1,47 @@
--- The core and the step put together from what their calls ensure, over plain variables. Assumes nothing.
+-- An event put together from what its calls ensure, over plain variables. Assumes nothing.
 use Prim.Native.Nat.{ℕ}
-use mathlib.Core.Path.{◌≡◌, ◌∙◌, ap}
-use mathlib.Core.Bool.{Bool, false}
-use mathlib.Core.List.{List, []}
-use Rattle.entries.specs.declared.Entries.{Entries}
+use mathlib.Core.Path.{◌≡◌, refl, ◌∙◌}
+use mathlib.Core.Bool.{Bool, true, false}
+use mathlib.Core.List.{List}
+use Rattle.std.specs.Prelude.{Option}
 use Rattle.entries.specs.declared.Seen.{Seen}
-use Rattle.entries.specs.declared.Deed.{Deed}
-use Rattle.entries.specs.Entries.{with_ranks, marks_after, ranks_after, is_import, with_file, entries_after}
-use Rattle.entries.proofs.Taking.{marks-with}
-use Rattle.areas.specs.Areas.{list_after, count_after}
-use Rattle.record.specs.declared.Hot.{Hot}
 use Rattle.record.specs.declared.Record.{Record}
-use Rattle.rules.specs.declared.Event.{Event}
+use Rattle.rules.specs.declared.Area.{Area}
 use Rattle.rules.specs.declared.Ask.{Ask}
-use Rattle.rules.specs.declared.Site.{Site}
+use Rattle.rules.specs.declared.Event.{Event}
 use Rattle.rules.specs.declared.Plan.{Plan}
-use Rattle.rules.specs.Plan.{ask_of, site_of, plan_of, deed_on, deed_of}
-use Rattle.events.specs.declared.Done.{Done}
-use Rattle.events.specs.Parts.{seen_by, seen_of, listed_of, planned_of, table_after, order_on, with_counts, done_of, parts_of, carried_out, parts_after, Kept, kept_after}
-use Rattle.events.proofs.Second.{never-second}
-use Rattle.events.proofs.Orders.{order_is}
-use Rattle.events.specs.Step.{together, kept_in, joined_of, advance_of}
+use Rattle.rules.specs.Plan.{ask_of, site_of, plan_of}
+use Rattle.rules.specs.Sides.{has_work, work_plan}
+use Rattle.events.specs.Parts.{seen_of, listed_of, planned_of, done_of, carried_out, parts_after}
+use Rattle.events.specs.Step.{with_hot, together, joined_of, advance_of}
+use Rattle.events.proofs.Calm.{work-plan, quiet}
 
--- the marks and the order made apart, and an import's file behind them
-table : (k : Deed) (octets : List ℕ) (count banlimit n1limit : ℕ) (t x : Entries) → with_ranks [] x ≡ marks_after k count banlimit n1limit (with_ranks [] t) → x.ranks ≡ ranks_after k count t.ranks
-    → with_file k octets count x ≡ entries_after k octets count banlimit n1limit t
-unfolding entries_after
-table k octets count banlimit n1limit t x e f = ap (with_file k octets count) (marks-with k count banlimit n1limit t x e x.ranks ∙ ap (λ (ranks : List ℕ). with_ranks ranks (marks_after k count banlimit n1limit t)) f)
+-- what an event is answered, and the record after it
+pub record Advanced (r : Record) (e : Event) (octets : List ℕ) (p : Plan) (r' : Record) : Type 0 where
+  pub reply : p.reply ≡ (advance_of r e octets).reply
+  pub next : r' ≡ (advance_of r e octets).next
 
-pub core-law : (h : Hot) (e : Event) (octets : List ℕ) (q : Ask) (i : Site) (s : Seen) (l : Bool) (p : Plan) (d d' : Deed) (x y x'' x' y' : Entries) (a b a' b' : List ℕ) (m n : ℕ) (g : Hot)
-    → q ≡ ask_of h e
-    → s ≡ seen_by q octets h x.nets x.forbidden x.barred x.ranks y.nets y.forbidden y.barred y.ranks
-    → i ≡ site_of e
-    → l ≡ listed_of i h a b
-    → p ≡ plan_of h e s l octets
-    → d ≡ deed_on p.access p.work.mine p.work.theirs 0
-    → d' ≡ deed_on p.access p.work.mine p.work.theirs 1
-    → x''.ranks ≡ order_on p.access p.work.mine 0 h.a0.entries x.ranks
-    → y'.ranks ≡ order_on p.access p.work.mine 1 h.a1.entries y.ranks
-    → with_ranks [] x'' ≡ marks_after d h.a0.entries h.dev.banlimit h.dev.n1limit (with_ranks [] x)
-    → with_ranks [] y' ≡ marks_after d' h.a1.entries h.dev.banlimit h.dev.n1limit (with_ranks [] y)
-    → x' ≡ with_file d octets h.a0.entries x''
-    → a' ≡ list_after p.work.roaming h.dev.roaming a
-    → m ≡ count_after p.work.roaming h.dev.roaming a
-    → b' ≡ list_after p.work.regional h.dev.regional b
-    → n ≡ count_after p.work.regional h.dev.regional b
-    → g ≡ with_counts m n p.hot
-    → parts_of (record { plan = p; hot = g }) x' y' a' b' ≡ parts_after h e octets x y a b
-unfolding parts_after carried_out done_of planned_of seen_of table_after deed_of with_file
-core-law h e octets q i s l p d d' x y x'' x' y' a b a' b' m n g iq is ii il ip id id' ox oy ix iy iz ia im ib in' ig =
-    rw (iz ∙ first, second, ← iq, ← is, ← ii, ← il, ← ip, id, id', ia, ib, ig, im, in')
-  where
-    first : with_file d octets h.a0.entries x'' ≡ entries_after d octets h.a0.entries h.dev.banlimit h.dev.n1limit x
-    first = table d octets h.a0.entries h.dev.banlimit h.dev.n1limit x x'' ix (rw id (ox ∙ rw ip (order_is h e s l octets 0 h.a0.entries x.ranks)))
+module _ (r : Record) (e : Event) (octets : List ℕ) where
+  -- a plan carried out
+  abbrev pub carried : Plan → Record
+  carried p = (joined_of r octets (carried_out p octets r.hot r.e0 r.e1 r.roaming r.regional)).next
 
-    -- access 1 has no import, so that its entries are done
-    second : y' ≡ entries_after d' octets h.a1.entries h.dev.banlimit h.dev.n1limit y
-    second = rw none at (table d' octets h.a1.entries h.dev.banlimit h.dev.n1limit y y' iy (rw id' (oy ∙ rw ip (order_is h e s l octets 1 h.a1.entries y.ranks))))
-      where
-        none : is_import d' ≡ false
-        none = rw (id', ip) (never-second h e s l octets)
+  pub advanced : (p : Plan) (r' : Record) → p ≡ planned_of r.hot e octets r.e0 r.e1 r.roaming r.regional → r' ≡ carried p → Advanced r e octets p r'
+  unfolding advance_of parts_after joined_of together carried_out done_of
+  advanced p r' i j = record { reply = rw (← i); next = rw (← i) j }
 
-pub step-law : (r : Record) (e : Event) (octets : List ℕ) (d : Done) (x y : Entries) (a b : List ℕ) (k : Kept)
-    → parts_of d x y a b ≡ parts_after r.hot e octets r.e0 r.e1 r.roaming r.regional
-    → k ≡ kept_after d.plan octets (kept_in r)
-    → together r (parts_of d x y a b) k ≡ advance_of r e octets
-unfolding advance_of joined_of
-step-law r e octets d x y a b k i j = rw (← i, j)
+module _ (r r' : Record) (e : Event) (octets : List ℕ) (q : Ask) (s : Seen) (p : Plan) (iq : q ≡ ask_of r.hot e) (is : s ≡ seen_of q octets r.hot r.e0 r.e1) where
+  planned : (l : Bool) → l ≡ listed_of (site_of e) r.hot r.roaming r.regional → p ≡ plan_of r.hot e s l octets → p ≡ planned_of r.hot e octets r.e0 r.e1 r.roaming r.regional
+  unfolding planned_of
+  planned l il ip = rw (← iq, ← is, ← il) ip
+
+  pub whole : (i : Option Area) (l : Bool) → i ≡ site_of e → l ≡ listed_of i r.hot r.roaming r.regional → p ≡ plan_of r.hot e s l octets → r' ≡ carried r e octets p → Advanced r e octets p r'
+  whole i l ii il ip j = advanced r e octets p r' (planned l (rw ii at il) ip) j
+
+  pub with-work : has_work e ≡ true → p ≡ work_plan r.hot e s octets → r' ≡ carried r e octets p → Advanced r e octets p r'
+  with-work w ip j = advanced r e octets p r' (planned _ refl (ip ∙ work-plan r.hot e s octets r.roaming r.regional w)) j
+
+module _ (r r' : Record) (e : Event) (octets : List ℕ) (p : Plan) where
+  pub no-work : has_work e ≡ false → p ≡ planned_of r.hot e octets r.e0 r.e1 r.roaming r.regional → r' ≡ with_hot p.hot r → Advanced r e octets p r'
+  unfolding planned_of
+  no-work w k j = advanced r e octets p r' k (j ∙ rw k (quiet r e octets _ _ w))

@@ -1,8 +1,8 @@
 -- What an event makes of each part of the record. Assumes nothing.
-use Rattle.std.specs.Prelude.{ℕ, zero, suc, Bool, false, cond, List, [], ◌∷◌, length, get_or, drop, replicate, eqb}
+use Rattle.std.specs.Prelude.{ℕ, zero, suc, Bool, false, cond, List, [], ◌∷◌, length, get_or, drop, replicate, eqb, Option, Some, None}
 use Rattle.laws.specs.Bounds.{at_most}
 use Rattle.laws.specs.Upto.{copied}
-use Rattle.record.specs.Tests.{both, either}
+use Rattle.record.specs.Tests.{either}
 use Rattle.record.specs.New.{zeros}
 use Rattle.record.specs.declared.Hot.{Hot}
 use Rattle.entries.specs.declared.Entries.{Entries}
@@ -18,8 +18,7 @@ use Rattle.areas.specs.Areas.{area_of, listed_in, list_after, count_after}
 use Rattle.rules.specs.declared.Event.{Event}
 use Rattle.rules.specs.declared.Ask.{Ask}
 use Rattle.rules.specs.declared.Ask.TheVariants as ask
-use Rattle.rules.specs.declared.Site.{Site}
-use Rattle.rules.specs.declared.Site.TheVariants as site
+use Rattle.rules.specs.declared.Area.{Area}
 use Rattle.rules.specs.declared.Plan.{Plan}
 use Rattle.effects.specs.declared.Keep.{Keep}
 use Rattle.effects.specs.declared.Keep.TheVariants as keep
@@ -49,9 +48,9 @@ unfoldable pub seen_of : Ask → List ℕ → Hot → Entries → Entries → Se
 seen_of q octets h e0 e1 = seen_by q octets h e0.nets e0.forbidden e0.barred e0.ranks e1.nets e1.forbidden e1.barred e1.ranks
 
 -- whether an area stands in one of the two lists
-unfoldable pub listed_of : Site → Hot → List ℕ → List ℕ → Bool
-listed_of site.Nothing h roaming regional = false
-listed_of (site.Area net code) h roaming regional = either (listed_in (area_of net code) h.dev.roaming roaming) (listed_in (area_of net code) h.dev.regional regional)
+unfoldable pub listed_of : Option Area → Hot → List ℕ → List ℕ → Bool
+listed_of None h roaming regional = false
+listed_of (Some a) h roaming regional = either (listed_in (area_of a.net a.code) h.dev.roaming roaming) (listed_in (area_of a.net a.code) h.dev.regional regional)
 
 -- what is planned, once that is known
 unfoldable pub planned_of : Hot → Event → List ℕ → Entries → Entries → List ℕ → List ℕ → Plan
@@ -130,10 +129,15 @@ unfoldable pub networks_of : ℕ → List ℕ → List ℕ
 networks_of zero s = []
 networks_of (suc n) s = network_of (get_or s 0 0) (get_or s 1 0) (get_or s 2 0) ∷ networks_of n (drop 3 s)
 
--- "GUTI replaced if given", on the event's own access; a card change leaves that of a new record
+-- "GUTI replaced if given": ten octets from its place
+unfoldable pub given_after : Option ℕ → List ℕ → List ℕ → List ℕ
+given_after None octets guti = guti
+given_after (Some at) octets guti = copied 10 (drop at octets) guti
+
+-- that on the event's own access; a card change leaves that of a new record
 unfoldable pub guti_after : Keep → Bool → List ℕ → List ℕ → List ℕ
 guti_after keep.Nothing own octets guti = guti
-guti_after (keep.Gift g) own octets guti = cond (both own g.given) (copied 10 (drop g.guti octets) guti) guti
+guti_after (keep.Gift g) own octets guti = cond own (given_after g.guti octets guti) guti
 guti_after keep.Card own octets guti = zeros 10
 
 -- "equivalent networks replaced"

@@ -1,17 +1,16 @@
-// An event on the whole record: the core over lent columns and lists, what it leaves to keep, and the step by value.
+// An event on the whole record, which is lent and changed in place: seen, decided, carried out; and the step by value.
 #![tactic(auto)]
 
 mod held;
 mod lent;
+mod seeing;
 mod value;
-mod ways;
 
-pub use held::{keep, tail};
-pub use lent::{core, counted};
+pub use held::{keep, network, tail};
+pub use lent::{core, counted, handle, swift};
 use record::{Hot, Record};
 use rules::{Plan, Reply};
 pub use value::step;
-pub use ways::swift;
 
 // The answer with what is told, and the record after the event.
 #[derive(Clone, Copy)]
@@ -20,7 +19,14 @@ pub struct Outcome {
     pub next: Record,
 }
 
-// What the core decided, and the numbers with the area lists' counts after it.
+// What the replay is told of an event, and the numbers after it.
+#[derive(Clone, Copy)]
+pub struct Advanced {
+    pub reply: Reply,
+    pub hot: Hot,
+}
+
+// In the definitions what the core decided, and the numbers with the area lists' counts after it.
 #[derive(Clone, Copy)]
 pub struct Done {
     pub plan: Plan,

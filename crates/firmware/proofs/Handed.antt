@@ -6,8 +6,7 @@ use Rattle.record.specs.Answers.{fault_offset}
 use Rattle.turns.specs.declared.Told.{Told}
 use Rattle.turns.specs.declared.Told.TheVariants.{Left, Stopped, Started}
 use Rattle.turns.specs.declared.Clocks.{Clocks}
-use Rattle.rules.specs.declared.Asked.{Asked}
-use Rattle.rules.specs.declared.Asked.TheVariants.{No, On}
+use Rattle.std.proofs.Common.{ℕ, Option, Some, None}
 use Rattle.rounds.specs.Words.{Ran, told_number, told_seconds, clocks_words, asked_word, request_words, ran_words}
 use Rattle.rounds.specs.Words as rounds
 use Rattle.firmware.specs.Notice.{timer_notice, timers_of, asked_number, notice_of}
@@ -23,10 +22,10 @@ timers-same : (c : Clocks) → timers_words (timers_of c) ≡ clocks_words c
 unfolding timers_words timers_of clocks_words
 timers-same c = rw (timer-same c.t3510, timer-same c.t3511, timer-same c.t3502, timer-same c.t3346)
 
-asked-same : (a : Asked) → asked_number a ≡ asked_word a
+pub asked-same : (a : Option ℕ) → asked_number a ≡ asked_word a
 unfolding asked_number asked_word
-asked-same No = refl
-asked-same (On access) = refl
+asked-same None = refl
+asked-same (Some access) = refl
 
 -- of every event that a round hands out (rounds/proofs/Handed: ran-taken), which changed the record (rounds/proofs/Changed: ran-changes)
 pub ran-notice : (x : Ran) → x.reply.answer ≡ Taken → ran_words x ≡ x.at ∷ 0 ∷ notice_words (notice_of 1 x.reply)

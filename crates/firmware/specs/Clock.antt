@@ -13,10 +13,23 @@ use Rattle.rounds.specs.Round.{round_of}
 use Rattle.firmware.specs.declared.Timer.{Timer}
 use Rattle.firmware.specs.declared.Timers.{Timers}
 use Rattle.firmware.specs.declared.Notice.{Notice}
-use Rattle.firmware.specs.declared.Armed.{Armed}
-use Rattle.firmware.specs.declared.Sought.{Sought}
-use Rattle.firmware.specs.declared.Passed.{Passed}
 use Rattle.firmware.specs.Calls.{number_or}
+
+-- the answer to a notice that arms a table, and the table after it
+pub record Armed : Type 0 where
+  pub answer : ℕ
+  pub next : Table
+
+-- the slot of the timer due, 10 for none, and the table after the ask
+pub record Sought : Type 0 where
+  pub slot : ℕ
+  pub next : Table
+
+-- how many timers ran out in a round, or 256 plus the refusal's number, and the record and the table after it
+pub record Passed : Type 0 where
+  pub count : ℕ
+  pub next : Record
+  pub table : Table
 
 -- 0 left, 1 stopped, 2 started: above 2 nothing is told
 unfoldable pub is_told : Timer → Bool

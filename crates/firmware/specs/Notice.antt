@@ -1,11 +1,9 @@
 -- A reply as numbers: "for each timer whether it was left, stopped (only if running) or started, with how many seconds; and requests (restart, leave, update)". Assumes nothing.
-use Rattle.std.specs.Prelude.{ℕ, ◌+◌}
+use Rattle.std.specs.Prelude.{ℕ, ◌+◌, Option, Some, None}
 use Rattle.record.specs.Answers.{fault_offset}
 use Rattle.turns.specs.declared.Told.{Told}
 use Rattle.turns.specs.declared.Told.TheVariants.{Left, Stopped, Started}
 use Rattle.turns.specs.declared.Clocks.{Clocks}
-use Rattle.rules.specs.declared.Asked.{Asked}
-use Rattle.rules.specs.declared.Asked.TheVariants.{No, On}
 use Rattle.rules.specs.declared.Reply.{Reply}
 use Rattle.firmware.specs.declared.Timer.{Timer}
 use Rattle.firmware.specs.declared.Timers.{Timers}
@@ -25,9 +23,9 @@ timers_of c = record {
 }
 
 -- none, or 1 plus the access
-unfoldable pub asked_number : Asked → ℕ
-asked_number No = 0
-asked_number (On access) = 1 + access
+unfoldable pub asked_number : Option ℕ → ℕ
+asked_number None = 0
+asked_number (Some access) = 1 + access
 
 -- what an event's reply tells, and whether it changed the record: R-1's refusals tell "the offset from 0 of the octet at fault", counted in the message; it is 0 beside every other answer
 unfoldable pub notice_of : ℕ → Reply → Notice

@@ -1,4 +1,4 @@
-// The record lent by &mut: the step by value, and its record stored.
+// The record lent by &mut.
 ghost use Rattle.std.specs.Prelude.{◌≡◌};
 ghost use Rattle.events.specs.Step.{step_of};
 
@@ -9,7 +9,5 @@ use rules::{Event, Reply};
 pub fn handle(r: &mut Record, e: Event, octets: &[u8]) -> Reply
     ensures { (result ≡ (step_of r.old e octets.now).reply) × (r.new ≡ (step_of r.old e octets.now).next) }
 {
-    let o = events::step(*r, e, octets);
-    *r = o.next;
-    o.reply
+    events::handle(r, e, octets)
 }

@@ -1,9 +1,6 @@
 // The record lent to firmware: one call takes an event and updates the record in place, and the calls that C makes.
 #![tactic(auto)]
 
-use deadlines::Table;
-use record::Record;
-
 mod calls;
 mod clock;
 mod lent;
@@ -19,6 +16,7 @@ pub use lent::handle;
 pub use storage::{tjernfaug_load, tjernfaug_save};
 
 // What is told of a timer: 0 left, 1 stopped, 2 started, and then for how many seconds.
+// Kept: a number for a kind, here and in Notice, since the C interface has it.
 #[repr(C)]
 #[derive(Clone, Copy)]
 pub struct Timer {
@@ -49,57 +47,4 @@ pub struct Notice {
     pub leave: u32,
     pub update: u32,
     pub changed: u32,
-}
-
-// The answer to a new record by its number, and the record after it.
-#[derive(Clone, Copy)]
-pub struct Opened {
-    pub answer: u32,
-    pub next: Record,
-}
-
-// An event's answer by its number, what is told, and the record after it.
-#[derive(Clone, Copy)]
-pub struct Taken {
-    pub answer: u32,
-    pub notice: Notice,
-    pub next: Record,
-}
-
-// The answer to a request by its number, and how many octets were written: 0 with a refusal.
-#[derive(Clone, Copy)]
-pub struct Wrote {
-    pub answer: u32,
-    pub len: u64,
-}
-
-// The answer to a notice that arms a table, and the table after it.
-#[derive(Clone, Copy)]
-pub struct Armed {
-    pub answer: u32,
-    pub next: Table,
-}
-
-// The slot of the timer due, 10 for none, and the table after the ask.
-#[derive(Clone, Copy)]
-pub struct Sought {
-    pub slot: u32,
-    pub next: Table,
-}
-
-// How many timers ran out in a round, or 256 plus the refusal's number, and the record and the table after it.
-#[derive(Clone, Copy)]
-pub struct Passed {
-    pub count: u32,
-    pub next: Record,
-    pub table: Table,
-}
-
-// The answer to octets that were to be loaded by its number, and the record, the table and the serial after it.
-#[derive(Clone, Copy)]
-pub struct Regained {
-    pub answer: u32,
-    pub next: Record,
-    pub table: Table,
-    pub serial: u32,
 }

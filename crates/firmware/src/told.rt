@@ -1,83 +1,113 @@
-// A reply as numbers.
+// A reply as numbers, and the numbers read back.
 ghost use Rattle.std.specs.Prelude.{◌≡◌};
-ghost use Rattle.firmware.specs.Notice.{timer_notice, timers_of, asked_number, notice_of};
+ghost use Rattle.firmware.specs.Notice.{timer_notice, timers_of, notice_of};
+ghost use Rattle.firmware.specs.Clock.{is_told, are_told, is_notice, told_from, clocks_from};
 
 use crate::{Notice, Timer, Timers};
-use rules::{Asked, Reply};
+use rules::Reply;
 use turns::{Clocks, Told};
 
-fn timer_of(t: Told) -> Timer
-    ensures { result ≡ timer_notice t }
-{
-    match t {
-        Told::Left => Timer {
-            told: 0,
-            seconds: 0,
-        },
-        Told::Stopped => Timer {
-            told: 1,
-            seconds: 0,
-        },
-        Told::Started(seconds) => Timer { told: 2, seconds },
+impl From<Told> for Timer {
+    ghost from_gives = { λ x y. y ≡ timer_notice x };
+
+    #[tactic(auto, unfolding(crate::specs::Notice::timer_notice))]
+    fn from(t: Told) -> Timer {
+        match t {
+            Told::Left => Timer {
+                told: 0,
+                seconds: 0,
+            },
+            Told::Stopped => Timer {
+                told: 1,
+                seconds: 0,
+            },
+            Told::Started(seconds) => Timer { told: 2, seconds },
+        }
     }
 }
 
-fn timers_of(c: Clocks) -> Timers
-    ensures { result ≡ timers_of c }
-{
-    let x = c.t3510;
-    let y = c.t3511;
-    let z = c.t3502;
-    let u = c.t3346;
-    let t3510 = timer_of(x);
-    let t3511 = timer_of(y);
-    let t3502 = timer_of(z);
-    let t3346 = timer_of(u);
-    Timers {
-        t3510,
-        t3511,
-        t3502,
-        t3346,
+impl From<Clocks> for Timers {
+    ghost from_gives = { λ x y. y ≡ timers_of x };
+
+    #[tactic(auto, unfolding(crate::specs::Notice::timers_of))]
+    fn from(c: Clocks) -> Timers {
+        Timers {
+            t3510: Timer::from(c.t3510),
+            t3511: Timer::from(c.t3511),
+            t3502: Timer::from(c.t3502),
+            t3346: Timer::from(c.t3346),
+        }
     }
 }
 
-fn request_of(a: Asked) -> u32
-    ensures { result ≡ asked_number a }
-{
-    match a {
-        Asked::No => 0,
-        Asked::On(access) => 1 + access as u32,
+impl From<Timer> for Told {
+    ghost from_gives = { λ x y. y ≡ told_from x };
+
+    #[tactic(auto, unfolding(crate::specs::Clock::told_from))]
+    fn from(t: Timer) -> Told {
+        match t.told {
+            1 => Told::Stopped,
+            2 => Told::Started(t.seconds),
+            _ => Told::Left,
+        }
     }
 }
 
-pub(crate) fn notice_of(changed: u32, p: Reply) -> Notice
-    ensures { result ≡ notice_of changed p }
-{
-    let answer = p.answer;
-    let t = p.c0;
-    let u = p.c1;
-    let v = p.t3247;
-    let w = p.t3512;
-    let x = p.restart;
-    let y = p.leave;
-    let z = p.update;
-    let offset = record::offset(answer);
-    let c0 = timers_of(t);
-    let c1 = timers_of(u);
-    let t3247 = timer_of(v);
-    let t3512 = timer_of(w);
-    let restart = request_of(x);
-    let leave = request_of(y);
-    let update = request_of(z);
-    Notice {
-        offset,
-        c0,
-        c1,
-        t3247,
-        t3512,
-        restart,
-        leave,
-        update,
-        changed,
+impl From<Timers> for Clocks {
+    ghost from_gives = { λ x y. y ≡ clocks_from x };
+
+    #[tactic(auto, unfolding(crate::specs::Clock::clocks_from))]
+    fn from(t: Timers) -> Clocks {
+        Clocks {
+            t3510: Told::from(t.t3510),
+            t3511: Told::from(t.t3511),
+            t3502: Told::from(t.t3502),
+            t3346: Told::from(t.t3346),
+        }
+    }
+}
+
+impl Timer {
+    #[tactic(auto, unfolding(crate::specs::Clock::is_told))]
+    fn tells(self) -> bool
+        ensures { result ≡ is_told self }
+    {
+        self.told < 3
+    }
+}
+
+impl Timers {
+    #[tactic(auto, unfolding(crate::specs::Clock::are_told))]
+    fn tells(self) -> bool
+        ensures { result ≡ are_told self }
+    {
+        (self.t3510.tells() && self.t3511.tells()) && (self.t3502.tells() && self.t3346.tells())
+    }
+}
+
+impl Notice {
+    #[tactic(auto, unfolding(crate::specs::Notice::notice_of))]
+    pub(crate) fn of(changed: u32, p: Reply) -> Notice
+        ensures { result ≡ notice_of changed p }
+    {
+        Notice {
+            offset: record::offset(p.answer),
+            c0: Timers::from(p.c0),
+            c1: Timers::from(p.c1),
+            t3247: Timer::from(p.t3247),
+            t3512: Timer::from(p.t3512),
+            restart: rounds::asked_word(p.restart),
+            leave: rounds::asked_word(p.leave),
+            update: rounds::asked_word(p.update),
+            changed,
+        }
+    }
+
+    // Whether it is one: of each timer it tells one of three things.
+    #[tactic(auto, unfolding(crate::specs::Clock::is_notice))]
+    pub(crate) fn tells(&self) -> bool
+        ensures { result ≡ is_notice self.now }
+    {
+        (self.c0.tells() && self.c1.tells()) && (self.t3512.tells() && self.t3247.tells())
     }
 }

@@ -6,6 +6,7 @@ use mathlib.Core.Bool.{Bool, true, false, cond, not, false≢true, ◌&&◌}
 use mathlib.Core.List.{List}
 use lib.Dec.{ltb, eqb}
 use borrow.Author.Tests.{eqb-true}
+use Rattle.std.specs.Prelude.{Ok, Err}
 use Rattle.record.specs.Tests.{both, flip}
 use Rattle.record.specs.Answers.{is_taken}
 use Rattle.ranges.specs.Valid.{valid_of}
@@ -17,9 +18,8 @@ use Rattle.entries.specs.declared.Deed.{Deed}
 use Rattle.entries.specs.declared.Deed.TheVariants as deed
 use Rattle.entries.specs.declared.Seen.{Seen}
 use Rattle.entries.specs.Entries.{entries_after, n1_to_limit, marks_after, ranks_after, is_import, with_file}
-use Rattle.messages.specs.declared.Reading.{Reading}
-use Rattle.messages.specs.declared.Reading.TheVariants as reading
-use Rattle.messages.specs.Message.{reading_of}
+use Rattle.messages.specs.declared.Message.TheVariants as message
+use Rattle.messages.specs.Message.{Reading, reading_of}
 use Rattle.turns.specs.declared.Row.TheVariants.{CardBelow, CardLimit, CardProtected, Away, Home, Area, N1, Congested, Protocol, Other}
 use Rattle.turns.specs.declared.Turn.{Turn}
 use Rattle.turns.specs.declared.Draws.{Draws}
@@ -150,8 +150,8 @@ module _ (r : Record) where
 
   message-own : (b protected : ℕ) (draws : Draws) (m : Reading) (s : Seen) → Own b (crosses (Message b protected draws) m) (message_effect r.hot b protected draws m s)
   unfolding crosses reach_of message_effect accept_effect reject_effect row_work row_now row_of is_card
-  message-own b protected draws (reading.Accept g) s = rw (no-reach (eqb protected 0)) (record { theirs = refl; deed = refl; kept = tt })
-  message-own b protected draws (reading.Reject k) s = record {
+  message-own b protected draws (Ok (message.Accept g)) s = rw (no-reach (eqb protected 0)) (record { theirs = refl; deed = refl; kept = tt })
+  message-own b protected draws (Ok (message.Reject k)) s = record {
     theirs =
         across-rows (is_card k.cause) (is_network_no k.cause) (both (is_area_no k.cause) (eqb b 0)) (is_n1_no b k.cause) (is_congested k.cause (ltb 0 k.t3346length))
         (is_protocol k.cause) (eqb protected 0)
@@ -163,7 +163,7 @@ module _ (r : Record) where
         ∙ card-deed k.cause (eqb protected 0) (access_of r.hot b).net;
     kept = tt;
   }
-  message-own b protected draws (reading.Bad f at) s = rw (no-reach (eqb protected 0)) (record { theirs = refl; deed = refl; kept = tt })
+  message-own b protected draws (Err m) s = rw (no-reach (eqb protected 0)) (record { theirs = refl; deed = refl; kept = tt })
 
   -- T3512 out changes numbers of the device alone, the timers of an access those of their own
   timer-own : (number b : ℕ) → eqb number 4 ≡ false → Own b untouched (timer_effect r.hot number b)

@@ -6,6 +6,7 @@ use mathlib.Core.Bool.{Bool, true, false, cond, not, false≢true, true≢false,
 use mathlib.Core.List.{List, [], ◌∷◌}
 use lib.Dec.{eqb}
 use borrow.Author.Tests.{eqb-true}
+use Rattle.std.specs.Prelude.{Ok, Err}
 use Rattle.record.specs.Tests.{either, flip}
 use Rattle.record.specs.Answers.{is_taken}
 use Rattle.record.specs.Setters.{counted}
@@ -14,9 +15,8 @@ use Rattle.record.specs.declared.Record.{Record}
 use Rattle.entries.specs.declared.Deed.{Deed}
 use Rattle.entries.specs.Places.{has_entry}
 use Rattle.entries.specs.Entries.{n1_to_limit, held_with, entries_after}
-use Rattle.messages.specs.declared.Reading.{Reading}
-use Rattle.messages.specs.declared.Reading.TheVariants as reading
-use Rattle.messages.specs.Message.{reading_of}
+use Rattle.messages.specs.declared.Message.TheVariants as message
+use Rattle.messages.specs.Message.{Reading, reading_of}
 use Rattle.rules.specs.declared.Event.{Event}
 use Rattle.rules.specs.declared.Event.TheVariants.{Card, Start, Message, Timer, Power, Key, Update, Import, Unknown}
 use Rattle.rules.specs.Plan.{access_in, answer_of}
@@ -104,8 +104,8 @@ module _ (l : Limits) (w : ℕ) where
 reads-across : (bare : Bool) (n : ℕ) (m : Reading) → cond (not bare && read_by false false (λ cause. eqb cause 27) m) (protected27 n ∷ []) [] ≡ reaching (cond bare untouched (reach_of m)) n
 unfolding read_by reach_of
 reads-across true n m = refl
-reads-across false n (reading.Accept g) = refl
-reads-across false n (reading.Reject k) = go (eqb k.cause 27) refl
+reads-across false n (Ok (message.Accept g)) = refl
+reads-across false n (Ok (message.Reject k)) = go (eqb k.cause 27) refl
   where
     none : (b : Bool) → [] ≡ reaching (cond b card_counter_to_limit untouched) n
     none true = refl
@@ -116,7 +116,7 @@ reads-across false n (reading.Reject k) = go (eqb k.cause 27) refl
         ≡ reaching (cond (either (eqb k.cause 3) (either (eqb k.cause 6) (eqb k.cause 7))) card_counter_to_limit (cond (eqb k.cause 27) n1_counter_to_limit untouched)) n
     go true q = rw (eqb-true k.cause 27 q)
     go false q = rw q (none (either (eqb k.cause 3) (either (eqb k.cause 6) (eqb k.cause 7))))
-reads-across false n (reading.Bad f at) = refl
+reads-across false n (Err m) = refl
 
 -- A taken event.
 module _ (r : Record) (x : Heard) (v : valid_of r ≡ true) (t : is_taken (answered_by r x.event x.octets) ≡ true) (w : ℕ) (hw : w < 2) where

@@ -7,6 +7,7 @@ use mathlib.Core.List.{List}
 use lib.Dec.{ltb, eqb}
 use native.Mathlib.Omega.{arith}
 use borrow.Author.Tests.{leb-true, eqb-true, eq-eqb}
+use Rattle.std.specs.Prelude.{Ok, Err}
 use Rattle.record.specs.Tests.{up_to}
 use Rattle.record.specs.Answers.{is_taken}
 use Rattle.record.specs.Sides.{access_of}
@@ -18,9 +19,8 @@ use Rattle.entries.specs.declared.Deed.TheVariants as deed
 use Rattle.entries.specs.declared.Seen.{Seen}
 use Rattle.entries.specs.Entries.{seat_of, is_filed, marks_after, ranks_after, is_import, with_file, entries_after}
 use Rattle.messages.specs.declared.Reject.{Reject}
-use Rattle.messages.specs.declared.Reading.{Reading}
-use Rattle.messages.specs.declared.Reading.TheVariants as reading
-use Rattle.messages.specs.Message.{reading_of}
+use Rattle.messages.specs.declared.Message.TheVariants as message
+use Rattle.messages.specs.Message.{Reading, reading_of}
 use Rattle.turns.specs.Timers.{is_device_timer}
 use Rattle.turns.specs.declared.Row.{Row}
 use Rattle.turns.specs.declared.Draws.{Draws}
@@ -97,18 +97,18 @@ module _ (r : Record) (octets : List ℕ) (b protected : ℕ) (draws : Draws) wh
   own-news : (m : Reading) → is_read m ≡ true → (held : Bool) (n : ℕ)
       → deed_news (message_effect r.hot b protected draws m sight).work.mine octets held n ≡ cond (eqb net n) (read_by quiet accepted (cause_news (eqb n r.hot.dev.home) b is-protected) m) quiet
   unfolding message_effect accept_effect reject_effect row_work read_by is_read
-  own-news (reading.Accept g) t held n = refl
-  own-news (reading.Reject k) t held n = row-deed (here k) (seat_of sight net protected) octets held n ∙ said_same k n
-  own-news (reading.Bad f at) t held n = absurd (false≢true t)
+  own-news (Ok (message.Accept g)) t held n = refl
+  own-news (Ok (message.Reject k)) t held n = row-deed (here k) (seat_of sight net protected) octets held n ∙ said_same k n
+  own-news (Err m) t held n = absurd (false≢true t)
 
   own-fits : (filed : ℕ) → b < 2 → (m : Reading) → is_taken (read_answer r.hot b protected m sight) ≡ true
       → Fits (message_effect r.hot b protected draws m sight).work.mine filed octets (access_of r.hot b).entries (entries_in r b)
   unfolding message_effect accept_effect reject_effect row_work read_answer is_taken
-  own-fits filed hb (reading.Accept g) t = seen-seat r octets b protected draws hb 1
-  own-fits filed hb (reading.Reject k) t =
+  own-fits filed hb (Ok (message.Accept g)) t = seen-seat r octets b protected draws hb 1
+  own-fits filed hb (Ok (message.Reject k)) t =
       row_fits (here k) (seat_of sight net protected) filed octets (access_of r.hot b).entries (entries_in r b) (seen-seat r octets b protected draws hb protected)
       (reject-passed r.hot b protected k sight t)
-  own-fits filed hb (reading.Bad f at) t = absurd (false≢true t)
+  own-fits filed hb (Err m) t = absurd (false≢true t)
 
   own-word : (x : Reject) (held : Bool) → deed_news (row_deed (here x) (seat_of sight net protected)) octets held net ≡ row_news (here x) is-protected
   own-word x held = row-deed (here x) (seat_of sight net protected) octets held net ∙ ap (λ (b : Bool). cond b (row_news (here x) is-protected) quiet) (eq-eqb net net refl)
@@ -118,20 +118,20 @@ module _ (r : Record) (octets : List ℕ) (b protected : ℕ) (draws : Draws) wh
       → deed_tale l (message_effect r.hot b protected draws m sight).work.mine octets d k
       ≡ cond (puts (deed_news (message_effect r.hot b protected draws m sight).work.mine octets held net)) (turned_away l net d k) (told d k)
   unfolding message_effect accept_effect reject_effect row_work puts is_put
-  own-tale l (reading.Accept g) held d k = rw (eq-eqb net net refl)
-  own-tale l (reading.Reject x) held d k =
+  own-tale l (Ok (message.Accept g)) held d k = rw (eq-eqb net net refl)
+  own-tale l (Ok (message.Reject x)) held d k =
       row-tale l (here x) (seat_of sight net protected) octets is-protected d k ∙ ap (λ (y : News). cond (puts y) (turned_away l net d k) (told d k)) (sym (own-word x held))
-  own-tale l (reading.Bad f at) held d k = refl
+  own-tale l (Err m) held d k = refl
 
   -- the other one: no message reaches its entries but a protected 27
   others-news : (m : Reading) → is_read m ≡ true → (held : Bool) (n : ℕ)
       → deed_news (message_effect r.hot b protected draws m sight).work.theirs octets held n ≡ cond (eqb net n && held) (read_by quiet quiet (across_news is-protected) m) quiet
   unfolding message_effect accept_effect reject_effect row_work row_now read_by is_read across_news
-  others-news (reading.Accept g) t held n = still-quiet (eqb net n && held)
-  others-news (reading.Reject k) t held n =
+  others-news (Ok (message.Accept g)) t held n = still-quiet (eqb net n && held)
+  others-news (Ok (message.Reject k)) t held n =
       rw (row-across b protected (eqb protected 0) (eqb net r.hot.dev.home) (ltb (access_of r.hot b).cardcounter r.hot.dev.cardlimit) (ltb 0 k.t3346length) k.cause)
       (across-deed (eqb k.cause 27 && is-protected) net octets held n)
-  others-news (reading.Bad f at) t held n = absurd (false≢true t)
+  others-news (Err m) t held n = absurd (false≢true t)
 
   -- which fits everywhere
   across-fits : (s : Bool) (filed count : ℕ) (t : Entries) → Fits (cond {A = Deed} s (deed.ToLimit net) deed.Nothing) filed octets count t
@@ -140,9 +140,9 @@ module _ (r : Record) (octets : List ℕ) (b protected : ℕ) (draws : Draws) wh
 
   others-fit : (m : Reading) (filed count : ℕ) (t : Entries) → Fits (message_effect r.hot b protected draws m sight).work.theirs filed octets count t
   unfolding message_effect accept_effect reject_effect row_work
-  others-fit (reading.Accept g) filed count t = tt
-  others-fit (reading.Reject k) filed count t = across-fits (across_n1 b protected k.cause (here k)) filed count t
-  others-fit (reading.Bad f at) filed count t = tt
+  others-fit (Ok (message.Accept g)) filed count t = tt
+  others-fit (Ok (message.Reject k)) filed count t = across-fits (across_n1 b protected k.cause (here k)) filed count t
+  others-fit (Err m) filed count t = tt
 
   -- and marks nobody
   across-tale : (l : Limits) (s : Bool) (d : ℕ → News) (k : Tale) → deed_tale l (cond {A = Deed} s (deed.ToLimit net) deed.Nothing) octets d k ≡ told d k
@@ -151,15 +151,15 @@ module _ (r : Record) (octets : List ℕ) (b protected : ℕ) (draws : Draws) wh
 
   others-tale : (l : Limits) (m : Reading) (d : ℕ → News) (k : Tale) → deed_tale l (message_effect r.hot b protected draws m sight).work.theirs octets d k ≡ told d k
   unfolding message_effect accept_effect reject_effect row_work
-  others-tale l (reading.Accept g) d k = refl
-  others-tale l (reading.Reject x) d k = across-tale l (across_n1 b protected x.cause (here x)) d k
-  others-tale l (reading.Bad f at) d k = refl
+  others-tale l (Ok (message.Accept g)) d k = refl
+  others-tale l (Ok (message.Reject x)) d k = across-tale l (across_n1 b protected x.cause (here x)) d k
+  others-tale l (Err m) d k = refl
 
   read_of : (m : Reading) → is_taken (read_answer r.hot b protected m sight) ≡ true → is_read m ≡ true
   unfolding read_answer is_read is_taken
-  read_of (reading.Accept g) t = refl
-  read_of (reading.Reject k) t = refl
-  read_of (reading.Bad f at) t = t
+  read_of (Ok (message.Accept g)) t = refl
+  read_of (Ok (message.Reject k)) t = refl
+  read_of (Err m) t = t
 
   module _ (t : is_taken (answered_by r (Message b protected draws) octets) ≡ true) where
     read_taken : is_taken (read_answer r.hot b protected (reading_of octets) sight) ≡ true

@@ -5,25 +5,24 @@ use mathlib.Core.Bool.{Bool, true, false, cond, false≢true}
 use mathlib.Core.List.{List}
 use lib.Dec.{ltb, eqb}
 use lib.ListN.{length, get_or}
+use Rattle.std.specs.Prelude.{Ok, Err}
 use Rattle.octets.specs.declared.Fault.{Fault}
 use Rattle.octets.specs.declared.Fault.TheVariants.{Cut, First, Second, Kind}
-use Rattle.octets.specs.declared.Ending.{Ending}
-use Rattle.octets.specs.declared.Ending.TheVariants.{Broken, Whole}
-use Rattle.messages.specs.declared.Reading.{Reading}
-use Rattle.messages.specs.declared.Reading.TheVariants as reading
-use Rattle.messages.specs.Message.{ended_by, accepted_of, accept_reading, reject_of, rejected_of, reject_reading, type_reading, opened_by, reading_of}
+use Rattle.octets.specs.Element.{Ending, malformed}
+use Rattle.messages.specs.declared.Message.TheVariants as message
+use Rattle.messages.specs.Message.{Reading, ended_by, accepted_of, accept_reading, reject_of, rejected_of, reject_reading, type_reading, opened_by, reading_of}
 use Rattle.history.specs.History.{by_type}
 
 -- what a reading says, by what an accept does and what a reject does by its cause
 unfoldable pub read_by : {A : Type 0} → A → A → (ℕ → A) → Reading → A
-read_by none accept reject (reading.Accept g) = accept
-read_by none accept reject (reading.Reject k) = reject k.cause
-read_by none accept reject (reading.Bad f at) = none
+read_by none accept reject (Ok (message.Accept g)) = accept
+read_by none accept reject (Ok (message.Reject k)) = reject k.cause
+read_by none accept reject (Err m) = none
 
 unfoldable pub is_read : Reading → Bool
-is_read (reading.Accept g) = true
-is_read (reading.Reject k) = true
-is_read (reading.Bad f at) = false
+is_read (Ok (message.Accept g)) = true
+is_read (Ok (message.Reject k)) = true
+is_read (Err m) = false
 
 module _ {A : Type 0} (none accept : A) (reject : ℕ → A) where
   abbrev said : Reading → A
@@ -33,7 +32,7 @@ module _ {A : Type 0} (none accept : A) (reject : ℕ → A) where
   abbrev Is : A → Reading → Type 0
   Is x m = is_read m ≡ true → x ≡ said m
 
-  bad : (x : A) (f : Fault) (at : ℕ) → Is x (reading.Bad f at)
+  bad : (x : A) (f : Fault) (at : ℕ) → Is x (malformed f at)
   unfolding is_read
   bad x f at t = absurd (false≢true t)
 
@@ -42,10 +41,10 @@ module _ {A : Type 0} (none accept : A) (reject : ℕ → A) where
   either_is x false m m' h k = k refl
 
   module _ (s : List ℕ) where
-    ended_is : (x : A) (e : Ending) (m : Reading) → x ≡ said m → Is x (ended_by reading.Bad e m)
+    ended_is : (x : A) (e : Ending) (m : Reading) → x ≡ said m → Is x (ended_by malformed e m)
     unfolding ended_by
-    ended_is x (Broken f at) m i = bad x f at
-    ended_is x Whole m i = λ t. i
+    ended_is x (Err f) m i = bad x f.fault f.at
+    ended_is x (Ok _) m i = λ t. i
 
     accept-is : Is accept (accept_reading s)
     unfolding accept_reading accepted_of read_by
@@ -69,7 +68,7 @@ module _ {A : Type 0} (none accept : A) (reject : ℕ → A) where
         (λ q. either_is _ (eqb (get_or s 2 0) 0x44) _ _ (λ q'. rw q reject-is) (λ q'. bad _ Kind 2)))
         (λ e. bad _ Cut 2)
 
-    opened-is : (at octet : ℕ) (f : Fault) (m : Reading) → Is heard m → Is heard (opened_by reading.Bad s at octet f m)
+    opened-is : (at octet : ℕ) (f : Fault) (m : Reading) → Is heard m → Is heard (opened_by malformed s at octet f m)
     unfolding opened_by
     opened-is at octet f m h =
         either_is heard (ltb at (length s)) _ _ (λ e. either_is heard (eqb (get_or s at 0) octet) m _ (λ e'. h) (λ e'. bad heard f at)) (λ e. bad heard Cut at)

@@ -9,8 +9,8 @@ use native.Mathlib.Omega.{arith}
 use lib.Dec.{eqb}
 use lib.ListN.{length, take}
 use borrow.Author.Tests.{le-leb}
+use Rattle.std.specs.Prelude.{Ok, is_ok}
 use Rattle.record.specs.declared.Record.{Record}
-use Rattle.record.specs.declared.Answer.TheVariants.{Taken}
 use Rattle.record.specs.Answers.{is_taken}
 use Rattle.record.specs.Sides.{access_of}
 use Rattle.validity.specs.Sized.{Sized}
@@ -70,26 +70,25 @@ module _ (cardlimit banlimit n1limit : ℕ) (capability security : List ℕ) (xs
   abbrev sized : Whole reached
   sized = sized-whole reached (run-sized _ xs (made-sized cardlimit banlimit n1limit capability security))
 
-  -- what the writer has written into the buffer b
-  abbrev pub written : List ℕ
-  written = take (written_of reached access s1 attach (length b)).len (buffer_of reached access s1 attach b)
+  -- what the writer has written into the buffer b, so many octets
+  abbrev pub written : ℕ → List ℕ
+  written n = take n (buffer_of reached access s1 attach b)
 
-  -- where the writer answers 0, its octets read back as what the record says, whatever is lent from S1 mode
-  pub reads-back : (written_of reached access s1 attach (length b)).answer ≡ Taken → told_by written (asking_of written) ≡ says (shown (fields_of reached access s1 attach))
-  unfolding written_of
-  reads-back taken = read_back reached access s1 attach b sized taken
+  -- where the writer has written, its octets read back as what the record says, whatever is lent from S1 mode
+  pub reads-back : (n : ℕ) → written_of reached access s1 attach (length b) ≡ Ok n → told_by (written n) (asking_of (written n)) ≡ says (shown (fields_of reached access s1 attach))
+  reads-back n wrote = read_back reached access s1 attach b n wrote sized
 
   -- and so it does in state 4, into a buffer of 130,119 octets, with an attach message of at most 65,000
-  pub writes : AllOctets xs → access ≤ 1 → (access_of reached.hot access).state ≡ 4 → length attach ≤ 65000 → 130119 ≤ length b → (written_of reached access s1 attach (length b)).answer ≡ Taken
-  unfolding written_of writing_answer may_request
+  pub writes : AllOctets xs → access ≤ 1 → (access_of reached.hot access).state ≡ 4 → length attach ≤ 65000 → 130119 ≤ length b → written_of reached access s1 attach (length b) ≡ Ok (length (request_of reached access s1 attach))
+  unfolding written_of writing_answer may_request is_taken
   writes o a state m n =
       let valid = ran-valid cardlimit banlimit n1limit capability security xs o in
       let short : length (request_of reached access s1 attach) ≤ length b = omega (arith, request-most reached access s1 attach valid state m) in
       rw (le-leb (length attach) 65000 m, le-leb access 1 a, valid, state, le-leb (length (request_of reached access s1 attach)) (length b) short)
 
   -- with nothing lent 193 octets are enough
-  pub writes-plain : AllOctets xs → access ≤ 1 → (access_of reached.hot access).state ≡ 4 → 193 ≤ length b → (written_of reached access no_s1 [] (length b)).answer ≡ Taken
-  unfolding written_of writing_answer may_request
+  pub writes-plain : AllOctets xs → access ≤ 1 → (access_of reached.hot access).state ≡ 4 → 193 ≤ length b → written_of reached access no_s1 [] (length b) ≡ Ok (length (request_of reached access no_s1 []))
+  unfolding written_of writing_answer may_request is_taken
   writes-plain o a state n =
       let valid = ran-valid cardlimit banlimit n1limit capability security xs o in
       let plain = nothing-mapped reached.hot.dev.edition (access_of reached.hot access).regtype in
@@ -107,14 +106,14 @@ module _ (cardlimit banlimit n1limit : ℕ) (capability security : List ℕ) (xs
   identity-sent o state = sent-first reached access sized (ran-valid cardlimit banlimit n1limit capability security xs o) state s1 attach
 
   -- while the network has asked for time nothing is written
-  pub waits-unwritten : eqb (access_of reached.hot access).t3346 0 ≡ false → (is_taken (written_of reached access s1 attach (length b)).answer ≡ false) × (buffer_of reached access s1 attach b ≡ b)
+  pub waits-unwritten : eqb (access_of reached.hot access).t3346 0 ≡ false → (is_ok (written_of reached access s1 attach (length b)) ≡ false) × (buffer_of reached access s1 attach b ≡ b)
   unfolding written_of buffer_of writing_answer is_taken
   waits-unwritten waits = go (may_request reached access (length attach)) refl
     where
       idle : eqb (access_of reached.hot access).state 4 ≡ false
       idle = flip-true _ (either_second _ _ (own-waits reached (t3346-waits cardlimit banlimit n1limit capability security xs) access) waits)
 
-      go : (v : Bool) → may_request reached access (length attach) ≡ v → (is_taken (written_of reached access s1 attach (length b)).answer ≡ false) × (buffer_of reached access s1 attach b ≡ b)
+      go : (v : Bool) → may_request reached access (length attach) ≡ v → (is_ok (written_of reached access s1 attach (length b)) ≡ false) × (buffer_of reached access s1 attach b ≡ b)
       go true v = rw (v, idle) (refl, refl)
       go false v = rw v (refl, refl)
 
@@ -170,5 +169,5 @@ pub rows-sent : (sent [] ≡ 0x7E ∷ 0x00 ∷ 0x41 ∷ 0x71 ∷ 0x00 ∷ 0x09 �
     ∷ 0x10 ∷ 0x01 ∷ 0x00 ∷ 0x2E ∷ 0x02 ∷ 0xF0 ∷ 0xF0 ∷ 0x52 ∷ 0x00 ∷ 0xF2 ∷ 0x20 ∷ 0x00 ∷ 0x00 ∷ 0x2A ∷ 0x40 ∷ 0x02 ∷ 0x02 ∷ 0x04 ∷ 0x50 ∷ 0x02 ∷ 0x20 ∷ 0x80 ∷ [])
     × (writing.request_of (reach 2 back) 0 from_4g (0x07 ∷ 0x41 ∷ []) ≡ 0x7E ∷ 0x00 ∷ 0x41 ∷ 0x71 ∷ 0x00 ∷ 0x0B ∷ 0xF2 ∷ 0x00 ∷ 0xF1 ∷ 0x10 ∷ 0x80 ∷ 0x01 ∷ 0xC5 ∷ 0xD1 ∷ 0xC2 ∷ 0xB3 ∷ 0xA4 ∷ 0x2E ∷ 0x02 ∷ 0xF0 ∷ 0xF0
     ∷ 0x77 ∷ 0x00 ∷ 0x0B ∷ 0xF2 ∷ 0x00 ∷ 0xF2 ∷ 0x20 ∷ 0x11 ∷ 0x22 ∷ 0x83 ∷ 0x0A ∷ 0x0B ∷ 0x0C ∷ 0x0D ∷ 0x2B ∷ 0x01 ∷ 0x00 ∷ 0x70 ∷ 0x00 ∷ 0x02 ∷ 0x07 ∷ 0x41 ∷ [])
-unfolding upto.upto upto.copied upto.seek_to upto.all_to upto.distinct_to octets.format_of octets.lead_by octets.contents_by octets.read_as octets.lead_of octets.contents_of octets.size_of octets.element_of octets.joined octets.elements_of octets.elements_from octets.first_of octets.end_of messages.guti_of messages.count_of messages.triplets_of messages.timer2_in messages.t3512_of messages.accept_of messages.ended_by messages.accepted_of messages.accept_reading messages.reject_of messages.rejected_of messages.reject_reading messages.type_reading messages.opened_by messages.reading_of places.entries_held places.place_in places.has_entry places.peek_at entries.found_in entries.place_for entries.seen_in entries.lift_mark entries.bumped places.put_at entries.clear_unless entries.raised entries.banned entries.barred_by entries.unforbidden entries.swept entries.powered entries.none entries.marks_after entries.ranks_after entries.is_import entries.with_file entries.entries_after order.fallen order.last_at order.rank_at order.leaver_to areas.areas_held areas.area_place areas.listed_in areas.placed areas.placed_count areas.kept areas.stayed areas.swept_list areas.list_after areas.count_after network.is_network new.new_device new.new_access new.empty_record new.new_record valid.device_ranges valid.periodic_ranges valid.device_numbers valid.mode_ranges valid.pending_ranges valid.identity_ranges valid.held_ranges valid.access_ranges valid.ranges_of valid.counters_of valid.card_of valid.suci_of valid.codes_of valid.clock_of valid.once_of valid.ranks_of valid.valid_of answers.number_of answers.is_taken clocks.flag_after clocks.is_device_timer clocks.runs_in clocks.runs_on clocks.told_of clocks.clocks_of setters.forgotten setters.in_state setters.with_status setters.with_attempts setters.emptied setters.counted setters.pending setters.keyed setters.taught setters.entered clocks.clocked rows.is_card rows.is_network_no rows.is_area_no rows.is_n1_no rows.is_congested rows.is_protocol words.is_updating words.is_mark words.list_of words.mark_in words.across_of words.applied turns.started turns.updated turns.key_set turns.accepted turns.start_failed turns.update_failed turns.failed turns.t3510_out turns.t3511_out turns.t3502_out turns.t3346_out turns.clock_turn turns.cycled turns.renewed turns.turned turns.row_turn turns.other_turned turns.other_turn hot.access_of hot.other_of hot.hot_of checks.may_start checks.is_same checks.is_free checks.place_answer checks.start_range checks.start_answer checks.update_range checks.may_update checks.update_answer checks.row_now checks.is_full checks.reject_answer checks.read_answer checks.message_range checks.message_answer checks.timer_range checks.runs checks.timer_answer checks.key_answer checks.card_answer effects.ticked effects.scheduled effects.carded effects.card_effect effects.start_effect effects.update_effect effects.key_effect effects.t3512_time effects.accept_t3512 effects.accept_device effects.accept_effect effects.clock_effect effects.t3247_effect effects.t3512_effect effects.device_effect effects.timer_effect effects.power_effect effects.mark_deed effects.row_deed effects.row_work effects.reject_effect plan.ask_of plan.site_at plan.site_of plan.access_in plan.answer_of plan.message_effect plan.effect_of plan.hot_after plan.taken_reply plan.is_ignoring plan.refused_reply plan.taken_plan plan.refused_plan plan.decided_by plan.plan_of parts.seen_by parts.sight_of parts.seen_of parts.listed_of parts.planned_of plan.deed_on plan.deed_of parts.table_after parts.with_counts parts.done_of parts.carried_out parts.parts_after parts.networks_of parts.guti_after parts.equivalents_after parts.suci_after parts.kept_after step.together step.joined_of step.advance_of step.step_of run_of layout.layout layout.levels_of layout.shown layout.nested layout.clear layout.octets_of layout.opening layout.opening_head layout.items_of layout.laid layout.item_octets layout.with_lead layout.length_in writing.gutis_of writing.last_of writing.uplink_of writing.sessions_of writing.saying_of writing.identities_of writing.additional_of writing.status_of writing.attach_of writing.says_by writing.says_of writing.fields_of writing.request_of identity.gutis_5g identity.edition1 identity.edition2 identity.edition3 identity.order_of identity.slot_on identity.has_guti identity.equivalents_held identity.is_among identity.is_from_s1 identity.is_from_native identity.is_held identity.first_held identity.source_of identity.guti_on identity.octets_from identity.identity_of identity.is_mapped identity.guti_5g_from identity.best_guti mapping.amf_octets mapping.amf_of mapping.mapped_guti timers.timer2_rows timers.timer3_rows timers.span2_of timers.span3_of
+unfolding upto.upto upto.copied upto.seek_to upto.all_to upto.distinct_to octets.format_of octets.lead_by octets.contents_by octets.read_as octets.lead_of octets.contents_of octets.size_of octets.element_of octets.joined octets.elements_of octets.elements_from octets.first_of octets.end_of messages.guti_of messages.count_of messages.triplets_of messages.timer2_in messages.paced_of messages.accept_of messages.ended_by messages.accepted_of messages.accept_reading messages.reject_of messages.rejected_of messages.reject_reading messages.type_reading messages.opened_by messages.reading_of places.entries_held places.place_in places.has_entry places.peek_at entries.found_in entries.place_for entries.seen_in entries.lift_mark entries.bumped places.put_at entries.clear_unless entries.raised entries.banned entries.barred_by entries.unforbidden entries.swept entries.powered entries.none entries.marks_after entries.ranks_after entries.is_import entries.with_file entries.entries_after order.fallen order.last_at order.rank_at order.leaver_to areas.areas_held areas.area_place areas.listed_in areas.placed areas.placed_count areas.kept areas.stayed areas.swept_list areas.list_after areas.count_after network.is_network new.new_device new.new_access new.empty_record new.new_record valid.device_ranges valid.periodic_ranges valid.device_numbers valid.mode_ranges valid.pending_ranges valid.identity_ranges valid.held_ranges valid.access_ranges valid.ranges_of valid.counters_of valid.card_of valid.suci_of valid.codes_of valid.clock_of valid.once_of valid.ranks_of valid.valid_of answers.number_of answers.is_taken clocks.flag_after clocks.is_device_timer clocks.runs_in clocks.runs_on clocks.told_of clocks.clocks_of setters.forgotten setters.in_state setters.with_status setters.with_attempts setters.emptied setters.counted setters.pending setters.keyed setters.taught setters.entered clocks.clocked rows.is_card rows.is_network_no rows.is_area_no rows.is_n1_no rows.is_congested rows.is_protocol words.is_updating words.is_mark words.list_of words.mark_in words.across_of words.applied turns.started turns.updated turns.key_set turns.accepted turns.start_failed turns.update_failed turns.failed turns.t3510_out turns.t3511_out turns.t3502_out turns.t3346_out turns.clock_turn turns.cycled turns.renewed turns.turned turns.row_turn turns.other_turned turns.other_turn hot.access_of hot.other_of hot.hot_of checks.may_start checks.is_same checks.is_free checks.place_answer checks.start_range checks.start_answer checks.update_range checks.may_update checks.update_answer checks.row_now checks.is_full checks.reject_answer checks.read_answer checks.message_range checks.message_answer checks.timer_range checks.runs checks.timer_answer checks.key_answer checks.card_answer effects.ticked effects.scheduled effects.carded effects.card_effect effects.start_effect effects.update_effect effects.key_effect effects.t3512_time effects.accept_t3512 effects.accept_device effects.accept_effect effects.clock_effect effects.t3247_effect effects.t3512_effect effects.device_effect effects.timer_effect effects.power_effect effects.mark_deed effects.row_deed effects.row_work effects.reject_effect plan.ask_of plan.site_at plan.site_of plan.access_in plan.answer_of plan.message_effect plan.effect_of plan.hot_after plan.taken_reply plan.is_ignoring plan.refused_reply plan.taken_plan plan.refused_plan plan.decided_by plan.plan_of parts.seen_by parts.sight_of parts.seen_of parts.listed_of parts.planned_of plan.deed_on plan.deed_of parts.table_after parts.with_counts parts.done_of parts.carried_out parts.parts_after parts.networks_of parts.given_after parts.guti_after parts.equivalents_after parts.suci_after parts.kept_after step.together step.joined_of step.advance_of step.step_of run_of layout.layout layout.levels_of layout.shown layout.nested layout.clear layout.octets_of layout.opening layout.opening_head layout.items_of layout.laid layout.item_octets layout.with_lead layout.length_in writing.gutis_of writing.last_of writing.uplink_of writing.sessions_of writing.saying_of writing.identities_of writing.additional_of writing.status_of writing.attach_of writing.says_by writing.says_of writing.fields_of writing.request_of identity.gutis_5g identity.edition1 identity.edition2 identity.edition3 identity.order_of identity.slot_on identity.has_guti identity.equivalents_held identity.is_among identity.is_from_s1 identity.is_from_native identity.is_held identity.first_held identity.source_of identity.guti_on identity.octets_from identity.identity_of identity.is_mapped identity.guti_5g_from identity.best_guti mapping.amf_octets mapping.amf_of mapping.mapped_guti timers.timer2_rows timers.timer3_rows timers.span2_of timers.span3_of
 rows-sent = (refl, refl, refl, refl)

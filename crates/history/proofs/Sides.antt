@@ -6,6 +6,7 @@ use mathlib.Core.Bool.{Bool, true, false, cond, not, false≢true}
 use mathlib.Core.List.{List, [], ◌∷◌, ◌++◌}
 use lib.Dec.{ltb, eqb}
 use borrow.Author.Tests.{eqb-true}
+use Rattle.std.specs.Prelude.{Ok, Err}
 use Rattle.record.specs.Answers.{is_taken}
 use Rattle.record.specs.Sides.{access_of}
 use Rattle.record.specs.declared.Record.{Record}
@@ -15,9 +16,8 @@ use Rattle.entries.specs.declared.Seen.{Seen}
 use Rattle.entries.specs.declared.Deed.{Deed}
 use Rattle.entries.specs.declared.Deed.TheVariants as deed
 use Rattle.entries.specs.Entries.{seat_of, n1_to_limit, held_with, entries_after}
-use Rattle.messages.specs.declared.Reading.{Reading}
-use Rattle.messages.specs.declared.Reading.TheVariants as reading
-use Rattle.messages.specs.Message.{reading_of}
+use Rattle.messages.specs.declared.Message.TheVariants as message
+use Rattle.messages.specs.Message.{Reading, reading_of}
 use Rattle.turns.specs.declared.Row.{Row}
 use Rattle.turns.specs.declared.Row.TheVariants.{CardBelow, CardLimit, CardProtected, Away, Home, Area, N1, Congested, Protocol, Other}
 use Rattle.turns.specs.declared.Draws.{Draws}
@@ -68,9 +68,9 @@ abbrev seat_for : ℕ → Side → Seat
 seat_for protected s = seat_in s.count s.net protected s.table
 
 abbrev read_deed : ℕ → ℕ → Reading → Side → Deed
-read_deed w protected (reading.Accept g) s = deed.Accept (seat_for 1 s)
-read_deed w protected (reading.Reject k) s = news_deed (cause_news (eqb s.net s.home) w (not (eqb protected 0)) k.cause) (seat_for protected s)
-read_deed w protected (reading.Bad f at) s = deed.Nothing
+read_deed w protected (Ok (message.Accept g)) s = deed.Accept (seat_for 1 s)
+read_deed w protected (Ok (message.Reject k)) s = news_deed (cause_news (eqb s.net s.home) w (not (eqb protected 0)) k.cause) (seat_for protected s)
+read_deed w protected (Err m) s = deed.Nothing
 
 abbrev pub own_deed : ℕ → Event → List ℕ → Side → Deed
 own_deed w (Card edition home) octets s = deed.Fresh
@@ -132,13 +132,13 @@ module _ (r : Record) (octets : List ℕ) where
 
     read_is : (m : Reading) → (message_effect r.hot b protected draws m sight).work.mine ≡ read_deed b protected m (side_in r b)
     unfolding message_effect accept_effect reject_effect row_work row_now
-    read_is (reading.Accept g) = ap deed.Accept (seen-seat r octets b protected draws hb 1)
-    read_is (reading.Reject k) =
+    read_is (Ok (message.Accept g)) = ap deed.Accept (seen-seat r octets b protected draws hb 1)
+    read_is (Ok (message.Reject k)) =
         row_is (row_now r.hot b protected k) (not (eqb protected 0)) (seat_of sight pending protected)
         ∙ ap (λ (d : News). news_deed d (seat_of sight pending protected))
         (row-news b (eqb protected 0) (eqb pending r.hot.dev.home) (ltb (access_of r.hot b).cardcounter r.hot.dev.cardlimit) (ltb 0 k.t3346length) (not (eqb protected 0)) k.cause)
         ∙ ap (news_deed (cause_news (eqb pending r.hot.dev.home) b (not (eqb protected 0)) k.cause)) (seen-seat r octets b protected draws hb protected)
-    read_is (reading.Bad f at) = refl
+    read_is (Err m) = refl
 
   pub own-deed : (e : Event) → is_taken (answered_by r e octets) ≡ true → (w : ℕ) → concerns w e ≡ true → deed_in r e octets w ≡ own_deed w e octets (side_in r w)
   unfolding concerns access_in effect_of card_effect start_effect update_effect key_effect power_effect import_effect

@@ -6,6 +6,7 @@ use mathlib.Core.List.{List}
 use native.Mathlib.Omega.{arith}
 use lib.Dec.{ltb, eqb}
 use borrow.Author.Tests.{leb-true, eqb-true}
+use Rattle.std.specs.Prelude.{Ok, Err}
 use Rattle.laws.specs.Bounds.{one_more}
 use Rattle.record.specs.Tests.{is_flag}
 use Rattle.record.specs.Answers.{is_taken}
@@ -21,9 +22,8 @@ use Rattle.entries.specs.declared.Seat.{Seat}
 use Rattle.entries.specs.declared.Deed.{Deed}
 use Rattle.entries.specs.declared.Deed.TheVariants as deed
 use Rattle.entries.specs.Entries.{found_in, seen_in, seat_of, grown, held_with}
-use Rattle.messages.specs.declared.Reading.{Reading}
-use Rattle.messages.specs.declared.Reading.TheVariants as reading
-use Rattle.messages.specs.Message.{reading_of}
+use Rattle.messages.specs.declared.Message.TheVariants as message
+use Rattle.messages.specs.Message.{Reading, reading_of}
 use Rattle.turns.specs.Timers.{is_device_timer}
 use Rattle.turns.specs.Words.{is_updating, Text, says, as_t3510_out, Mark, no_mark, forbidden_and_counted, n1_not_allowed_and_counted, Across, untouched, card_counter_to_limit, n1_counter_to_limit_if_protected, counter_after, is_mark, mark_in, across_of, applied}
 use Rattle.turns.specs.declared.Draws.{Draws}
@@ -169,13 +169,13 @@ module _ (r : Record) where
 
   pub message-keeps : (b protected : ℕ) (draws : Draws) (m : Reading) (s : Seen) → Keeps h b (message_effect h b protected draws m s)
   unfolding message_effect accept_effect reject_effect turns.accepted taught in_state with_status with_attempts row_turn other_turn
-  message-keeps b protected draws (reading.Accept g) s = record { dev = accept-keeps b (t3512_time g h.dev); net = refl; others = refl }
-  message-keeps b protected draws (reading.Reject k) s = record {
+  message-keeps b protected draws (Ok (message.Accept g)) s = record { dev = accept-keeps b (t3512_time g h.dev); net = refl; others = refl }
+  message-keeps b protected draws (Ok (message.Reject k)) s = record {
     dev = λ f k. refl;
     net = (text-left (row_text (row_now h b protected k)) b h.dev.cardlimit k.cause s.found (t3346_time protected k.t3346length draws.t3346) (access_of h b)).0;
     others = (across-left (across_of (row_text (row_now h b protected k))) h.dev.cardlimit (other_of h b)).0;
   }
-  message-keeps b protected draws (reading.Bad f at) s = record { dev = λ f' k. refl; net = refl; others = refl }
+  message-keeps b protected draws (Err m) s = record { dev = λ f' k. refl; net = refl; others = refl }
 
   -- what is seen of the pending network is its seat on the message's access
   pub seen-seat : (octets : List ℕ) (b protected : ℕ) (draws : Draws) → b < 2 → (p : ℕ)
@@ -187,8 +187,8 @@ module _ (r : Record) where
 
   message-counts : (filed : ℕ) (octets : List ℕ) (b protected : ℕ) (draws : Draws) (m : Reading) → Counts filed h b (message_effect h b protected draws m (seen_at r (Message b protected draws) octets))
   unfolding message_effect accept_effect reject_effect turns.accepted taught in_state with_status with_attempts row_turn other_turn row_work row_deed
-  message-counts filed octets b protected draws (reading.Accept g) = record { mine = refl; theirs = refl }
-  message-counts filed octets b protected draws (reading.Reject k) = record {
+  message-counts filed octets b protected draws (Ok (message.Accept g)) = record { mine = refl; theirs = refl }
+  message-counts filed octets b protected draws (Ok (message.Reject k)) = record {
     mine =
         (text-left (row_text (row_now h b protected k)) b h.dev.cardlimit k.cause (seen_at r (Message b protected draws) octets).found (t3346_time protected k.t3346length draws.t3346) (access_of h b)).1
         ∙ mark-count (mark_in (row_text (row_now h b protected k))) (seat_of (seen_at r (Message b protected draws) octets) (access_of h b).net protected) filed (access_of h b).entries;
@@ -196,7 +196,7 @@ module _ (r : Record) where
         (across-left (across_of (row_text (row_now h b protected k))) h.dev.cardlimit (other_of h b)).1
         ∙ across-count (across_n1 b protected k.cause (row_now h b protected k)) (access_of h b).net filed (other_of h b).entries;
   }
-  message-counts filed octets b protected draws (reading.Bad f at) = record { mine = refl; theirs = refl }
+  message-counts filed octets b protected draws (Err m) = record { mine = refl; theirs = refl }
 
   pub event-counts : (e : Event) (octets : List ℕ) → is_taken (answered_by r e octets) ≡ true → Counts (filed_in r octets) h (access_in e) (effect_in r e octets)
   unfolding answered_by answer_of access_in effect_of card_effect renewed new_access start_effect started update_effect updated pending in_state key_effect key_set keyed power_effect turns.cycled import_effect with_entries ask_of seen_of seen_by file_seen with_attempts access_of other_of

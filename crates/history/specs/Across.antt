@@ -1,8 +1,8 @@
 -- What an event of one access does to the other access: nothing, but for the card counter after a protected 3, 6 or 7, and the N1 counter of one
 -- entry after a protected 27. Assumes nothing.
-use Rattle.std.specs.Prelude.{ℕ, Bool, true, false, cond, eqb}
-use Rattle.messages.specs.declared.Reading.{Reading}
-use Rattle.messages.specs.declared.Reading.TheVariants as reading
+use Rattle.std.specs.Prelude.{Ok, Err, ℕ, Bool, true, false, cond, eqb}
+use Rattle.messages.specs.Message.{Reading}
+use Rattle.messages.specs.declared.Message.TheVariants as message
 use Rattle.entries.specs.Entries.{n1_to_limit}
 use Rattle.record.specs.Setters.{counted}
 use Rattle.record.specs.Tests.{either, flip}
@@ -28,11 +28,11 @@ pub data Reach : Type 0 where
 
 -- of a protected reject: "3, 6, 7 protected: .. both accesses' card counters to the limit"; "a protected 27 sets the network's N1 counter to the limit for both accesses" (document 02, R-14)
 unfoldable pub reach_of : Reading → Reach
-reach_of (reading.Accept g) = untouched
-reach_of (reading.Reject k) =
+reach_of (Ok (message.Accept g)) = untouched
+reach_of (Ok (message.Reject k)) =
     cond (either (eqb k.cause 3) (either (eqb k.cause 6) (eqb k.cause 7))) card_counter_to_limit
     (cond (eqb k.cause 27) n1_counter_to_limit untouched)
-reach_of (reading.Bad f at) = untouched
+reach_of (Err m) = untouched
 
 unfoldable pub crosses : Event → Reading → Reach
 crosses (Card edition home) m = untouched

@@ -1,12 +1,13 @@
 -- The first source held in an edition's order: that it is held and none before it is, whichever the edition; and that the chooser, which goes by slots, finds it.
 -- Assumes nothing.
-use Prim.Native.Nat.{ℕ}
+use Prim.Native.Nat.{ℕ, ◌-◌, ◌≤◌}
 use mathlib.Core.Path.{◌≡◌, refl, sym, ◌∙◌, ap}
 use mathlib.Core.Bool.{Bool, true, false, cond}
 use mathlib.Core.List.{List, [], ◌∷◌, ◌++◌}
 use native.Mathlib.Omega.{arith}
 use lib.ListN.{length}
 use lib.Dec.{eqb}
+use Rattle.std.specs.Prelude.{Option, Some, None, IfSome}
 use Rattle.identity.specs.Mapping.{mapped_guti}
 use Rattle.identity.specs.Identity.{Side, Source, Identities, gutis_5g, edition1, edition2, edition3, order_of, slot_on, has_guti, is_from_s1, is_from_native, is_held, first_held, source_of, guti_on, octets_from, identity_of, is_mapped, guti_5g_from, best_guti}
 use Rattle.identity.specs.Identity.Side.{this, other}
@@ -64,22 +65,41 @@ same : {A : Type 0} (b : Bool) (x : A) → cond b x x ≡ x
 same true x = refl
 same false x = refl
 
+-- a slot is 0 or 1
+own-small : (here there : Bool) (own : ℕ) (next : Option ℕ) → own ≤ 1 → IfSome next (λ k. k ≤ 1) → IfSome (own_first here there own next) (λ k. k ≤ 1)
+unfolding own_first
+own-small true there own next h g = h
+own-small false true own next h g = omega arith
+own-small false false own next h g = g
+
+pub slot-small : (g : List ℕ) (access held0 held1 net : ℕ) (equivalents : List ℕ) (count : ℕ) → IfSome (slot_of g access held0 held1 net equivalents count) (λ k. k ≤ 1)
+unfolding slot_of slot_by
+slot-small g access held0 held1 net equivalents count = go (eqb (length g) 22) (eqb access 0)
+  where
+    by : (own : ℕ) (a b c d e f : Bool) → own ≤ 1 → IfSome (own_first a b own (own_first c d own (own_first e f own None))) (λ k. k ≤ 1)
+    by own a b c d e f h = own-small a b own _ h (own-small c d own _ h (own-small e f own None h tt))
+
+    go : (x y : Bool) → IfSome {T = ℕ} (cond x (cond y (slot_by g 0 held0 held1 net equivalents count) (slot_by g 1 held1 held0 net equivalents count)) None) (λ k. k ≤ 1)
+    go true true = by 0 _ _ _ _ _ _ (omega arith)
+    go true false = by 1 _ _ _ _ _ _ (omega arith)
+    go false y = tt
+
 -- what the chooser goes by
-abbrev slot_in : Identities → ℕ
+abbrev slot_in : Identities → Option ℕ
 slot_in h = slot_of h.gutis h.access h.held0 h.held1 h.net h.equivalents h.count
 
 module _ (h : Identities) where
   -- the octets of each slot
   module _ (s : List ℕ) where
-    abbrev part : ℕ → List ℕ
+    abbrev part : Option ℕ → List ℕ
     part = part_of h.gutis s
 
-    by-own : (v : Bool) → eqb h.access 0 ≡ v → (part (cond v 0 1) ≡ guti_on h this) × (part (cond v 1 0) ≡ guti_on h other)
+    by-own : (v : Bool) → eqb h.access 0 ≡ v → (part (Some (cond v 0 1)) ≡ guti_on h this) × (part (Some (cond v 1 0)) ≡ guti_on h other)
     unfolding part_of guti_on slot_on
     by-own true c = rw c (refl, refl)
     by-own false c = rw c (refl, refl)
 
-    by-none : part 2 ≡ s
+    by-none : part None ≡ s
     unfolding part_of
     by-none = refl
 

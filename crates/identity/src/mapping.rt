@@ -5,44 +5,38 @@ ghost use Rattle.identity.specs.Choice.{is_mapped_by};
 ghost use Rattle.identity.specs.Mapping.{amf_of, mapped_guti};
 
 use crate::S1;
-use record::and;
 
 // The facts of source 002, in an initial registration.
 fn from_s1(regtype: u8, s: S1) -> bool
     ensures { result ≡ is_from_s1 regtype s }
 {
-    let held = and(s.context != 0, s.valid != 0);
-    let told = and(s.n26 != 0, held);
-    let once = and(s.registered != 0, told);
-    and(regtype == 1, once)
+    regtype == 1 && s.registered != 0 && s.n26 != 0 && s.context != 0 && s.valid != 0
 }
 
 // And that of source 003.
 fn from_native(regtype: u8, s: S1) -> bool
     ensures { result ≡ is_from_native regtype s }
 {
-    and(from_s1(regtype, s), s.native != 0)
+    from_s1(regtype, s) && s.native != 0
 }
 
 pub fn is_mapped(edition: u8, regtype: u8, s: S1) -> bool
     ensures { result ≡ is_mapped_by edition regtype s }
 {
-    if edition == 2 {
-        return from_s1(regtype, s);
+    match edition {
+        2 => from_s1(regtype, s),
+        3 => from_native(regtype, s),
+        _ => false,
     }
-    if edition == 3 {
-        return from_native(regtype, s);
-    }
-    false
 }
 
 // The AMF of an MME group and code, as sent.
 fn amf(high: u8, low: u8, code: u8) -> [u8; 3]
     ensures { result ≡ amf_of high low code }
 {
-    let group = high as u16 * 256 + low as u16;
+    let group = u16::from(high) * 256 + u16::from(low);
     let region = group / 256;
-    let set = group % 256 * 4 + code as u16 / 64;
+    let set = group % 256 * 4 + u16::from(code) / 64;
     let pointer = code % 64;
     [
         region as u8,

@@ -15,15 +15,16 @@ use Rattle.record.specs.declared.Record.{Record}
 use Rattle.record.specs.Answers.{is_taken}
 use Rattle.ranges.specs.Valid.{valid_of}
 use Rattle.deadlines.specs.declared.Table.{Table}
-use Rattle.image.specs.declared.Verdict.TheVariants.{Loaded}
+use Rattle.std.specs.Prelude.{Ok}
 use Rattle.image.specs.Numbers.{number_octets, numbers_octets, Column, column_octets, number_at, numbers_at, Narrow}
 use Rattle.image.specs.Numbers.Column.{column}
 use Rattle.image.specs.Checksum.{checksum_of}
 use Rattle.image.specs.Layout.{head_columns, device_words, device_octets, device_columns, access_words, access_pairs, access_octets, access_columns, entries_columns, area_columns, card_columns, hot_columns, record_columns, table_columns, image_columns, device_from, device_at, access_from, access_at, hot_at, entries_at, record_at, table_at, serial_at}
-use Rattle.image.specs.Image.{body_of, image_of, save_answer, saved_over, is_marked, has_room, sum_holds, is_whole, frame_of, kept_by, opened_of, load_by, load_of, version_at, length_at}
+use Rattle.image.specs.Image.{body_of, image_of, save_answer, saved_over, is_marked, has_room, sum_holds, is_whole, frame_of, held, opened_of, load_by, load_of, version_at, length_at}
 use Rattle.image.specs.Shape.{Shape, Fills, head_shape, record_shape, table_shape, Typed}
 use Rattle.image.specs.Shape.Shape.{shape}
-use Rattle.image.proofs.Lays.{number-long, numbers-long}
+use Rattle.image.specs.Widths.{number-long}
+use Rattle.image.proofs.Lays.{numbers-long}
 
 -- behind so many octets the same is read so much further on
 number-shift : (k : ℕ) (p s : List ℕ) (at : ℕ) → number_at k (p ++ s) (length p + at) ≡ number_at k s at
@@ -212,14 +213,14 @@ module _ (serial : ℕ) (r : Record) (t : Table) (typed : Typed serial r t) (res
   unfolding is_whole
   whole = rw (le-leb 12 (length s) (omega (arith, long)), marked, room, sum-holds)
 
-  framed : frame_of s ≡ Loaded
+  framed : frame_of s ≡ Ok (tt {0})
   unfolding frame_of
   framed = rw (whole, its-version, its-length)
 
   -- for every valid record, with its table and a serial
-  pub loads-back : valid_of r ≡ true → (q : Record) (u : Table) (m : ℕ) → load_of q u m s ≡ kept_by Loaded r t serial
+  pub loads-back : valid_of r ≡ true → load_of s ≡ Ok (held r t serial)
   unfolding load_of load_by opened_of
-  loads-back valid q u m =
+  loads-back valid =
       let er : record_at s ≡ r = record_of_lem s ∙ rw columns (its-record serial r t) in
       let et : table_at s ≡ t = table-of s ∙ rw columns (its-table serial r t) in
       let en : serial_at s ≡ serial = serial-of s ∙ rw columns (its-serial serial r t) in
@@ -227,6 +228,6 @@ module _ (serial : ℕ) (r : Record) (t : Table) (typed : Typed serial r t) (res
 
 -- and so out of the buffer that it was saved into
 pub saved-loads : (serial : ℕ) (r : Record) (t : Table) → Typed serial r t → valid_of r ≡ true → (buffer : List ℕ) → 1392 ≤ length buffer
-    → (q : Record) (u : Table) (m : ℕ) → load_of q u m (saved_over serial r t buffer) ≡ kept_by Loaded r t serial
+    → load_of (saved_over serial r t buffer) ≡ Ok (held r t serial)
 unfolding saved_over save_answer over is_taken
-saved-loads serial r t typed valid buffer h q u m = rw (valid, le-leb 1392 (length buffer) h) (loads-back serial r t typed (drop (length (image_of serial r t)) buffer) valid q u m)
+saved-loads serial r t typed valid buffer h = rw (valid, le-leb 1392 (length buffer) h) (loads-back serial r t typed (drop (length (image_of serial r t)) buffer) valid)

@@ -1,14 +1,13 @@
 -- Columns read from octets: a number is its halves, and a loop that stores one number after the other has at each turn a column of those before it. By induction on the count. Assumes nothing.
 use Prim.Native.Nat.{ℕ, zero, suc, ◌+◌, ◌*◌, ◌^◌, ◌<◌}
-use mathlib.Core.Path.{◌≡◌, refl, sym, ap, ◌∙◌}
-use mathlib.Core.List.{List, [], ◌∷◌, ◌++◌, append-nil}
+use mathlib.Core.Path.{◌≡◌, sym, ap, ◌∙◌}
+use mathlib.Core.List.{List, [], ◌∷◌, ◌++◌, append-nil, append_assoc}
 use native.Mathlib.Nat.{zero-add, add-zero, suc-add, suc-mul, mul_assoc, pow-suc}
 use native.Mathlib.Numerals.{add-one}
 use native.Mathlib.Omega.{arith}
 use lib.ListN.{length, get_or, set, drop}
-use lib.Seq.{drop-length}
-use Rattle.laws.proofs.Lists.{stored}
-use Rattle.image.specs.Numbers.{number_at, numbers_at}
+use lib.Seq.{drop-length, drop-cons, set-append_seam}
+use Rattle.image.specs.Numbers.{number_at}
 
 pub one-octet : (s : List ℕ) (at : ℕ) → get_or s at 0 ≡ number_at 1 s at
 unfolding number_at
@@ -22,31 +21,31 @@ halves (suc j) k s at =
     let e : at + suc j ≡ suc at + j = omega arith in
     rw (e, suc-add j k, ← halves j k s (suc at), pow-suc) (omega (arith, mul_assoc 256 (256 ^ j) (number_at k s (suc at + j))))
 
-pub octet-at : (s : List ℕ) (at i : ℕ) → get_or s (at + i) 0 ≡ number_at 1 s (at + i * 1)
-octet-at s at i = let e : at + i * 1 ≡ at + i = omega arith in rw e (one-octet s (at + i))
+-- the store behind what was written
+stored : {A : Type 0} (l o : List A) (n : ℕ) (x : A) → n ≡ length l → n < length o → set (l ++ drop n o) n x ≡ (l ++ (x ∷ [])) ++ drop (n + 1) o
+stored {A = A} l o n x e h =
+    ap (λ (r : List A). set (l ++ r) n x) (drop-cons o n x h) ∙ ap (λ (m : ℕ). set (l ++ (get_or o n x ∷ drop (suc n) o)) m x) e ∙ set-append_seam l (get_or o n x) (drop (suc n) o) x
+    ∙ sym (append_assoc l (x ∷ []) (drop (suc n) o)) ∙ ap (λ (m : ℕ). (l ++ (x ∷ [])) ++ drop m o) (sym (add-one n))
 
--- a column of n numbers, one more of them, and all
-module _ (k : ℕ) (s : List ℕ) where
-  numbers-length : (n at : ℕ) → length (numbers_at k n s at) ≡ n
-  unfolding numbers_at
-  numbers-length zero at = refl
-  numbers-length (suc n) at = ap suc (numbers-length n (at + k))
+-- a column of n numbers, one more of them, and all; so for numbers of any width
+module _ {A : Type 0} (number : List ℕ → ℕ → A) (numbers : ℕ → List ℕ → ℕ → List A) (width : ℕ) (none : (s : List ℕ) (at : ℕ) → numbers zero s at ≡ [])
+    (one-more : (n : ℕ) (s : List ℕ) (at : ℕ) → numbers (suc n) s at ≡ number s at ∷ numbers n s (at + width)) (s : List ℕ) where
+  numbers-length : (n at : ℕ) → length (numbers n s at) ≡ n
+  numbers-length zero at = ap length (none s at)
+  numbers-length (suc n) at = ap length (one-more n s at) ∙ ap suc (numbers-length n (at + width))
 
-  more : (n at : ℕ) → numbers_at k n s at ++ (number_at k s (at + n * k) ∷ []) ≡ numbers_at k (suc n) s at
-  unfolding numbers_at
-  more zero at = let e : at + zero * k ≡ at = omega arith in ap (λ (p : ℕ). number_at k s p ∷ []) e
+  more : (n at : ℕ) → numbers n s at ++ (number s (at + n * width) ∷ []) ≡ numbers (suc n) s at
+  more zero at = let e : at + zero * width ≡ at = omega arith in rw (e, none s at, one-more zero s at, none s (at + width))
   more (suc n) at =
-      let e : at + suc n * k ≡ at + k + n * k = omega (arith, suc-mul n k) in
-      rw e (ap (λ (l : List ℕ). number_at k s at ∷ l) (more n (at + k)))
+      let e : at + suc n * width ≡ at + width + n * width = omega (arith, suc-mul n width) in
+      rw (e, one-more (suc n) s at, one-more n s at) (ap (λ (l : List A). number s at ∷ l) (more n (at + width)))
 
-  pub fill_none : (at : ℕ) (xs : List ℕ) → xs ≡ numbers_at k 0 s at ++ drop 0 xs
-  unfolding numbers_at
-  fill_none at xs = refl
+  pub fill_none : (at : ℕ) (xs : List A) → xs ≡ numbers 0 s at ++ drop 0 xs
+  fill_none at xs = rw (none s at)
 
-  pub fill_more : (at i v : ℕ) (xs b : List ℕ) → b ≡ numbers_at k i s at ++ drop i xs → v ≡ number_at k s (at + i * k) → i < length xs
-      → set b i v ≡ numbers_at k (i + 1) s at ++ drop (i + 1) xs
+  pub fill_more : (at i : ℕ) (v : A) (xs b : List A) → b ≡ numbers i s at ++ drop i xs → v ≡ number s (at + i * width) → i < length xs → set b i v ≡ numbers (i + 1) s at ++ drop (i + 1) xs
   fill_more at i v xs b e t h =
-      rw (e, t, stored (numbers_at k i s at) xs i (number_at k s (at + i * k)) (sym (numbers-length i at)) h, more i at, add-one)
+      rw (e, t, stored (numbers i s at) xs i (number s (at + i * width)) (sym (numbers-length i at)) h, more i at, add-one)
 
-  pub fill-all : (at i : ℕ) (xs b : List ℕ) → b ≡ numbers_at k i s at ++ drop i xs → i ≡ length xs → b ≡ numbers_at k (length xs) s at
-  fill-all at i xs b e h = e ∙ rw (h, drop-length) (append-nil (numbers_at k (length xs) s at))
+  pub fill-all : (at i : ℕ) (xs b : List A) → b ≡ numbers i s at ++ drop i xs → i ≡ length xs → b ≡ numbers (length xs) s at
+  fill-all at i xs b e h = e ∙ rw (h, drop-length) (append-nil (numbers (length xs) s at))

@@ -14,10 +14,11 @@ use Rattle.record.specs.Tests.{both}
 use Rattle.record.specs.declared.Record.{Record}
 use Rattle.record.proofs.Bounds.{rest}
 use Rattle.deadlines.specs.declared.Table.{Table}
-use Rattle.image.specs.declared.Verdict.TheVariants.{Loaded, Version, Damaged}
+use Rattle.std.specs.Prelude.{Ok, Err}
+use Rattle.image.specs.declared.Refusal.TheVariants.{Version, Damaged}
 use Rattle.image.specs.Numbers.{number_at}
 use Rattle.image.specs.Checksum.{checksum_of}
-use Rattle.image.specs.Image.{version_at, length_at, is_marked, has_room, sum_holds, is_whole, frame_of, kept_by, load_by, load_of}
+use Rattle.image.specs.Image.{version_at, length_at, is_marked, has_room, sum_holds, is_whole, frame_of, held, kept_by, load_by, load_of}
 use Rattle.image.proofs.Judged.{whole_room}
 use Rattle.image.proofs.Undone.{Octets, checksum-one}
 
@@ -38,30 +39,30 @@ whole_sum : (s : List ℕ) → is_whole s ≡ true → checksum_of (take (length
 unfolding is_whole sum_holds
 whole_sum s h = eqb-true (checksum_of (take (length_at s - 4) s)) (number_at 4 s (length_at s - 4)) (rest (has_room s) (sum_holds s) (rest (both (leb 12 (length s)) (is_marked s)) (both (has_room s) (sum_holds s)) h))
 
-loaded-framed : (s : List ℕ) → frame_of s ≡ Loaded → Framed s
+loaded-framed : (s : List ℕ) → frame_of s ≡ Ok (tt {0}) → Framed s
 unfolding frame_of
 loaded-framed s h = go (is_whole s) (eqb (version_at s) 1) (eqb (length_at s) 1392) refl refl refl h
   where
-    go : (w v l : Bool) → is_whole s ≡ w → eqb (version_at s) 1 ≡ v → eqb (length_at s) 1392 ≡ l → cond w (cond v (cond l Loaded Damaged) Version) Damaged ≡ Loaded → Framed s
+    go : (w v l : Bool) → is_whole s ≡ w → eqb (version_at s) 1 ≡ v → eqb (length_at s) 1392 ≡ l → cond w (cond v (cond l (Ok (tt {0})) (Err Damaged)) (Err Version)) (Err Damaged) ≡ Ok (tt {0}) → Framed s
     go true true true p q r e = record { version = eqb-true (version_at s) 1 q; long = eqb-true (length_at s) 1392 r; room = whole_room s p; sum = whole_sum s p }
-    go true true false p q r e = let z : ◌≡◌ {A = ℕ} 0 1 = cc in absurd (omega arith)
-    go true false l p q r e = let z : ◌≡◌ {A = ℕ} 0 1 = cc in absurd (omega arith)
-    go false v l p q r e = let z : ◌≡◌ {A = ℕ} 0 1 = cc in absurd (omega arith)
+    go true true false p q r e = cc
+    go true false l p q r e = cc
+    go false v l p q r e = cc
 
 -- damaged are octets that are no whole image, and of this version those of another length
-not-whole : (s : List ℕ) → (is_whole s ≡ true → ⊥) → frame_of s ≡ Damaged
+not-whole : (s : List ℕ) → (is_whole s ≡ true → ⊥) → frame_of s ≡ Err Damaged
 unfolding frame_of
 not-whole s h = go (is_whole s) refl
   where
-    go : (w : Bool) → is_whole s ≡ w → cond w (cond (eqb (version_at s) 1) (cond (eqb (length_at s) 1392) Loaded Damaged) Version) Damaged ≡ Damaged
+    go : (w : Bool) → is_whole s ≡ w → cond w (cond (eqb (version_at s) 1) (cond (eqb (length_at s) 1392) (Ok (tt {0})) (Err Damaged)) (Err Version)) (Err Damaged) ≡ Err Damaged
     go false p = refl
     go true p = absurd (h p)
 
-not-long : (s : List ℕ) → version_at s ≡ 1 → (length_at s ≡ 1392 → ⊥) → frame_of s ≡ Damaged
+not-long : (s : List ℕ) → version_at s ≡ 1 → (length_at s ≡ 1392 → ⊥) → frame_of s ≡ Err Damaged
 unfolding frame_of
 not-long s v h = go (is_whole s)
   where
-    go : (w : Bool) → cond w (cond (eqb (version_at s) 1) (cond (eqb (length_at s) 1392) Loaded Damaged) Version) Damaged ≡ Damaged
+    go : (w : Bool) → cond w (cond (eqb (version_at s) 1) (cond (eqb (length_at s) 1392) (Ok (tt {0})) (Err Damaged)) (Err Version)) (Err Damaged) ≡ Err Damaged
     go false = refl
     go true = rw (eq-eqb (version_at s) 1 v, ne_eqb (length_at s) 1392 h)
 
@@ -96,7 +97,7 @@ number-another (suc k) s at (suc j) y h l e =
     rw m (number-another k s (suc at) j y (omega (arith, h)) (omega (arith, l)) q)
 
 -- Every octet of an image of this version: another in its place, and it is damaged.
-module _ (s : List ℕ) (octets : Octets s) (framed : frame_of s ≡ Loaded) (i y : ℕ) (octet : y < 256) (other : y ≡ get_or s i 0 → ⊥) where
+module _ (s : List ℕ) (octets : Octets s) (framed : frame_of s ≡ Ok (tt {0})) (i y : ℕ) (octet : y < 256) (other : y ≡ get_or s i 0 → ⊥) where
   abbrev f : Framed s
   f = loaded-framed s framed
 
@@ -122,13 +123,13 @@ module _ (s : List ℕ) (octets : Octets s) (framed : frame_of s ≡ Loaded) (i 
         let n : number_at 4 (set s (1388 + j) y) 1388 ≡ number_at 4 s 1388 = rw p at (sym x ∙ z) in
         other (rw p (number-another 4 s 1388 j y l (omega (arith, l, f.room, f.long)) n))
 
-  pub flipped : i < 1392 → frame_of t ≡ Damaged
+  pub flipped : i < 1392 → frame_of t ≡ Err Damaged
   flipped l = go (ltb i 6) (ltb i 8) (ltb i 1388) refl refl refl
     where
       aside : (i < 6) ⊎ (8 ≤ i) → length_at t ≡ 1392
       aside h = number-other 2 s 6 i y h ∙ f.long
 
-      go : (a b c : Bool) → ltb i 6 ≡ a → ltb i 8 ≡ b → ltb i 1388 ≡ c → frame_of t ≡ Damaged
+      go : (a b c : Bool) → ltb i 6 ≡ a → ltb i 8 ≡ b → ltb i 1388 ≡ c → frame_of t ≡ Err Damaged
       go true b c p q r = let h = ltb-true i 6 p in not-whole t (before-sum (aside (inl h)) (omega (arith, h)))
       go false true c p q r =
           let h : 6 ≤ i = ltb-false i 6 p in
@@ -140,7 +141,7 @@ module _ (s : List ℕ) (octets : Octets s) (framed : frame_of s ≡ Loaded) (i 
           let h : 1388 ≤ i = ltb-false i 1388 r in
           not-whole t (in_sum (aside (inr (ltb-false i 8 q))) (i - 1388) (omega (arith, h, l)) (omega (arith, h)))
 
-  -- so that it is not loaded, and what is lent stays
-  pub flipped-left : i < 1392 → (q : Record) (u : Table) (m : ℕ) → load_of q u m t ≡ kept_by Damaged q u m
+  -- so that it is not loaded, and what the caller has stays
+  pub flipped-left : i < 1392 → (load_of t ≡ Err Damaged) × ((q : Record) (u : Table) (m : ℕ) → kept_by q u m (load_of t) ≡ held q u m)
   unfolding load_of load_by
-  flipped-left l q u m = rw (flipped l)
+  flipped-left l = (rw (flipped l), λ q u m. rw (flipped l))

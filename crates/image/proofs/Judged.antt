@@ -9,7 +9,8 @@ use lib.Dec.{leb, eqb}
 use lib.ListN.{length}
 use Rattle.record.specs.Tests.{both}
 use Rattle.record.proofs.Bounds.{one, rest}
-use Rattle.image.specs.declared.Verdict.TheVariants.{Loaded, Version, Damaged}
+use Rattle.std.specs.Prelude.{Ok, Err}
+use Rattle.image.specs.declared.Refusal.TheVariants.{Version, Damaged}
 use Rattle.image.specs.Numbers.{number_at}
 use Rattle.image.specs.Image.{version_at, length_at, is_marked, has_room, sum_holds, is_whole, frame_of}
 
@@ -47,12 +48,12 @@ module _ (s : List ℕ) where
   unfolding is_whole has_room
   whole_room h = leb-true (length_at s) (length s) (rest (leb 12 (length_at s)) _ (one _ (sum_holds s) (rest (both (leb 12 (length s)) (is_marked s)) _ h)))
 
-  pub loaded-long : frame_of s ≡ Loaded → 1392 ≤ length s
+  pub loaded-long : frame_of s ≡ Ok (tt {0}) → 1392 ≤ length s
   unfolding frame_of
   loaded-long h = go (is_whole s) (eqb (version_at s) 1) (eqb (length_at s) 1392) refl refl h
     where
-      go : (w v l : Bool) → is_whole s ≡ w → eqb (length_at s) 1392 ≡ l → cond w (cond v (cond l Loaded Damaged) Version) Damaged ≡ Loaded → 1392 ≤ length s
+      go : (w v l : Bool) → is_whole s ≡ w → eqb (length_at s) 1392 ≡ l → cond w (cond v (cond l (Ok (tt {0})) (Err Damaged)) (Err Version)) (Err Damaged) ≡ Ok (tt {0}) → 1392 ≤ length s
       go true true true p q r = omega (arith, whole_room p, eqb-true (length_at s) 1392 q)
-      go true true false p q r = let z : ◌≡◌ {A = ℕ} 0 1 = cc in absurd (omega arith)
-      go true false l p q r = let z : ◌≡◌ {A = ℕ} 0 1 = cc in absurd (omega arith)
-      go false v l p q r = let z : ◌≡◌ {A = ℕ} 0 1 = cc in absurd (omega arith)
+      go true true false p q r = cc
+      go true false l p q r = cc
+      go false v l p q r = cc

@@ -1,9 +1,9 @@
 -- Numbers laid one behind the other: each takes its width, one more goes behind those laid, and what is left of the room is the rest's; by induction on the numbers and the columns. Assumes nothing.
-use Prim.Native.Nat.{ℕ, zero, suc, ◌+◌, ◌*◌, ◌/◌, ◌%◌, ◌-◌, ◌≤◌, ◌<◌}
-use mathlib.Core.Path.{◌≡◌, refl, sym, ◌∙◌, ap}
+use Prim.Native.Nat.{ℕ, suc, ◌+◌, ◌*◌, ◌/◌, ◌%◌, ◌-◌, ◌≤◌, ◌<◌}
+use mathlib.Core.Path.{◌≡◌, refl, sym, ◌∙◌}
 use mathlib.Core.List.{List, [], ◌∷◌, ◌++◌, append-nil, append_assoc}
 use native.Mathlib.Omega.{arith}
-use native.Mathlib.Nat.{zero-add, zero-mul, suc-mul, add_comm}
+use native.Mathlib.Nat.{zero-add, zero-mul, suc-mul, add_comm, mul-le-mul_right}
 use native.Mathlib.Numerals.{add-one}
 use lib.ListN.{length, take, drop, set, get_or, length-append}
 use lib.Seq.{take-suc, take_all, take-suc-set, take-append_seam, drop-set-lt}
@@ -11,14 +11,10 @@ use Rattle.laws.specs.Splice.{spliced, Put}
 use Rattle.laws.specs.Upto.{over}
 use Rattle.laws.proofs.Splice.{join, none}
 use Rattle.image.specs.Numbers.{number_octets, numbers_octets, Column, column_octets}
-use Rattle.image.specs.Numbers.Column.{column}
+use Rattle.image.specs.Numbers.Column.{column as piece}
+use Rattle.image.specs.Widths.{number-long}
 
 -- how many octets numbers take
-pub number-long : (k x : ℕ) → length (number_octets k x) ≡ k
-unfolding number_octets
-number-long zero x = refl
-number-long (suc k) x = ap suc (number-long k (x / 256))
-
 pub numbers-long : (k : ℕ) (xs : List ℕ) → length (numbers_octets k xs) ≡ length xs * k
 unfolding numbers_octets
 numbers-long k [] = sym (zero-mul k)
@@ -46,38 +42,44 @@ octets-all b c at k x rest h =
     record { holds = (none c (at + k)).holds ∙ rw e at h; goes = omega (arith, number-long k x) }
 
 -- The first i numbers are laid, and the buffer is as long as it was.
-pub record Part (k : ℕ) (b : List ℕ) (at : ℕ) (xs c : List ℕ) (p i : ℕ) : Type 0 where
+pub record Part {A : Type 0} (width : ℕ) (column : List A → List ℕ) (b : List ℕ) (at : ℕ) (xs : List A) (c : List ℕ) (p i : ℕ) : Type 0 where
   pub most : i ≤ length xs
   pub long : length c ≡ length b
-  pub goes : p ≡ at + i * k
-  pub put : Put b at (numbers_octets k (take i xs)) c p
+  pub goes : p ≡ at + i * width
+  pub put : Put b at (column (take i xs)) c p
 
-behind : (k : ℕ) (xs : List ℕ) (x : ℕ) → numbers_octets k (xs ++ (x ∷ [])) ≡ numbers_octets k xs ++ number_octets k x
-unfolding numbers_octets
-behind k [] x = append-nil (number_octets k x)
-behind k (y ∷ xs) x = rw (behind k xs x, append_assoc)
+-- room for one more, where there is room for all
+pub room-for : (width n i at p l : ℕ) → i < n → at + n * width ≤ l → p ≡ at + i * width → p + width ≤ l
+room-for width n i at p l h r e =
+    let m : (i + 1) * width ≤ n * width = mul-le-mul_right width (omega arith) in
+    omega (arith, suc-mul i width, rw add-one at m)
 
-module _ {k : ℕ} {b : List ℕ} {at : ℕ} {xs : List ℕ} where
-  pub part_none : Part k b at xs b at 0
-  unfolding numbers_octets
-  part_none = record { most = omega arith; long = refl; goes = omega (arith, zero-mul k); put = none b at }
+-- so for numbers of any width
+module _ {A : Type 0} (octets : A → List ℕ) (column : List A → List ℕ) (width : ℕ) (wide : (x : A) → length (octets x) ≡ width) (none-laid : column [] ≡ []) (more : (x : A) (xs : List A) → column (x ∷ xs) ≡ octets x ++ column xs) where
+  behind : (xs : List A) (x : A) → column (xs ++ (x ∷ [])) ≡ column xs ++ octets x
+  behind [] x = rw (more x [], none-laid) (append-nil (octets x))
+  behind (y ∷ xs) x = rw (more y (xs ++ (x ∷ [])), behind xs x, more y xs, append_assoc)
 
-  pub part-more : {c d : List ℕ} {p q i : ℕ} → Part k b at xs c p i → at ≤ length b → i < length xs → length d ≡ length c → Put c p (number_octets k (get_or xs i 0)) d q → Part k b at xs d q (i + 1)
-  part-more {i = i} h r l e x = record {
-    most = omega arith;
-    long = e ∙ h.long;
-    goes = rw (add-one, suc-mul) (omega (arith, number-long k (get_or xs i 0)));
-    put = rw (add-one, take-suc xs i 0 l, behind k (take i xs) (get_or xs i 0)) (join r h.put x);
-  }
+  module _ {b : List ℕ} {at : ℕ} {xs : List A} where
+    pub part_none : Part width column b at xs b at 0
+    part_none = record { most = omega arith; long = refl; goes = omega (arith, zero-mul width); put = rw none-laid (none b at) }
 
-  pub part-all : {c : List ℕ} {p i : ℕ} → Part k b at xs c p i → length xs ≤ i → Put b at (numbers_octets k xs) c p
-  part-all {i = i} h l = rw (take_all i xs l) at h.put
+    pub part-more : {c d : List ℕ} {p q i : ℕ} {x : A} → Part width column b at xs c p i → at ≤ length b → i < length xs → x ≡ get_or xs i x → length d ≡ length c → Put c p (octets x) d q → Part width column b at xs d q (i + 1)
+    part-more {i = i} {x = x} h r l is e y = record {
+      most = omega arith;
+      long = e ∙ h.long;
+      goes = rw (add-one, suc-mul) (omega (arith, wide x));
+      put = rw (add-one, take-suc xs i x l, ← is, behind (take i xs) x) (join r h.put y);
+    }
+
+    pub part-all : {c : List ℕ} {p i : ℕ} → Part width column b at xs c p i → length xs ≤ i → Put b at (column xs) c p
+    part-all {i = i} h l = rw (take_all i xs l) at h.put
 
 -- columns, one behind the other
 pub columns-append : (cs ds : List Column) → column_octets (cs ++ ds) ≡ column_octets cs ++ column_octets ds
 unfolding column_octets
 columns-append [] ds = refl
-columns-append (column k xs ∷ cs) ds = rw (columns-append cs ds, append_assoc)
+columns-append (piece k xs ∷ cs) ds = rw (columns-append cs ds, append_assoc)
 
 -- the room that a piece leaves behind it
 pub room : {b c s : List ℕ} {at p n : ℕ} (m : ℕ) → length s ≡ n → Put b at s c p → length c ≡ length b → at + (n + m) ≤ length b → p + m ≤ length c

@@ -1,6 +1,5 @@
 -- Numbers laid and read, the checksum, an image's frame; what was saved loads back, of every value of the types, one octet changed is found, and records that are the same are one.
 pub mod Lays
-pub mod Sizes
 pub mod Sums
 pub mod Filled
 pub mod Equal

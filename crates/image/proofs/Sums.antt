@@ -1,16 +1,9 @@
--- A checksum over one octet more is one step more: by induction on the octets before it. Assumes nothing.
-use Prim.Native.Nat.{ℕ, ◌+◌, ◌<◌}
-use mathlib.Core.Path.{◌≡◌, refl}
-use mathlib.Core.List.{List, [], ◌∷◌, ◌++◌}
-use native.Mathlib.Numerals.{add-one}
-use lib.ListN.{length, take, get_or}
-use lib.Seq.{take-suc}
+-- The library's fold of the steps is the checksum's: by induction on the octets. Assumes nothing.
+use Rattle.std.proofs.Common.{ℕ, ◌≡◌, List, [], ◌∷◌, refl}
+use Rattle.std.specs.List.{fold}
 use Rattle.image.specs.Checksum.{octet_step, steps_from}
 
-behind : (c : ℕ) (s : List ℕ) (o : ℕ) → steps_from c (s ++ (o ∷ [])) ≡ octet_step (steps_from c s) o
+pub folded : (c : ℕ) (s : List ℕ) → fold octet_step c s ≡ steps_from c s
 unfolding steps_from
-behind c [] o = refl
-behind c (x ∷ s) o = behind (octet_step c x) s o
-
-pub one_more : (c : ℕ) (s : List ℕ) (i : ℕ) → i < length s → steps_from c (take (i + 1) s) ≡ octet_step (steps_from c (take i s)) (get_or s i 0)
-one_more c s i h = rw (add-one, take-suc s i 0 h) (behind c (take i s) (get_or s i 0))
+folded c [] = refl
+folded c (o ∷ s) = folded (octet_step c o) s

@@ -27,11 +27,11 @@ use Rattle.deadlines.specs.declared.Table.{Table}
 use Rattle.deadlines.specs.contracts.Table as T
 use Rattle.image.specs.Numbers.{Column, Narrow}
 use Rattle.image.specs.Numbers.Column.{column}
-use Rattle.image.specs.declared.Verdict.TheVariants.{Loaded}
+use Rattle.std.specs.Prelude.{Ok}
 use Rattle.image.specs.Layout.{device_words, device_octets, access_words, access_pairs, access_octets, head_columns, device_columns, access_columns, entries_columns, area_columns, card_columns, hot_columns, record_columns, table_columns, image_columns}
 use Rattle.image.specs.Shape.{Shape, Fills, head_shape, device_shape, access_shape, entries_shape, area_shape, card_shape, record_shape, table_shape, Typed}
 use Rattle.image.specs.Shape.Shape.{shape}
-use Rattle.image.specs.Image.{saved_over, kept_by, load_of}
+use Rattle.image.specs.Image.{saved_over, held, load_of}
 use Rattle.image.proofs.Back.{saved-loads}
 
 -- the numbers of an array
@@ -141,5 +141,5 @@ typed serial r t vs us h g k =
 
 -- so that of the program's own values a valid record always loads back
 pub value-loads : (serial : ℕ) (r : Record) (t : Table) (vs us : List Val) → serial < 2 ^ 32 → Is (row R.the_type) r vs → Is (row T.the_type) t us
-    → valid_of r ≡ true → (buffer : List ℕ) → 1392 ≤ length buffer → (q : Record) (u : Table) (m : ℕ) → load_of q u m (saved_over serial r t buffer) ≡ kept_by Loaded r t serial
-value-loads serial r t vs us h g k valid buffer long q u m = saved-loads serial r t (typed serial r t vs us h g k) valid buffer long q u m
+    → valid_of r ≡ true → (buffer : List ℕ) → 1392 ≤ length buffer → load_of (saved_over serial r t buffer) ≡ Ok (held r t serial)
+value-loads serial r t vs us h g k valid buffer long = saved-loads serial r t (typed serial r t vs us h g k) valid buffer long

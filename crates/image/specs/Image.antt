@@ -1,5 +1,5 @@
 -- What is saved and what is loaded, and what each call answers. Assumes nothing.
-use Rattle.std.specs.Prelude.{ℕ, ◌-◌, Bool, cond, List, ◌++◌, length, take, leb, eqb}
+use Rattle.std.specs.Prelude.{ℕ, ◌-◌, Bool, cond, List, ◌++◌, length, take, leb, eqb, Result, Ok, Err, ⊤}
 use Rattle.laws.specs.Upto.{over}
 use Rattle.record.specs.Tests.{both}
 use Rattle.record.specs.Answers.{is_taken}
@@ -8,9 +8,9 @@ use Rattle.record.specs.declared.Answer.{Answer}
 use Rattle.record.specs.declared.Answer.TheVariants.{Taken, Range, Short}
 use Rattle.ranges.specs.Valid.{valid_of}
 use Rattle.deadlines.specs.declared.Table.{Table}
-use Rattle.image.specs.declared.Verdict.{Verdict}
-use Rattle.image.specs.declared.Verdict.TheVariants.{Loaded, Invalid, Version, Damaged}
-use Rattle.image.specs.declared.Found.{Found}
+use Rattle.image.specs.declared.Loaded.{Loaded}
+use Rattle.image.specs.declared.Refusal.{Refusal}
+use Rattle.image.specs.declared.Refusal.TheVariants.{Invalid, Version, Damaged}
 use Rattle.image.specs.Numbers.{number_octets, column_octets, number_at}
 use Rattle.image.specs.Checksum.{checksum_of}
 use Rattle.image.specs.Layout.{image_length, image_columns, record_at, table_at, serial_at}
@@ -50,30 +50,31 @@ unfoldable pub is_whole : List ℕ → Bool
 is_whole s = both (both (leb 12 (length s)) (is_marked s)) (both (has_room s) (sum_holds s))
 
 -- "damaged": no image, or one that a cut or a changed octet has met; "another version"; of this version another length is none either
-unfoldable pub frame_of : List ℕ → Verdict
-frame_of s = cond (is_whole s) (cond (eqb (version_at s) 1) (cond (eqb (length_at s) image_length) Loaded Damaged) Version) Damaged
+unfoldable pub frame_of : List ℕ → Result ⊤ Refusal
+frame_of s = cond (is_whole s) (cond (eqb (version_at s) 1) (cond (eqb (length_at s) image_length) (Ok tt) (Err Damaged)) (Err Version)) (Err Damaged)
 
--- a refusal gives back what was lent
-abbrev pub kept_by : Verdict → Record → Table → ℕ → Found
-kept_by v r t serial = record { verdict = v; next = r; table = t; serial = serial }
+abbrev pub held : Record → Table → ℕ → Loaded
+held r t serial = record { next = r; table = t; serial = serial }
+
+-- a refusal leaves what the caller has
+abbrev pub kept_by : Record → Table → ℕ → Result Loaded Refusal → Loaded
+kept_by r t serial (Ok l) = l
+kept_by r t serial (Err e) = held r t serial
 
 -- "an invalid record", else "loaded"
-unfoldable pub opened_of : Record → Table → ℕ → List ℕ → Found
-opened_of r t serial s = cond (valid_of (record_at s)) (kept_by Loaded (record_at s) (table_at s) (serial_at s)) (kept_by Invalid r t serial)
+unfoldable pub opened_of : List ℕ → Result Loaded Refusal
+opened_of s = cond (valid_of (record_at s)) (Ok (held (record_at s) (table_at s) (serial_at s))) (Err Invalid)
 
-unfoldable pub load_by : Verdict → Record → Table → ℕ → List ℕ → Found
-load_by Loaded r t serial s = opened_of r t serial s
-load_by Invalid r t serial s = kept_by Invalid r t serial
-load_by Version r t serial s = kept_by Version r t serial
-load_by Damaged r t serial s = kept_by Damaged r t serial
+unfoldable pub load_by : Result ⊤ Refusal → List ℕ → Result Loaded Refusal
+load_by (Ok t) s = opened_of s
+load_by (Err e) s = Err e
 
--- any octets, and what is lent beside them
-unfoldable pub load_of : Record → Table → ℕ → List ℕ → Found
-load_of r t serial s = load_by (frame_of s) r t serial s
+-- any octets
+unfoldable pub load_of : List ℕ → Result Loaded Refusal
+load_of s = load_by (frame_of s) s
 
--- the answers' numbers
-unfoldable pub verdict_number : Verdict → ℕ
-verdict_number Loaded = 0
-verdict_number Invalid = 1
-verdict_number Version = 23
-verdict_number Damaged = 24
+-- the refusals' numbers
+unfoldable pub refusal_number : Refusal → ℕ
+refusal_number Invalid = 1
+refusal_number Version = 23
+refusal_number Damaged = 24

@@ -1,151 +1,73 @@
 // Whether two records are one, field by field.
 ghost use Rattle.std.specs.Prelude.{◌≡◌};
-ghost use Rattle.image.specs.Same.{same_numbers, same_device, same_access, same_hot, same_marks, same_entries, same_record};
+ghost use Rattle.image.specs.Same.{same_device, same_access, same_hot, same_entries, same_areas, same_card, same_record};
 
 use crate::laying::{access_octets, access_pairs, access_words, device_octets, device_words};
 use entries::Entries;
-use record::{Access, Device, Hot, Record, and};
+use record::{Access, Device, Hot, Record};
 
-fn octets(xs: &[u8], ys: &[u8]) -> bool
-    ensures { result ≡ same_numbers xs.now ys.now }
+#[tactic(auto, using(crate::proofs::Equal::same_is), unfolding(crate::specs::Same::same_device))]
+fn device(d: &Device, f: &Device) -> bool
+    ensures { result ≡ same_device d.now f.now }
 {
-    if xs.len() != ys.len() {
-        return false;
-    }
-    let mut i = 0;
-    while i < xs.len() {
-        if xs[i] != ys[i] {
-            return false;
-        }
-        i += 1;
-    }
-    true
+    device_words(d) == device_words(f) && device_octets(d) == device_octets(f)
 }
 
-fn pairs(xs: &[u16], ys: &[u16]) -> bool
-    ensures { result ≡ same_numbers xs.now ys.now }
+#[tactic(auto, using(crate::proofs::Equal::same_is), unfolding(crate::specs::Same::same_access))]
+fn access(a: &Access, b: &Access) -> bool
+    ensures { result ≡ same_access a.now b.now }
 {
-    if xs.len() != ys.len() {
-        return false;
-    }
-    let mut i = 0;
-    while i < xs.len() {
-        if xs[i] != ys[i] {
-            return false;
-        }
-        i += 1;
-    }
-    true
+    access_words(a) == access_words(b)
+        && access_pairs(a) == access_pairs(b)
+        && access_octets(a) == access_octets(b)
 }
 
-fn words(xs: &[u32], ys: &[u32]) -> bool
-    ensures { result ≡ same_numbers xs.now ys.now }
+#[tactic(auto, unfolding(crate::specs::Same::same_hot))]
+fn hot(g: &Hot, h: &Hot) -> bool
+    ensures { result ≡ same_hot g.now h.now }
 {
-    if xs.len() != ys.len() {
-        return false;
-    }
-    let mut i = 0;
-    while i < xs.len() {
-        if xs[i] != ys[i] {
-            return false;
-        }
-        i += 1;
-    }
-    true
+    device(&g.dev, &h.dev) && access(&g.a0, &h.a0) && access(&g.a1, &h.a1)
 }
 
-fn longs(xs: &[u64], ys: &[u64]) -> bool
-    ensures { result ≡ same_numbers xs.now ys.now }
+#[tactic(auto, using(crate::proofs::Equal::same_is), unfolding(crate::specs::Same::same_entries, crate::specs::Same::same_marks))]
+fn entries_of(t: &Entries, u: &Entries) -> bool
+    ensures { result ≡ same_entries t.now u.now }
 {
-    if xs.len() != ys.len() {
-        return false;
-    }
-    let mut i = 0;
-    while i < xs.len() {
-        if xs[i] != ys[i] {
-            return false;
-        }
-        i += 1;
-    }
-    true
+    t.nets == u.nets
+        && t.bans == u.bans
+        && t.n1s == u.n1s
+        && t.forbidden == u.forbidden
+        && t.barred == u.barred
+        && t.ranks == u.ranks
 }
 
-fn device(d: Device, f: Device) -> bool
-    ensures { result ≡ same_device d f }
+#[tactic(auto, using(crate::proofs::Equal::same_is), unfolding(crate::specs::Same::same_areas))]
+fn areas(r: &Record, q: &Record) -> bool
+    ensures { result ≡ same_areas r.now q.now }
 {
-    let dw = device_words(d);
-    let fw = device_words(f);
-    let x = words(&dw, &fw);
-    let dm = device_octets(d);
-    let fm = device_octets(f);
-    let y = octets(&dm, &fm);
-    and(x, y)
+    r.roaming == q.roaming
+        && r.regional == q.regional
+        && r.guti0 == q.guti0
+        && r.guti1 == q.guti1
+        && r.equivalents0 == q.equivalents0
+        && r.equivalents1 == q.equivalents1
 }
 
-fn access(a: Access, b: Access) -> bool
-    ensures { result ≡ same_access a b }
+#[tactic(auto, using(crate::proofs::Equal::same_is), unfolding(crate::specs::Same::same_card))]
+fn card(r: &Record, q: &Record) -> bool
+    ensures { result ≡ same_card r.now q.now }
 {
-    let aw = access_words(a);
-    let bw = access_words(b);
-    let x = words(&aw, &bw);
-    let ap = access_pairs(a);
-    let bp = access_pairs(b);
-    let y = pairs(&ap, &bp);
-    let am = access_octets(a);
-    let bm = access_octets(b);
-    let z = octets(&am, &bm);
-    and(x, and(y, z))
+    r.suci == q.suci && r.capability == q.capability && r.security == q.security
 }
 
-fn hot(g: Hot, h: Hot) -> bool
-    ensures { result ≡ same_hot g h }
+// Any two records. What an event changes is mostly a number, so these are looked at first.
+#[tactic(auto, unfolding(crate::specs::Same::same_record, crate::specs::Same::same_arrays))]
+pub fn same(r: &Record, q: &Record) -> bool
+    ensures { result ≡ same_record r.now q.now }
 {
-    let x = device(g.dev, h.dev);
-    let y = access(g.a0, h.a0);
-    let z = access(g.a1, h.a1);
-    and(x, and(y, z))
-}
-
-fn marks(t: Entries, u: Entries) -> bool
-    ensures { result ≡ same_marks t u }
-{
-    let x = octets(&t.forbidden, &u.forbidden);
-    let y = octets(&t.barred, &u.barred);
-    let z = octets(&t.ranks, &u.ranks);
-    and(x, and(y, z))
-}
-
-fn entries_of(t: Entries, u: Entries) -> bool
-    ensures { result ≡ same_entries t u }
-{
-    let x = words(&t.nets, &u.nets);
-    let y = octets(&t.bans, &u.bans);
-    let z = octets(&t.n1s, &u.n1s);
-    and(and(x, and(y, z)), marks(t, u))
-}
-
-// Any two records. What an event changes is mostly a number, so these are looked at first; the arrays are lent, for no copy of a record to take stack.
-pub fn same(r: Record, q: Record) -> bool
-    ensures { result ≡ same_record r q }
-{
-    if !hot(r.hot, q.hot) {
-        return false;
-    }
-    let e0 = entries_of(r.e0, q.e0);
-    let e1 = entries_of(r.e1, q.e1);
-    let roaming = longs(&r.roaming, &q.roaming);
-    let regional = longs(&r.regional, &q.regional);
-    let guti0 = octets(&r.guti0, &q.guti0);
-    let guti1 = octets(&r.guti1, &q.guti1);
-    let equivalents0 = words(&r.equivalents0, &q.equivalents0);
-    let equivalents1 = words(&r.equivalents1, &q.equivalents1);
-    let suci = octets(&r.suci, &q.suci);
-    let capability = octets(&r.capability, &q.capability);
-    let security = octets(&r.security, &q.security);
-    let areas = and(
-        and(roaming, regional),
-        and(and(guti0, guti1), and(equivalents0, equivalents1)),
-    );
-    let card = and(suci, and(capability, security));
-    and(and(e0, e1), and(areas, card))
+    hot(&r.hot, &q.hot)
+        && entries_of(&r.e0, &q.e0)
+        && entries_of(&r.e1, &q.e1)
+        && areas(r, q)
+        && card(r, q)
 }

@@ -6,29 +6,28 @@ use record::Record;
 
 mod alike;
 mod checksum;
+mod columns;
 mod laying;
 mod loading;
 mod reading;
 mod saving;
 
 pub use alike::same;
-pub use loading::{load, number};
+pub use loading::load;
 pub use saving::save;
 
-// What octets are found to be: an image that was loaded, one whose record is not valid, one of another version, or none that holds.
+// What an image holds: the record, its table and the serial.
 #[derive(Clone, Copy)]
-pub enum Verdict {
-    Loaded,
-    Invalid,
-    Version,
-    Damaged,
-}
-
-// The verdict, and the record, the table and the serial loaded: those lent where it is refused.
-#[derive(Clone, Copy)]
-pub struct Found {
-    pub verdict: Verdict,
+pub struct Loaded {
     pub next: Record,
     pub table: Table,
     pub serial: u32,
+}
+
+// Why octets are not loaded: a record that is not valid, another version, or no image that holds.
+#[derive(Clone, Copy)]
+pub enum Refusal {
+    Invalid,
+    Version,
+    Damaged,
 }

@@ -1,19 +1,18 @@
 // What octets are: an image, whole and of this version, with a valid record in it; and that record, its table and the serial.
 ghost use Rattle.std.specs.Prelude.{◌≡◌, ◌≤◌, length};
-ghost use Rattle.image.specs.Image.{is_whole, sum_holds, length_at, frame_of, kept_by, opened_of, load_of, verdict_number};
+ghost use Rattle.image.specs.Image.{is_whole, sum_holds, length_at, frame_of, load_of, refusal_number};
 
 use crate::checksum::checksum;
-use crate::reading::{pair, record_at, table_at, word};
-use crate::{Found, Verdict};
-use deadlines::Table;
-use record::Record;
+use crate::columns::Number;
+use crate::reading::{record_at, table_at};
+use crate::{Loaded, Refusal};
 
 fn sum_holds(s: &[u8], n: usize) -> bool
     requires { (n ≡ length_at s.now) × ((12 ≤ n) × (n ≤ length s.now)) }
     ensures { result ≡ sum_holds s.now }
 {
     let at = n - 4;
-    checksum(s, at) == word(s, at)
+    checksum(&s[..at]) == u32::read(s, at)
 }
 
 // Whatever the version, an image tells its length, and its checksum stands at its end.
@@ -23,10 +22,10 @@ fn whole(s: &[u8]) -> bool
     if s.len() < 12 {
         return false;
     }
-    if word(s, 0) != 0x46524A54 {
+    if u32::read(s, 0) != 0x46524A54 {
         return false;
     }
-    let n = pair(s, 6) as usize;
+    let n = usize::from(u16::read(s, 6));
     if n < 12 {
         return false;
     }
@@ -36,64 +35,47 @@ fn whole(s: &[u8]) -> bool
     sum_holds(s, n)
 }
 
-// The verdict before the record is looked at: an image of this version and length is so far loaded.
-fn framed(s: &[u8]) -> Verdict
+// Before the record is looked at: an image of this version and length.
+fn framed(s: &[u8]) -> Result<(), Refusal>
     ensures { result ≡ frame_of s.now }
 {
     if !whole(s) {
-        return Verdict::Damaged;
+        return Err(Refusal::Damaged);
     }
-    if pair(s, 4) != 1 {
-        return Verdict::Version;
+    if u16::read(s, 4) != 1 {
+        return Err(Refusal::Version);
     }
-    if pair(s, 6) != 1392 {
-        return Verdict::Damaged;
+    if u16::read(s, 6) != 1392 {
+        return Err(Refusal::Damaged);
     }
-    Verdict::Loaded
-}
-
-fn kept(verdict: Verdict, r: Record, t: Table, serial: u32) -> Found
-    ensures { result ≡ kept_by verdict r t serial }
-{
-    Found {
-        verdict,
-        next: r,
-        table: t,
-        serial,
-    }
-}
-
-fn opened(r: Record, t: Table, serial: u32, s: &[u8]) -> Found
-    requires { 1392 ≤ length s.now }
-    ensures { result ≡ opened_of r t serial s.now }
-{
-    let next = record_at(s);
-    if !ranges::valid(next) {
-        return kept(Verdict::Invalid, r, t, serial);
-    }
-    let table = table_at(s);
-    kept(Verdict::Loaded, next, table, word(s, 8))
+    Ok(())
 }
 
 // Any octets.
-pub fn load(r: Record, t: Table, serial: u32, s: &[u8]) -> Found
-    ensures { result ≡ load_of r t serial s.now }
+pub fn load(s: &[u8]) -> Result<Loaded, Refusal>
+    ensures { result ≡ load_of s.now }
 {
-    match framed(s) {
-        Verdict::Loaded => opened(r, t, serial, s),
-        Verdict::Invalid => kept(Verdict::Invalid, r, t, serial),
-        Verdict::Version => kept(Verdict::Version, r, t, serial),
-        Verdict::Damaged => kept(Verdict::Damaged, r, t, serial),
+    framed(s)?;
+    let next = record_at(s);
+    if !ranges::fits(&next) {
+        return Err(Refusal::Invalid);
     }
+    Ok(Loaded {
+        next,
+        table: table_at(s),
+        serial: u32::read(s, 8),
+    })
 }
 
-pub fn number(v: Verdict) -> u32
-    ensures { result ≡ verdict_number v }
-{
-    match v {
-        Verdict::Loaded => 0,
-        Verdict::Invalid => 1,
-        Verdict::Version => 23,
-        Verdict::Damaged => 24,
+impl Refusal {
+    #[tactic(auto, unfolding(crate::specs::Image::refusal_number))]
+    pub fn number(self) -> u32
+        ensures { result ≡ refusal_number self }
+    {
+        match self {
+            Refusal::Invalid => 1,
+            Refusal::Version => 23,
+            Refusal::Damaged => 24,
+        }
     }
 }

@@ -7,45 +7,46 @@ ghost use Rattle.image.specs.Layout.{head_columns};
 ghost use Rattle.image.specs.Image.{body_of, image_of, save_answer, saved_over};
 
 use crate::checksum::checksum;
-use crate::laying::{lay, lay_octets, lay_pairs, lay_record, lay_table};
+use crate::columns::{Number, lay_column};
+use crate::laying::{lay_record, lay_table};
 use deadlines::Table;
 use record::{Answer, Record};
 
 // The mark, the layout's version and length, and the serial.
 fn lay_head(buffer: &mut [u8], serial: u32) -> usize
     requires { 12 ≤ length buffer.old }
-    ensures { Put buffer.old 0 (column_octets (head_columns serial)) buffer.new result }
+    ensures laid { Put buffer.old 0 (column_octets (head_columns serial)) buffer.new result }
+    ensures next { result ≡ 12 }
 {
-    let mark = [0x54u8, 0x4A, 0x52, 0x46];
-    let pairs = [1u16, 1392];
-    let a = lay_octets(buffer, 0, &mark);
-    let b = lay_pairs(buffer, a, &pairs);
-    lay(buffer, b, 4, serial as u64)
+    let a = lay_column(buffer, 0, &[0x54u8, 0x4A, 0x52, 0x46]);
+    let b = lay_column(buffer, a, &[1u16, 1392]);
+    serial.lay(buffer, b)
 }
 
-fn lay_body(buffer: &mut [u8], r: Record, t: Table, serial: u32) -> usize
+fn lay_body(buffer: &mut [u8], r: &Record, t: &Table, serial: u32) -> usize
     requires { 1388 ≤ length buffer.old }
-    ensures { Put buffer.old 0 (body_of serial r t) buffer.new result }
+    ensures laid { Put buffer.old 0 (body_of serial r.now t.now) buffer.new result }
+    ensures next { result ≡ 1388 }
 {
     let a = lay_head(buffer, serial);
     let b = lay_record(buffer, a, r);
     lay_table(buffer, b, t)
 }
 
-fn lay_image(buffer: &mut [u8], r: Record, t: Table, serial: u32)
+fn lay_image(buffer: &mut [u8], r: &Record, t: &Table, serial: u32)
     requires { 1392 ≤ length buffer.old }
-    ensures { buffer.new ≡ over (image_of serial r t) buffer.old }
+    ensures { buffer.new ≡ over (image_of serial r.now t.now) buffer.old }
 {
     let at = lay_body(buffer, r, t, serial);
-    let sum = checksum(buffer, at);
-    let _end = lay(buffer, at, 4, sum as u64);
+    let sum = checksum(&buffer[..at]);
+    sum.lay(buffer, at);
 }
 
 // Any record, any table, any serial and any buffer.
-pub fn save(r: Record, t: Table, serial: u32, buffer: &mut [u8]) -> Answer
-    ensures { (result ≡ save_answer r (length buffer.old)) × (buffer.new ≡ saved_over serial r t buffer.old) }
+pub fn save(r: &Record, t: &Table, serial: u32, buffer: &mut [u8]) -> Answer
+    ensures { (result ≡ save_answer r.now (length buffer.old)) × (buffer.new ≡ saved_over serial r.now t.now buffer.old) }
 {
-    if !ranges::valid(r) {
+    if !ranges::fits(r) {
         return Answer::Range;
     }
     if buffer.len() < 1392 {

@@ -4,5 +4,6 @@ pub mod Lists
 pub mod One
 pub mod Seek
 pub mod Splice
+pub mod Taken
 pub mod Tests
 pub mod Zip

@@ -1,42 +1,20 @@
--- A loop that moves each element one place to the front, a test that fails past the end of a list, and a store behind what was written. Assumes nothing.
+-- A list copied to the front of another, a test that fails past the end of a list, and a store behind what was written. Assumes nothing.
 use mathlib.Core.Path.{◌≡◌, refl, sym, ap, ◌∙◌}
 use mathlib.Core.Bool.{Bool, true, false, true≢false}
 use mathlib.Core.List.{List, [], ◌∷◌, ◌++◌, append_assoc}
-use Prim.Native.Nat.{ℕ, zero, suc, ◌+◌, ◌<◌}
+use Prim.Native.Nat.{ℕ, zero, suc, ◌+◌, ◌≤◌, ◌<◌}
 use native.Mathlib.Numerals.{add-one}
 use native.Mathlib.Omega.{arith}
 use lib.ListN.{length, get_or, set, drop}
 use lib.Seq.{drop-cons, set-append_seam}
-use Rattle.laws.specs.Upto.{upto, first}
-use Rattle.laws.proofs.Zip.{zip-step}
+use Rattle.laws.specs.Upto.{upto, copied}
 
--- the place behind those changed is as it was
-next : (f : ℕ → ℕ → ℕ) (i : ℕ) (xs ys : List ℕ) (d : ℕ) → get_or (upto f i xs ys) (suc i) d ≡ get_or ys (suc i) d
-unfolding upto
-next f zero xs ys d = refl
-next f (suc i) (x ∷ xs) (y ∷ ys) d = next f i xs ys d
-next f (suc i) [] (y ∷ ys) d = next f i [] ys d
-next f (suc i) [] [] d = refl
-next f (suc i) (x ∷ xs) [] d = refl
-
-behind : (i : ℕ) (xs : List ℕ) (d : ℕ) → get_or (drop 1 xs) i d ≡ get_or xs (suc i) d
-behind i [] d = refl
-behind i (x ∷ xs) d = refl
-
-pub shift-step : (i : ℕ) (xs b : List ℕ) → b ≡ upto first i (drop 1 xs) xs → set b i (get_or b (i + 1) 0) ≡ upto first (i + 1) (drop 1 xs) xs
-shift-step i xs b e =
-    zip-step first i (drop 1 xs) xs b 0 (get_or b (i + 1) 0) e
-    (rw (e, add-one) (next first i (drop 1 xs) xs 0 ∙ sym (behind i xs 0)))
-
-all_moved : (x : ℕ) (xs : List ℕ) (v : ℕ) → set (upto first (length xs) xs (x ∷ xs)) (length xs) v ≡ xs ++ (v ∷ [])
-unfolding upto
-all_moved x [] v = refl
-all_moved x (y ∷ ys) v = ap (λ (r : List ℕ). y ∷ r) (all_moved y ys v)
-
--- the oldest is gone and the last place is free
-pub shift-all : (n : ℕ) (xs : List ℕ) (v : ℕ) → length xs ≡ suc n → set (upto first n (drop 1 xs) xs) n v ≡ drop 1 xs ++ (v ∷ [])
-shift-all n [] v e = absurd (omega arith)
-shift-all n (x ∷ xs) v e = let q : n ≡ length xs = omega arith in rw q (all_moved x xs v)
+-- a list written over the front of another: so many of its elements, and the rest as it was
+pub copied_over : (xs ys : List ℕ) → length xs ≤ length ys → xs ++ drop (length xs) ys ≡ copied (length xs) xs ys
+unfolding copied upto
+copied_over [] ys h = refl
+copied_over (x ∷ xs) [] h = absurd (omega arith)
+copied_over (x ∷ xs) (y ∷ ys) h = ap (λ (r : List ℕ). x ∷ r) (copied_over xs ys (omega arith))
 
 pub inside : (p : ℕ → Bool) → p 0 ≡ false → (i : ℕ) (xs : List ℕ) → p (get_or xs i 0) ≡ true → i < length xs
 inside p z i [] t = absurd (true≢false (sym t ∙ z))

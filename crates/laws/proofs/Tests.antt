@@ -12,19 +12,19 @@ use Rattle.laws.specs.Upto.{all_to, distinct_to, seek_to, same_by}
 
 -- any such test T, with t i what the element at i adds
 module _ (T t : ℕ → Bool) (one : (i : ℕ) → T (suc i) ≡ cond (T i) (t i) false) where
-  more : (i : ℕ) → T i ≡ true → t i ≡ true → T (i + 1) ≡ true
+  pub more : (i : ℕ) → T i ≡ true → t i ≡ true → T (i + 1) ≡ true
   more i e p = rw (add-one, one i, e) p
 
   stays : (k i : ℕ) → T i ≡ false → T (i + k) ≡ false
   stays zero i e = rw (add-zero i) e
   stays (suc k) i e = rw (add-suc i k, one (i + k), stays k i e)
 
-  ends : (n i : ℕ) → T i ≡ true → t i ≡ false → i < n → false ≡ T n
+  pub ends : (n i : ℕ) → T i ≡ true → t i ≡ false → i < n → false ≡ T n
   ends n i e p h =
       let q : n ≡ suc i + (n - suc i) = omega arith in
       sym (rw q (stays (n - suc i) (suc i) (rw (one i, e) p)))
 
-  over : (n i : ℕ) → T i ≡ true → i ≤ n → n ≤ i → true ≡ T n
+  pub over : (n i : ℕ) → T i ≡ true → i ≤ n → n ≤ i → true ≡ T n
   over n i e h g = let q : n ≡ i = omega arith in sym (rw q e)
 
 module _ (p : ℕ → Bool) (xs : List ℕ) where

@@ -1,5 +1,6 @@
 -- Arrays of numbers, read to a count, and lists written over others. Past the end of a list a number reads as 0, so that nothing here asks for a length. Assumes nothing.
-use Rattle.std.specs.Prelude.{ℕ, zero, suc, Bool, true, false, cond, List, [], ◌∷◌, ◌++◌, length, get_or, drop, eqb}
+use Rattle.std.specs.Prelude.{ℕ, zero, suc, Bool, true, false, cond, not, List, [], ◌∷◌, ◌++◌, length, get_or, take, drop, eqb}
+use Rattle.std.specs.List.{list_any}
 
 -- the first i elements changed, each by the one beside it
 unfoldable pub upto : (ℕ → ℕ → ℕ) → ℕ → List ℕ → List ℕ → List ℕ
@@ -42,3 +43,13 @@ same_by key a b = eqb (key b) (key a)
 unfoldable pub distinct_to : (ℕ → ℕ) → ℕ → List ℕ → Bool
 distinct_to key zero xs = true
 distinct_to key (suc i) xs = cond (distinct_to key i xs) (eqb (seek_to (same_by key (get_or xs i 0)) i xs) i) false
+
+-- one of these is the first of those
+abbrev pub is_among : {A : Type 0} → (A → A → Bool) → List A → List A → Bool
+is_among same xs [] = false
+is_among same xs (y ∷ ys) = list_any (λ x. same x y) xs
+
+-- no two of the first n elements are the same, of whatever type they are
+unfoldable pub apart_to : {A : Type 0} → (A → A → Bool) → ℕ → List A → Bool
+apart_to same zero xs = true
+apart_to same (suc i) xs = cond (apart_to same i xs) (not (is_among same (take i xs) (drop i xs))) false

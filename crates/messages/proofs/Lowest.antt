@@ -5,15 +5,15 @@ use mathlib.Core.Path.{◌≡◌, refl, sym, ◌∙◌}
 use mathlib.Core.Bool.{Bool, true, false, cond, false≢true}
 use mathlib.Core.Logic.{inl, inr, ⊎_elim}
 use mathlib.Core.List.{List}
+use Rattle.std.specs.Prelude.{Result, Ok, Err, ⊤}
 use native.Mathlib.Omega.{arith}
 use lib.ListN.{length, get_or}
 use lib.Dec.{ltb, eqb}
 use borrow.Author.Tests.{ltb-true, ltb-false, eqb-true, eqb-false}
 use Rattle.octets.specs.declared.Fault.{Fault}
 use Rattle.octets.specs.declared.Fault.TheVariants.{Cut, First, Second, Kind, Past, Strange}
-use Rattle.octets.specs.declared.Ending.{Ending}
-use Rattle.octets.specs.declared.Ending.TheVariants.{Broken, Whole}
-use Rattle.octets.specs.Element.{elements_from, end_of}
+use Rattle.octets.specs.declared.Malformed.{Malformed}
+use Rattle.octets.specs.Element.{elements_from, malformed, end_of}
 use Rattle.messages.specs.Message.{opened_by, begun_by, ended_by, fault_number}
 use Rattle.messages.specs.Faults.{fixed_of, in_request, ElementFault, Faulty, Lowest}
 use Rattle.messages.proofs.Readings.{choice}
@@ -43,8 +43,8 @@ module _ (reads : ℕ → Bool) (s : List ℕ) where
   Clear n = (g : Fault) (b : ℕ) → Has g b → n ≤ b
 
   -- an accept's result has octets
-  abbrev pub Result : Type 0
-  Result = get_or s 2 0 ≡ 0x42 → 3 < length s → get_or s 3 0 ≡ 0 → ⊥
+  abbrev pub HasResult : Type 0
+  HasResult = get_or s 2 0 ≡ 0x42 → 3 < length s → get_or s 3 0 ≡ 0 → ⊥
 
   pub fixed-some : 3 ≤ fixed_of s
   unfolding fixed_of
@@ -87,16 +87,16 @@ module _ (reads : ℕ → Bool) (s : List ℕ) where
   tie Past b x h l = omega (arith, fixed-some, (far Past b x).0)
   tie Strange b x h l = omega (arith, fixed-some, (far Strange b x).0)
 
-  pub octet-lowest : (f : Fault) (at : ℕ) → fault_number f ≡ 14 + at → at ≤ 2 → at < length s → Has f at → Clear at → Lowest Has (Broken f at)
+  pub octet-lowest : (f : Fault) (at : ℕ) → fault_number f ≡ 14 + at → at ≤ 2 → at < length s → Has f at → Clear at → Lowest Has (malformed f at)
   unfolding Lowest
   octet-lowest f at e h l x c = (x, λ g b y. ⊎_elim inl (λ z. inr (z, omega (arith, tie g b y (omega arith) (omega arith)))) (order at b (c g b y)))
 
-  pub cut-lowest : (at : ℕ) → Has Cut at → Clear at → Lowest Has (Broken Cut at)
+  pub cut-lowest : (at : ℕ) → Has Cut at → Clear at → Lowest Has (malformed Cut at)
   unfolding Lowest
   cut-lowest at x c = (x, λ g b y. ⊎_elim inl (λ z. inr (z, least g)) (order at b (c g b y)))
 
   -- a message with fewer than the fixed octets has no element
-  short-clear : length s < fixed_of s → Clear 3 → Result → Clear (length s)
+  short-clear : length s < fixed_of s → Clear 3 → HasResult → Clear (length s)
   unfolding Faulty
   short-clear h c r Cut b (inl x) = omega (arith, x.1)
   short-clear h c r Cut b (inr x) = absurd (r x.0 x.1.0 x.1.1.0)
@@ -116,7 +116,7 @@ module _ (reads : ℕ → Bool) (s : List ℕ) where
   up Past b x = x
   up Strange b x = x
 
-  down : fixed_of s ≤ length s → Clear 3 → Result → (g : Fault) (b : ℕ) → Has g b → ElementFault (in_request s) s (fixed_of s) g b
+  down : fixed_of s ≤ length s → Clear 3 → HasResult → (g : Fault) (b : ℕ) → Has g b → ElementFault (in_request s) s (fixed_of s) g b
   unfolding Faulty ElementFault
   down h c r Cut b (inl x) = omega (arith, x.0)
   down h c r Cut b (inr x) = absurd (r x.0 x.1.0 x.1.1.0)
@@ -126,13 +126,13 @@ module _ (reads : ℕ → Bool) (s : List ℕ) where
   down h c r Past b x = x
   down h c r Strange b x = x
 
-  lift : fixed_of s ≤ length s → Clear 3 → Result → (e : Ending) → Lowest (ElementFault (in_request s) s (fixed_of s)) e → Lowest Has e
+  lift : fixed_of s ≤ length s → Clear 3 → HasResult → (e : Result ⊤ Malformed) → Lowest (ElementFault (in_request s) s (fixed_of s)) e → Lowest Has e
   unfolding Lowest
-  lift h c r (Broken f at) x = (up f at x.0, λ g b y. x.1 g b (down h c r g b y))
-  lift h c r Whole x = λ g b y. x g b (down h c r g b y)
+  lift h c r (Err m) x = (up m.fault m.at x.0, λ g b y. x.1 g b (down h c r g b y))
+  lift h c r (Ok _) x = λ g b y. x g b (down h c r g b y)
 
 -- What a call makes of a fault, `bad`, and that a call which tells it does well, `told`; P is that a reading does
-module _ {A : Type 0} (P : A → Type 0) (bad : Fault → ℕ → A) (reads : ℕ → Bool) (s : List ℕ) (told : (f : Fault) (at : ℕ) → Lowest (Faulty reads s) (Broken f at) → P (bad f at)) where
+module _ {A : Type 0} (P : A → Type 0) (bad : Fault → ℕ → A) (reads : ℕ → Bool) (s : List ℕ) (told : (f : Fault) (at : ℕ) → Lowest (Faulty reads s) (malformed f at) → P (bad f at)) where
   -- one of the first three octets
   pub octet-told : (at octet : ℕ) (f : Fault) (rest : A) → at ≤ 2 → fault_number f ≡ 14 + at → at ≤ length s → Clear reads s at
       → (at < length s → (get_or s at 0 ≡ octet → ⊥) → Faulty reads s f at)
@@ -159,19 +159,19 @@ module _ {A : Type 0} (P : A → Type 0) (bad : Fault → ℕ → A) (reads : �
       octet-told 2 type Kind rest (omega arith) refl h (clear-two reads s h a b) (λ l n. (l, (unread n, refl))) (λ l e. go l e (clear-three reads s l a b (read e)))
 
   -- fewer than the fixed octets
-  pub short-told : (at : ℕ) → at ≡ length s → length s < fixed_of s → Clear reads s 3 → Result reads s → P (bad Cut at)
+  pub short-told : (at : ℕ) → at ≡ length s → length s < fixed_of s → Clear reads s 3 → HasResult reads s → P (bad Cut at)
   unfolding Faulty
   short-told at e h c r = told Cut at (rw e (cut-lowest reads s (length s) (inl (h, refl)) (short-clear reads s h c r)))
 
   -- behind the fixed octets
-  pub ended-told : (request : Bool) (from : ℕ) (rest : A) → request ≡ in_request s → from ≡ fixed_of s → fixed_of s ≤ length s → Clear reads s 3 → Result reads s
-      → (Lowest (Faulty reads s) Whole → P rest) → P (ended_by bad (end_of (elements_from request s from)) rest)
+  pub ended-told : (request : Bool) (from : ℕ) (rest : A) → request ≡ in_request s → from ≡ fixed_of s → fixed_of s ≤ length s → Clear reads s 3 → HasResult reads s
+      → (Lowest (Faulty reads s) (Ok tt) → P rest) → P (ended_by bad (end_of (elements_from request s from)) rest)
   unfolding ended_by
   ended-told request from rest d e h c r fine = rw (d, e) (by (end_of (elements_from (in_request s) s (fixed_of s))) (lift reads s h c r _ (elements-lowest (in_request s) s (fixed_of s))))
     where
-      by : (x : Ending) → Lowest (Faulty reads s) x → P (ended_by bad x rest)
-      by (Broken f at) x = told f at x
-      by Whole x = fine x
+      by : (x : Result ⊤ Malformed) → Lowest (Faulty reads s) x → P (ended_by bad x rest)
+      by (Err m) x = told m.fault m.at x
+      by (Ok _) x = fine x
 
   -- an accept whose result has length 0
   pub empty-told : get_or s 2 0 ≡ 0x42 → 3 < length s → get_or s 3 0 ≡ 0 → Clear reads s 3 → P (bad Cut 3)

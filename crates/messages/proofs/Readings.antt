@@ -4,14 +4,14 @@ use Prim.Native.Nat.{ℕ, ◌≤◌, ◌<◌}
 use mathlib.Core.Path.{◌≡◌, refl, ◌∙◌, ap}
 use mathlib.Core.Bool.{Bool, true, false, cond}
 use mathlib.Core.List.{List}
+use Rattle.std.specs.Prelude.{Result, Ok, ⊤}
 use lib.ListN.{length, get_or}
 use lib.Dec.{ltb, eqb}
 use borrow.Author.Tests.{ltb-true, eqb-true}
 use Rattle.octets.specs.declared.Fault.{Fault}
 use Rattle.octets.specs.declared.Fault.TheVariants.{Cut, First, Second}
-use Rattle.octets.specs.declared.Ending.{Ending}
-use Rattle.octets.specs.declared.Ending.TheVariants.{Broken, Whole}
-use Rattle.octets.specs.Element.{Elements, end_of}
+use Rattle.octets.specs.declared.Malformed.{Malformed}
+use Rattle.octets.specs.Element.{Elements, malformed, end_of}
 use Rattle.octets.specs.Element.Elements.{over, broken, element}
 use Rattle.octets.proofs.Inside.{Sound}
 use Rattle.messages.specs.Message.{opened_by, begun_by, ended_by, opening_of}
@@ -37,15 +37,19 @@ module _ {A : Type 0} (P : A → Type 0) (bad : Fault → ℕ → A) (s : List �
 
 module _ {A : Type 0} (bad : Fault → ℕ → A) (s : List ℕ) where
   -- an octet read apart from what follows it
-  apart : (at octet : ℕ) (f : Fault) (e : Ending) (rest : A) → opened_by bad s at octet f (ended_by bad e rest) ≡ ended_by bad (opened_by Broken s at octet f e) rest
+  apart : (at octet : ℕ) (f : Fault) (e : Result ⊤ Malformed) (rest : A) → opened_by bad s at octet f (ended_by bad e rest) ≡ ended_by bad (opened_by malformed s at octet f e) rest
   unfolding opened_by ended_by
   apart at octet f e rest = sides (ltb at (length s)) (eqb (get_or s at 0) octet)
     where
-      sides : (a b : Bool) → cond a (cond b (ended_by bad e rest) (bad f at)) (bad Cut at) ≡ ended_by bad (cond a (cond b e (Broken f at)) (Broken Cut at)) rest
+      sides : (a b : Bool) → cond a (cond b (ended_by bad e rest) (bad f at)) (bad Cut at) ≡ ended_by bad (cond a (cond b e (malformed f at)) (malformed Cut at)) rest
       sides true true = refl
       sides true false = refl
       sides false b = refl
 
+  pub alone : (at octet : ℕ) (f : Fault) (rest : A) → opened_by bad s at octet f rest ≡ ended_by bad (opened_by malformed s at octet f (Ok tt)) rest
+  unfolding ended_by
+  alone at octet f rest = apart at octet f (Ok tt) rest
+
   pub opening : (rest : A) → begun_by bad s rest ≡ ended_by bad (opening_of s) rest
   unfolding opening_of ended_by
-  opening rest = ap (opened_by bad s 0 0x7E First) (apart 1 0x00 Second Whole rest) ∙ apart 0 0x7E First (opened_by Broken s 1 0x00 Second Whole) rest
+  opening rest = ap (opened_by bad s 0 0x7E First) (apart 1 0x00 Second (Ok tt) rest) ∙ apart 0 0x7E First (opened_by malformed s 1 0x00 Second (Ok tt)) rest

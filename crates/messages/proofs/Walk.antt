@@ -4,6 +4,7 @@ use mathlib.Core.Path.{◌≡◌, refl, sym, subst}
 use mathlib.Core.Bool.{Bool, true, false, cond}
 use mathlib.Core.Logic.{◌⊎◌, inl, inr, ⊎_elim}
 use mathlib.Core.List.{List}
+use Rattle.std.specs.Prelude.{Result, Ok, Err, ⊤}
 use native.Mathlib.Omega.{arith}
 use lib.ListN.{length, get_or, drop, length-drop}
 use lib.Dec.{ltb, leb, eqb}
@@ -12,10 +13,9 @@ use Rattle.octets.specs.declared.Fault.{Fault}
 use Rattle.octets.specs.declared.Fault.TheVariants.{Cut, First, Second, Kind, Past, Strange}
 use Rattle.octets.specs.declared.Element.{Element}
 use Rattle.octets.specs.declared.Element.TheVariants.{Bad, At}
-use Rattle.octets.specs.declared.Ending.{Ending}
-use Rattle.octets.specs.declared.Ending.TheVariants.{Broken, Whole}
-use Rattle.octets.specs.Element.{format_of, lead_of, contents_of, read_as, element_of, element_at, after_of, Elements, joined, elements_from, end_of}
-use Rattle.octets.specs.Element.Format.{whole, long_length, short_length, seven_in_request, must_be_known}
+use Rattle.octets.specs.declared.Malformed.{Malformed}
+use Rattle.octets.specs.Element.{format_of, lead_of, contents_of, read_as, element_of, element_at, after_of, Elements, joined, elements_from, malformed, end_of}
+use Rattle.octets.specs.declared.Layout.TheVariants.{Whole, LongLength, ShortLength, SevenInRequest, MustBeKnown}
 use Rattle.octets.proofs.Elements.{taken, step, ended}
 use Rattle.messages.specs.Message.{fault_number}
 use Rattle.messages.specs.Faults.{size_at, place_of, Begins, ElementFault, Lowest}
@@ -33,13 +33,13 @@ strange : (i : ℕ) (e : Element) → read_as (format_of i) e ≡ cond (ltb i 16
 unfolding read_as format_of
 strange i e = by (ltb i 16) refl
   where
-    others : (a b c : Bool) → read_as (cond a whole (cond b long_length (cond c seven_in_request short_length))) e ≡ e
+    others : (a b c : Bool) → read_as (cond a Whole (cond b LongLength (cond c SevenInRequest ShortLength))) e ≡ e
     others true b c = refl
     others false true c = refl
     others false false true = refl
     others false false false = refl
 
-    by : (t : Bool) → ltb i 16 ≡ t → read_as (cond (leb 128 i) whole (cond (leb 112 i) long_length (cond (eqb i 82) seven_in_request (cond t must_be_known short_length)))) e ≡ cond t (Bad Strange) e
+    by : (t : Bool) → ltb i 16 ≡ t → read_as (cond (leb 128 i) Whole (cond (leb 112 i) LongLength (cond (eqb i 82) SevenInRequest (cond t MustBeKnown ShortLength)))) e ≡ cond t (Bad Strange) e
     by true h = let l : i < 16 = ltb-true i 16 h in rw (lt-leb 128 i (omega arith), lt-leb 112 i (omega arith), ne_eqb i 82 (λ z. omega arith))
     by false h = others (leb 128 i) (leb 112 i) (eqb i 82)
 
@@ -107,17 +107,17 @@ module _ (request : Bool) (s : List ℕ) where
     up Second b x = x
     up Kind b x = x
 
-    pass : (e : Ending) → Lowest (Fails (from + size_at request s from)) e → Lowest (Fails from) e
+    pass : (e : Result ⊤ Malformed) → Lowest (Fails (from + size_at request s from)) e → Lowest (Fails from) e
     unfolding Lowest
-    pass (Broken f at) x = (up f at x.0, λ g b y. x.1 g b (down g b y))
-    pass Whole x = λ g b y. x g b (down g b y)
+    pass (Err m) x = (up m.fault m.at x.0, λ g b y. x.1 g b (down g b y))
+    pass (Ok _) x = λ g b y. x g b (down g b y)
 
   -- a fault at the place itself: the others lie behind it, or there too and then have no lower number
-  at_first : (f : Fault) (from : ℕ) → Fails from f from → ((g : Fault) → Fails from g from → fault_number f ≤ fault_number g) → Lowest (Fails from) (Broken f from)
+  at_first : (f : Fault) (from : ℕ) → Fails from f from → ((g : Fault) → Fails from g from → fault_number f ≤ fault_number g) → Lowest (Fails from) (malformed f from)
   unfolding Lowest
   at_first f from x least = (x, λ g b y. ⊎_elim inl (λ e. inr (e, least g (subst (Fails from g) (sym e) y))) (order from b (behind from g b y).0))
 
-  past_first : (from : ℕ) → from < length s → length s < from + size_at request s from → Lowest (Fails from) (Broken Past from)
+  past_first : (from : ℕ) → from < length s → length s < from + size_at request s from → Lowest (Fails from) (malformed Past from)
   unfolding ElementFault
   past_first from h past = at_first Past from (here from h, past) least
     where
@@ -129,7 +129,7 @@ module _ (request : Bool) (s : List ℕ) where
       least Second x = absurd x
       least Kind x = absurd x
 
-  strange-first : (from : ℕ) → from < length s → from + size_at request s from ≤ length s → get_or s from 0 < 16 → Lowest (Fails from) (Broken Strange from)
+  strange-first : (from : ℕ) → from < length s → from + size_at request s from ≤ length s → get_or s from 0 < 16 → Lowest (Fails from) (malformed Strange from)
   unfolding ElementFault
   strange-first from h room low = at_first Strange from (here from h, low) least
     where

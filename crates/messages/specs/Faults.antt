@@ -1,14 +1,11 @@
 -- The faults of a message in the sentences of document 02, R-1, and what it is to tell the lowest of them. No reader has a part in it.
 -- Assumes nothing.
-use Rattle.std.specs.Prelude.{ℕ, zero, suc, ◌+◌, ◌*◌, ◌≤◌, ◌<◌, ◌≡◌, Bool, true, false, cond, ◌⊎◌, List, length, get_or, drop, eqb}
+use Rattle.std.specs.Prelude.{ℕ, zero, suc, ◌+◌, ◌*◌, ◌≤◌, ◌<◌, ◌≡◌, Bool, true, false, cond, ◌⊎◌, List, length, get_or, drop, eqb, Result, Ok, Err, ⊤}
 use Rattle.octets.specs.declared.Fault.{Fault}
 use Rattle.octets.specs.declared.Fault.TheVariants.{Cut, First, Second, Kind, Past, Strange}
-use Rattle.octets.specs.declared.Ending.{Ending}
-use Rattle.octets.specs.declared.Ending.TheVariants.{Broken, Whole}
+use Rattle.octets.specs.declared.Malformed.{Malformed}
 use Rattle.octets.specs.Element.{size_of}
 use Rattle.messages.specs.Message.{fault_number}
-use Rattle.messages.specs.declared.Reading.{Reading}
-use Rattle.messages.specs.declared.Reading.TheVariants as reading
 
 -- "the fixed octets", those before the elements: of a request (41) up to the end of its identity, of an accept (42) up to the end of its
 -- result, of a reject (44) its cause; of any other type only the three that all messages have
@@ -61,9 +58,9 @@ Faulty reads s Strange at = ElementFault (in_request s) s (fixed_of s) Strange a
 
 -- "The lowest offset is told, at a tie the lower number": what is told is a fault, and each one lies behind it, or at the same octet with no lower number;
 -- nothing is told only where there is none
-unfoldable pub Lowest : (Fault → ℕ → Type 0) → Ending → Type 0
-Lowest Has (Broken f at) = Has f at × ((g : Fault) (b : ℕ) → Has g b → (at < b) ⊎ ((at ≡ b) × (fault_number f ≤ fault_number g)))
-Lowest Has Whole = (g : Fault) (b : ℕ) → Has g b → ⊥
+unfoldable pub Lowest : (Fault → ℕ → Type 0) → Result ⊤ Malformed → Type 0
+Lowest Has (Err m) = Has m.fault m.at × ((g : Fault) (b : ℕ) → Has g b → (m.at < b) ⊎ ((m.at ≡ b) × (fault_number m.fault ≤ fault_number g)))
+Lowest Has (Ok _) = (g : Fault) (b : ℕ) → Has g b → ⊥
 
 -- the types that a message event reads, and the one that the reject reader for C does
 abbrev pub is_answer : ℕ → Bool
@@ -73,7 +70,6 @@ abbrev pub is_reject : ℕ → Bool
 is_reject type = eqb type 0x44
 
 -- what a reading tells of faults
-unfoldable pub fault_told : Reading → Ending
-fault_told (reading.Accept a) = Whole
-fault_told (reading.Reject r) = Whole
-fault_told (reading.Bad f at) = Broken f at
+unfoldable pub fault_told : {A : Type 0} → Result A Malformed → Result ⊤ Malformed
+fault_told (Ok x) = Ok tt
+fault_told (Err m) = Err m

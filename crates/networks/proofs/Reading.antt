@@ -1,10 +1,11 @@
 -- A file read from a place on: the network there and what is read three octets further; nothing where fewer than three are left. Assumes nothing.
-use Prim.Native.Nat.{ℕ, zero, suc, ◌+◌, ◌≤◌, ◌<◌}
+use Prim.Native.Nat.{ℕ, zero, suc, ◌+◌, ◌-◌, ◌≤◌, ◌<◌}
 use mathlib.Core.Path.{◌≡◌, refl, ◌∙◌, ap}
 use mathlib.Core.List.{List, [], ◌∷◌}
-use native.Mathlib.Nat.{suc-add}
+use native.Mathlib.Nat.{add-zero, suc-add}
 use native.Mathlib.Omega.{arith}
-use lib.ListN.{length, get_or, drop}
+use lib.ListN.{length, get_or, take, drop, length-drop}
+use Rattle.std.proofs.lemmas.List.{get_or-drop, take_all}
 use borrow.Author.Tests.{lt-ltb, le-ltb}
 use Rattle.networks.specs.Networks.{network_of, unused, network_at, used_by, networks_in}
 
@@ -15,6 +16,20 @@ at-is i s h = rw (lt-ltb (i + 2) (length s) h)
 pub at_none : (i : ℕ) (s : List ℕ) → length s ≤ i + 2 → unused ≡ network_at s i
 unfolding network_at
 at_none i s h = rw (le-ltb (i + 2) (length s) h)
+
+-- what is left of a file from a place on
+left : (i : ℕ) (s r : List ℕ) → r ≡ take (length s - i) (drop i s) → r ≡ drop i s
+left i s r e = e ∙ take_all (length s - i) (drop i s) (omega (arith, length-drop i s))
+
+pub at-left : (i : ℕ) (s r : List ℕ) → r ≡ take (length s - i) (drop i s) → 3 ≤ length r → network_of (get_or r 0 0) (get_or r 1 0) (get_or r 2 0) ≡ network_at s i
+at-left i s r e h =
+    let n : length r ≡ length s - i = ap length (left i s r e) ∙ length-drop i s in
+    rw (left i s r e, get_or-drop i s 0 0, get_or-drop i s 1 0, get_or-drop i s 2 0, add-zero) (at-is i s (omega arith))
+
+pub none_left : (i : ℕ) (s r : List ℕ) → r ≡ take (length s - i) (drop i s) → length r < 3 → unused ≡ network_at s i
+none_left i s r e h =
+    let n : length r ≡ length s - i = ap length (left i s r e) ∙ length-drop i s in
+    at_none i s (omega arith)
 
 next : (i : ℕ) (s : List ℕ) → i + 2 < length s → networks_in (drop i s) ≡ used_by (network_of (get_or s i 0) (get_or s (i + 1) 0) (get_or s (i + 2) 0)) (networks_in (drop (i + 3) s))
 unfolding networks_in

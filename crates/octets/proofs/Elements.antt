@@ -7,12 +7,13 @@ use mathlib.Core.List.{List, [], ◌∷◌}
 use native.Mathlib.Omega.{arith}
 use native.Mathlib.Numerals.{add-one}
 use native.Mathlib.Nat.{add-zero, add-suc, suc-add}
-use lib.ListN.{length, get_or, drop, length-drop, drop_of_length-le, get_or-eq_default}
+use lib.ListN.{length, get_or, drop, length-drop, drop_of_length-le}
 use lib.Seq.{drop-cons, drop-drop}
 use lib.Dec.{ltb, eqb}
 use borrow.Author.Tests.{lt-ltb, le-ltb, le-leb, ltb-true, ltb-false}
-use Rattle.octets.specs.Element.{Format, format_of, code_of, lead_by, lead_of, contents_by, contents_of, size_of, element_of, element_at, after_of, walked_at, Elements, joined, elements_of, elements_from}
-use Rattle.octets.specs.Element.Format.{whole, long_length, short_length, seven_in_request, must_be_known}
+use Rattle.octets.specs.Element.{format_of, code_of, lead_by, lead_of, contents_by, contents_of, size_of, read_as, element_of, element_at, after_of, walked_at, Elements, joined, elements_of, elements_from}
+use Rattle.octets.specs.declared.Layout.{Layout}
+use Rattle.octets.specs.declared.Layout.TheVariants.{Whole, LongLength, ShortLength, SevenInRequest, MustBeKnown}
 use Rattle.octets.specs.Element.Elements.{over, broken, element}
 use Rattle.octets.specs.declared.Fault.{Fault}
 use Rattle.octets.specs.declared.Fault.TheVariants.{Past, Strange}
@@ -20,30 +21,25 @@ use Rattle.octets.specs.declared.Element.TheVariants.{End, Bad, At}
 use Rattle.octets.specs.declared.Walked.{Walked}
 use Rattle.octets.proofs.Codes.{read-coded}
 
--- an octet past the end reads as 0
-pub missing : (s : List ℕ) (from i : ℕ) → length s - from ≤ i → 0 ≡ get_or (drop from s) i 0
-missing s from i h = sym (get_or-eq_default (drop from s) 0 (simp length-drop h))
-
 -- the octets from a place on
 left : (s : List ℕ) (at : ℕ) → at < length s → suc (length (drop (suc at) s)) ≡ length s - at
 left s at h = simp length-drop (omega arith)
 
 -- the element at a place, by the octets before its contents and those of its contents
-pub found : (request : Bool) (s : List ℕ) (at k n : ℕ) → at < length s → k ≡ lead_by request (format_of (get_or s at 0)) → n ≡ contents_by request (format_of (get_or s at 0)) (drop (at + 1) s)
-    → element_at request s at
-    ≡ cond (ltb (length s - at) (k + n)) (Bad Past) (cond (eqb (code_of (format_of (get_or s at 0))) 3) (Bad Strange) (At (get_or s at 0) (at + k) n (at + (k + n))))
+pub found : (request : Bool) (s : List ℕ) (at k n : ℕ) (f : Layout) → at < length s → f ≡ format_of (get_or s at 0) → k ≡ lead_by request f → n ≡ contents_by request f (drop (at + 1) s)
+    → element_at request s at ≡ cond (ltb (length s - at) (k + n)) (Bad Past) (read_as f (At (get_or s at 0) (at + k) n (at + (k + n))))
 unfolding element_at element_of size_of lead_of contents_of
-found request s at k n h e f = rw (lt-ltb _ _ h, left s at h, e, f, add-one, read-coded)
+found request s at k n f h d e g = rw (lt-ltb _ _ h, left s at h, ← d, e, g, add-one)
 
 -- each element takes an octet at least
-some : (request : Bool) (f : Format) (s : List ℕ) → 1 ≤ lead_by request f + contents_by request f s
+some : (request : Bool) (f : Layout) (s : List ℕ) → 1 ≤ lead_by request f + contents_by request f s
 unfolding lead_by contents_by
-some request whole s = omega arith
-some request long_length s = omega arith
-some request short_length s = omega arith
-some true seven_in_request s = omega arith
-some false seven_in_request s = omega arith
-some request must_be_known s = omega arith
+some request Whole s = omega arith
+some request LongLength s = omega arith
+some request ShortLength s = omega arith
+some true SevenInRequest s = omega arith
+some false SevenInRequest s = omega arith
+some request MustBeKnown s = omega arith
 
 pub taken : (request : Bool) (i : ℕ) (s : List ℕ) → 1 ≤ size_of request i s
 unfolding size_of lead_of contents_of
@@ -109,10 +105,10 @@ module _ (request : Bool) (s : List ℕ) (at : ℕ) where
 
 -- "An identifier of 80 hex or more is one octet with its contents"
 pub single : (request : Bool) (s : List ℕ) (at : ℕ) → at < length s → 128 ≤ get_or s at 0 → elements_from request s at ≡ element (get_or s at 0) at 1 (elements_from request s (at + 1))
-unfolding format_of code_of lead_by contents_by joined after_of
+unfolding format_of lead_by contents_by read_as joined after_of
 single request s at h k =
-    let w : format_of (get_or s at 0) ≡ whole = simp (le-leb _ _ k) in
-    let e : element_at request s at ≡ At (get_or s at 0) at 1 (at + 1) = found request s at 0 1 h (rw w) (rw w) ∙ rw (w, le-ltb (length s - at) 1 (omega arith), add-zero) in
+    let w : format_of (get_or s at 0) ≡ Whole = simp (le-leb _ _ k) in
+    let e : element_at request s at ≡ At (get_or s at 0) at 1 (at + 1) = found request s at 0 1 Whole h (sym w) refl refl ∙ rw (le-ltb (length s - at) 1 (omega arith), add-zero) in
     step request s at ∙ rw e
 
 -- an element that is there begins within the message, and the next place is further on

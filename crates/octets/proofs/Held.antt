@@ -1,90 +1,80 @@
--- What a pass holds at each turn, of each thing wanted and of the end: with the elements that are left it gives what all of them give.
--- Assumes nothing.
+-- What a pass holds at each turn: with what the elements that are left give, it is what all of them give. Assumes nothing.
 use Prim.Native.Nat.{ℕ}
-use mathlib.Core.Path.{◌≡◌, refl, sym, ◌∙◌, ap}
+use mathlib.Core.Path.{◌≡◌, refl, sym}
 use mathlib.Core.Bool.{Bool, true, false, cond}
 use lib.Dec.{eqb}
-use Rattle.octets.specs.Element.{Elements, absent, first_of, wanted_of, end_of, gather_of}
+use Rattle.std.specs.Prelude.{Option, Some, None, Ok, Err}
+use Rattle.std.specs.Option.{option_or}
+use Rattle.octets.specs.Element.{Elements, first_of, wanted_of, end_of, gather_of}
 use Rattle.octets.specs.Element.Elements.{over, broken, element}
 use Rattle.octets.specs.declared.Fault.{Fault}
 use Rattle.octets.specs.declared.Part.{Part}
-use Rattle.octets.specs.declared.Wanted.{Wanted}
-use Rattle.octets.specs.declared.Wanted.TheVariants.{Nothing, Id}
 use Rattle.octets.specs.declared.Gathered.{Gathered}
 
--- a part where it is held, else another
-abbrev pub else_of : Part → Part → Part
-else_of p q = cond p.held p q
+pub or-None : (p : Option Part) → option_or p None ≡ p
+or-None None = refl
+or-None (Some x) = refl
 
-else-else : (t : Bool) (p q r : Part) → p.held ≡ t → else_of (else_of p q) r ≡ else_of p (else_of q r)
-else-else true p q r e = simp e
-else-else false p q r e = simp e
-
--- nothing is behind the end
-pub none_over : (w : Wanted) → wanted_of w over ≡ absent
-unfolding wanted_of first_of
-none_over Nothing = refl
-none_over (Id x) = refl
-
-pub none-broken : (f : Fault) (at : ℕ) (w : Wanted) → wanted_of w (broken f at) ≡ absent
-unfolding wanted_of first_of
-none-broken f at Nothing = refl
-none-broken f at (Id x) = refl
+or-or : (p q r : Option Part) → option_or (option_or p q) r ≡ option_or p (option_or q r)
+or-or None q r = refl
+or-or (Some x) q r = refl
 
 -- an element gives what it gives alone, else what those behind it give
-picked : (t : Bool) (b n : ℕ) (q : Part) → cond t (record { held = true; start = b; len = n }) q ≡ else_of (cond t (record { held = true; start = b; len = n }) absent) q
-picked true b n q = refl
-picked false b n q = refl
+picked : (t : Bool) (x : Part) (q : Option Part) → cond t (Some x) q ≡ option_or (cond t (Some x) None) q
+picked true x q = refl
+picked false x q = refl
 
-ahead : (w : Wanted) (i b n : ℕ) (l : Elements) → wanted_of w (element i b n l) ≡ else_of (wanted_of w (element i b n over)) (wanted_of w l)
+ahead : (w : Option ℕ) (i b n : ℕ) (l : Elements) → wanted_of w (element i b n l) ≡ option_or (wanted_of w (element i b n over)) (wanted_of w l)
 unfolding wanted_of first_of
-ahead Nothing i b n l = refl
-ahead (Id x) i b n l = picked (eqb i x) b n (first_of x l)
+ahead None i b n l = refl
+ahead (Some x) i b n l = picked (eqb i x) (record { start = b; len = n }) (first_of x l)
 
--- what is held of one thing wanted; where nothing is, the part is absent
-abbrev pub Held : Wanted → Part → Elements → Elements → Type 0
-Held w p left l = (else_of p absent ≡ p) × (else_of p (wanted_of w left) ≡ wanted_of w l)
+held_next : (w : Option ℕ) (p : Option Part) (i b n : ℕ) (l : Elements) → option_or p (wanted_of w (element i b n l)) ≡ option_or (option_or p (wanted_of w (element i b n over))) (wanted_of w l)
+held_next w p i b n l = rw (ahead w i b n l) (sym (or-or p (wanted_of w (element i b n over)) (wanted_of w l)))
 
-held-last : (w : Wanted) (p : Part) (left l : Elements) → wanted_of w left ≡ absent → Held w p left l → p ≡ wanted_of w l
-held-last w p left l e h = sym h.0 ∙ (rw e at h.1)
+-- nothing is behind the end, nor behind a fault
+none-over : (w : Option ℕ) (p : Option Part) → option_or p (wanted_of w over) ≡ p
+unfolding wanted_of first_of
+none-over None p = or-None p
+none-over (Some x) p = or-None p
 
-held_next : (w : Wanted) (p : Part) (i b n : ℕ) (left l : Elements) → Held w p (element i b n left) l → Held w (else_of p (wanted_of w (element i b n over))) left l
-held_next w p i b n left l h = (
-  else-else p.held p (wanted_of w (element i b n over)) absent refl ∙ ap (else_of p) (rw (none_over w) at (sym (ahead w i b n over))),
-  else-else p.held p (wanted_of w (element i b n over)) (wanted_of w left) refl ∙ rw (← ahead w i b n left) h.1,
-)
+none-broken : (f : Fault) (at : ℕ) (w : Option ℕ) (p : Option Part) → option_or p (wanted_of w (broken f at)) ≡ p
+unfolding wanted_of first_of
+none-broken f at None p = or-None p
+none-broken f at (Some x) p = or-None p
 
--- all that is gathered
-pub record Holds (x y z u : Wanted) (p q r t : Part) (left l : Elements) : Type 0 where
-  pub end : end_of left ≡ end_of l
-  pub first : Held x p left l
-  pub second : Held y q left l
-  pub third : Held z r left l
-  pub fourth : Held u t left l
+-- what is held, else what is gathered besides; the end is that of what is gathered
+abbrev pub else_of : Gathered → Gathered → Gathered
+else_of g h = record { end = h.end; first = option_or g.first h.first; second = option_or g.second h.second; third = option_or g.third h.third; fourth = option_or g.fourth h.fourth }
 
-module _ (x y z u : Wanted) (p q r t : Part) (l : Elements) where
-  pub last : (left : Elements) → ((w : Wanted) → wanted_of w left ≡ absent) → Holds x y z u p q r t left l → record { end = end_of left; first = p; second = q; third = r; fourth = t } ≡ gather_of x y z u l
-  unfolding gather_of
-  last left e h = rw (h.end, held-last x p left l (e x) h.first, held-last y q left l (e y) h.second, held-last z r left l (e z) h.third, held-last u t left l (e u) h.fourth)
+-- what is held, with the elements that are left
+pub record Holds (x y z u : Option ℕ) (g : Gathered) (left l : Elements) : Type 0 where
+  pub ends : g.end ≡ Ok tt
+  pub gives : else_of g (gather_of x y z u left) ≡ gather_of x y z u l
+
+module _ (x y z u : Option ℕ) (g : Gathered) (l : Elements) where
+  pub ended : Holds x y z u g over l → g ≡ gather_of x y z u l
+  unfolding gather_of end_of
+  ended h = rw (← h.gives, none-over x g.first, none-over y g.second, none-over z g.third, none-over u g.fourth, ← h.ends)
+
+  pub broke : (f : Fault) (at : ℕ) → Holds x y z u g (broken f at) l → record { end = Err (record { fault = f; at = at }); first = g.first; second = g.second; third = g.third; fourth = g.fourth } ≡ gather_of x y z u l
+  unfolding gather_of end_of
+  broke f at h = rw (← h.gives, none-broken f at x g.first, none-broken f at y g.second, none-broken f at z g.third, none-broken f at u g.fourth)
 
   -- others that give the same may stand for those left
-  pub same : (left others : Elements) → gather_of x y z u others ≡ gather_of x y z u left → Holds x y z u p q r t left l → Holds x y z u p q r t others l
-  unfolding gather_of
-  same left others e h = record {
-    end = ap (λ (g : Gathered). g.end) e ∙ h.end;
-    first = (h.first.0, ap (λ (g : Gathered). else_of p g.first) e ∙ h.first.1);
-    second = (h.second.0, ap (λ (g : Gathered). else_of q g.second) e ∙ h.second.1);
-    third = (h.third.0, ap (λ (g : Gathered). else_of r g.third) e ∙ h.third.1);
-    fourth = (h.fourth.0, ap (λ (g : Gathered). else_of t g.fourth) e ∙ h.fourth.1);
-  }
+  pub same : (left others : Elements) → gather_of x y z u others ≡ gather_of x y z u left → Holds x y z u g left l → Holds x y z u g others l
+  same left others e h = record { ends = h.ends; gives = rw e h.gives }
 
-  pub next : (i b n : ℕ) (left : Elements) → Holds x y z u p q r t (element i b n left) l
-      → Holds x y z u (else_of p (wanted_of x (element i b n over))) (else_of q (wanted_of y (element i b n over))) (else_of r (wanted_of z (element i b n over))) (else_of t (wanted_of u (element i b n over))) left l
-  unfolding end_of
+  pub next : (i b n : ℕ) (left : Elements) → Holds x y z u g (element i b n left) l
+      → Holds x y z u (record {
+        end = g.end;
+        first = option_or g.first (wanted_of x (element i b n over));
+        second = option_or g.second (wanted_of y (element i b n over));
+        third = option_or g.third (wanted_of z (element i b n over));
+        fourth = option_or g.fourth (wanted_of u (element i b n over));
+      }) left l
+  unfolding gather_of end_of
   next i b n left h = record {
-    end = h.end;
-    first = held_next x p i b n left l h.first;
-    second = held_next y q i b n left l h.second;
-    third = held_next z r i b n left l h.third;
-    fourth = held_next u t i b n left l h.fourth;
+    ends = h.ends;
+    gives = rw (← held_next x g.first i b n left, ← held_next y g.second i b n left, ← held_next z g.third i b n left, ← held_next u g.fourth i b n left) h.gives;
   }

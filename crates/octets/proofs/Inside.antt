@@ -1,7 +1,8 @@
 -- The elements of a message lie within it: each ends there, and 52 in a request has six octets. By induction on the octets. Assumes nothing.
 use Prim.Native.Nat.{ℕ, zero, suc, ◌+◌, ◌-◌, ◌≤◌}
-use mathlib.Core.Path.{◌≡◌, refl, ◌∙◌}
-use mathlib.Core.Bool.{Bool, true, false, cond, false≢true}
+use mathlib.Core.Path.{◌≡◌, refl, ◌∙◌, subst}
+use mathlib.Core.Bool.{Bool, true, false, cond}
+use Rattle.std.specs.Prelude.{Some}
 use mathlib.Core.List.{List, [], ◌∷◌}
 use native.Mathlib.Omega.{arith}
 use native.Mathlib.Nat.{add-suc, suc-add}
@@ -57,15 +58,12 @@ module _ (request : Bool) where
   abbrev Within : ℕ → ℕ → Part → Type 0
   Within n x p = (p.start + p.len ≤ n) × (request ≡ true → x ≡ 82 → p.len ≡ 6)
 
-  pub found_inside : (n x : ℕ) (l : Elements) → Sound request n l → (first_of x l).held ≡ true → Within n x (first_of x l)
+  pub found_inside : (n x : ℕ) (l : Elements) (p : Part) → Sound request n l → first_of x l ≡ Some p → Within n x p
   unfolding first_of Sound
-  found_inside n x over s t = absurd (false≢true t)
-  found_inside n x (broken f at) s t = absurd (false≢true t)
-  found_inside n x (element i start k l) s t = go (eqb i x) refl t (found_inside n x l s.1)
+  found_inside n x over p s t = cc
+  found_inside n x (broken f at) p s t = cc
+  found_inside n x (element i start k l) p s t = go (eqb i x) refl t (found_inside n x l p s.1)
     where
-      part : Bool → Part
-      part b = cond b (record { held = true; start = start; len = k }) (first_of x l)
-
-      go : (b : Bool) → eqb i x ≡ b → (part b).held ≡ true → ((first_of x l).held ≡ true → Within n x (first_of x l)) → Within n x (part b)
-      go true e u h = (s.0.0, λ r f. s.0.1 r (eqb-true i x e ∙ f))
+      go : (b : Bool) → eqb i x ≡ b → cond b (Some (record { start = start; len = k })) (first_of x l) ≡ Some p → (first_of x l ≡ Some p → Within n x p) → Within n x p
+      go true e u h = let z : ◌≡◌ {A = Part} (record { start = start; len = k }) p = cc in subst (Within n x) z (s.0.0, λ r f. s.0.1 r (eqb-true i x e ∙ f))
       go false e u h = h u

@@ -3,6 +3,7 @@
 use Prim.Native.Nat.{ℕ, zero, suc, ◌+◌, ◌-◌, ◌*◌, ◌≤◌}
 use mathlib.Core.Path.{◌≡◌, refl, sym, ◌∙◌, ap}
 use mathlib.Core.Bool.{Bool, true, false, cond}
+use Rattle.std.specs.Prelude.{Option, Some, None, Result, Ok, Err, ⊤}
 use mathlib.Core.Logic.{◌≢◌}
 use mathlib.Core.List.{List, [], ◌∷◌, ◌++◌, append_assoc}
 use native.Mathlib.Omega.{arith}
@@ -10,14 +11,14 @@ use lib.ListN.{length, take, drop, length-append, length-drop}
 use lib.Seq.{append_snoc, drop-append-add, drop-append-le, drop_at, take_at}
 use lib.Dec.{ltb, eqb}
 use borrow.Author.Tests.{le-ltb, eqb-true, ne_eqb}
-use Rattle.octets.specs.Element.{Format, format_of, code_of, lead_by, lead_of, contents_by, contents_of, size_of, read_as, element_of, Elements, joined, elements_of, elements_from, first_of, end_of}
+use Rattle.octets.specs.Element.{format_of, code_of, lead_by, lead_of, contents_by, contents_of, size_of, read_as, element_of, Elements, joined, elements_of, elements_from, first_of, end_of}
 use Rattle.octets.specs.Element.Elements.{over, broken, element}
 use Rattle.octets.specs.declared.Fault.TheVariants.{Past, Strange}
 use Rattle.octets.specs.declared.Element.{Element}
 use Rattle.octets.specs.declared.Element.TheVariants.{Bad, At}
 use Rattle.octets.specs.declared.Part.{Part}
-use Rattle.octets.specs.declared.Ending.{Ending}
-use Rattle.octets.specs.declared.Ending.TheVariants.{Broken, Whole}
+use Rattle.octets.specs.declared.Malformed.{Malformed}
+use Rattle.octets.specs.declared.Layout.{Layout}
 use Rattle.octets.proofs.Codes.{read-coded}
 use Rattle.octets.proofs.Elements.{skip}
 
@@ -26,12 +27,13 @@ pub data Says : Type 0 where
   nothing : Says
   contents : List ℕ → Says
 
-unfoldable pub said_in : List ℕ → Part → Says
-said_in s p = cond p.held (contents (take p.len (drop p.start s))) nothing
+unfoldable pub said_in : List ℕ → Option Part → Says
+said_in s None = nothing
+said_in s (Some p) = contents (take p.len (drop p.start s))
 
-unfoldable pub is_whole : Ending → Bool
-is_whole (Broken f at) = false
-is_whole Whole = true
+unfoldable pub is_whole : Result ⊤ Malformed → Bool
+is_whole (Err m) = false
+is_whole (Ok _) = true
 
 -- what elements s behind the octets p say of x, and whether they are well formed
 abbrev pub said : Bool → List ℕ → ℕ → List ℕ → Says
@@ -61,8 +63,8 @@ whole_in done = true
 whole_in fault = false
 whole_in (one i c r) = whole_in r
 
-said-one : (b : Bool) (s : List ℕ) (start n : ℕ) (p : Part) (e : Says) → said_in s p ≡ e
-    → said_in s (cond b (record { held = true; start = start; len = n }) p) ≡ cond b (contents (take n (drop start s))) e
+said-one : (b : Bool) (s : List ℕ) (start n : ℕ) (p : Option Part) (e : Says) → said_in s p ≡ e
+    → said_in s (cond b (Some (record { start = start; len = n })) p) ≡ cond b (contents (take n (drop start s))) e
 unfolding said_in
 said-one true s start n p e h = refl
 said-one false s start n p e h = h
@@ -126,15 +128,15 @@ pub record Alone (request : Bool) (i : ℕ) (t : List ℕ) : Type 0 where
 
 -- "An identifier of 80 hex or more is one octet with its contents; 70 to 7F has a two-octet length; below that a one-octet length; 52 in a request is seven octets in all."
 module _ (request : Bool) (i : ℕ) where
-  pub octet-alone : format_of i ≡ Format.whole → Alone request i []
+  pub octet-alone : format_of i ≡ Layout.Whole → Alone request i []
   unfolding size_of lead_of lead_by contents_of contents_by read_as
   octet-alone e = record { size = λ rest. rw e; passed = λ x. rw e }
 
-  pub long-alone : (hi lo : ℕ) (c : List ℕ) → format_of i ≡ Format.long_length → hi * 256 + lo ≡ length c → Alone request i (hi ∷ lo ∷ c)
+  pub long-alone : (hi lo : ℕ) (c : List ℕ) → format_of i ≡ Layout.LongLength → hi * 256 + lo ≡ length c → Alone request i (hi ∷ lo ∷ c)
   unfolding size_of lead_of lead_by contents_of contents_by read_as
   long-alone hi lo c e h = record { size = λ rest. rw e (omega arith); passed = λ x. rw e }
 
-  pub short-alone : (n : ℕ) (c : List ℕ) → format_of i ≡ Format.short_length → n ≡ length c → Alone request i (n ∷ c)
+  pub short-alone : (n : ℕ) (c : List ℕ) → format_of i ≡ Layout.ShortLength → n ≡ length c → Alone request i (n ∷ c)
   unfolding size_of lead_of lead_by contents_of contents_by read_as
   short-alone n c e h = record { size = λ rest. rw e (omega arith); passed = λ x. rw e }
 

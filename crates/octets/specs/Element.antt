@@ -1,60 +1,56 @@
 -- Optional elements (TS 24.007), sentence by sentence as document 01 has them. Assumes nothing.
-use Rattle.std.specs.Prelude.{ℕ, zero, suc, ◌+◌, ◌-◌, ◌*◌, Bool, true, false, cond, List, [], ◌∷◌, length, get_or, drop, ltb, leb, eqb}
+use Rattle.std.specs.Prelude.{ℕ, zero, suc, ◌+◌, ◌-◌, ◌*◌, Bool, cond, List, [], ◌∷◌, length, get_or, drop, ltb, leb, eqb, Option, Some, None, Result, Ok, Err, ⊤}
 use Rattle.octets.specs.declared.Fault.{Fault}
 use Rattle.octets.specs.declared.Fault.TheVariants.{Past, Strange}
+use Rattle.octets.specs.declared.Layout.{Layout}
+use Rattle.octets.specs.declared.Layout.TheVariants.{Whole, LongLength, ShortLength, SevenInRequest, MustBeKnown}
 use Rattle.octets.specs.declared.Element.{Element}
 use Rattle.octets.specs.declared.Element.TheVariants.{End, Bad, At}
 use Rattle.octets.specs.declared.Walked.{Walked}
 use Rattle.octets.specs.declared.Part.{Part}
-use Rattle.octets.specs.declared.Wanted.{Wanted}
-use Rattle.octets.specs.declared.Wanted.TheVariants.{Nothing, Id}
-use Rattle.octets.specs.declared.Ending.{Ending}
-use Rattle.octets.specs.declared.Ending.TheVariants.{Broken, Whole}
+use Rattle.octets.specs.declared.Malformed.{Malformed}
 use Rattle.octets.specs.declared.Gathered.{Gathered}
 
--- How an element is laid out
-pub data Format : Type 0 where
-  -- "An identifier of 80 hex or more is one octet with its contents"
-  whole : Format
-  -- "70 to 7F has a two-octet length"
-  long_length : Format
-  -- "below that a one-octet length"
-  short_length : Format
-  -- "52 in a request is seven octets in all": elsewhere as below 70
-  seven_in_request : Format
-  -- "an unknown 00 to 0F is malformed": a one-octet length, and it must be understood
-  must_be_known : Format
-
 -- "The format for each of the 256 identifier octets is a table": its rule, by ranges
-unfoldable pub format_of : ℕ → Format
-format_of i = cond (leb 128 i) whole (cond (leb 112 i) long_length (cond (eqb i 82) seven_in_request (cond (ltb i 16) must_be_known short_length)))
+unfoldable pub format_of : ℕ → Layout
+format_of i =
+    -- "An identifier of 80 hex or more is one octet with its contents"
+    cond (leb 128 i) Whole
+    -- "70 to 7F has a two-octet length"
+    (cond (leb 112 i) LongLength
+    -- "52 in a request is seven octets in all": elsewhere as below 70
+    (cond (eqb i 82) SevenInRequest
+    -- "an unknown 00 to 0F is malformed": a one-octet length, and it must be understood
+    (cond (ltb i 16) MustBeKnown
+    -- "below that a one-octet length"
+    ShortLength)))
 
 -- the number that the table has for a format
-unfoldable pub code_of : Format → ℕ
-code_of whole = 0
-code_of short_length = 1
-code_of long_length = 2
-code_of must_be_known = 3
-code_of seven_in_request = 4
+unfoldable pub code_of : Layout → ℕ
+code_of Whole = 0
+code_of ShortLength = 1
+code_of LongLength = 2
+code_of MustBeKnown = 3
+code_of SevenInRequest = 4
 
 -- the octets of an element before its contents: none, or its identifier and its length
-unfoldable pub lead_by : Bool → Format → ℕ
-lead_by request whole = 0
-lead_by request long_length = 3
-lead_by request short_length = 2
-lead_by request seven_in_request = cond request 1 2
-lead_by request must_be_known = 2
+unfoldable pub lead_by : Bool → Layout → ℕ
+lead_by request Whole = 0
+lead_by request LongLength = 3
+lead_by request ShortLength = 2
+lead_by request SevenInRequest = cond request 1 2
+lead_by request MustBeKnown = 2
 
 unfoldable pub lead_of : Bool → ℕ → ℕ
 lead_of request i = lead_by request (format_of i)
 
 -- the octets of its contents, by what follows the identifier
-unfoldable pub contents_by : Bool → Format → List ℕ → ℕ
-contents_by request whole s = 1
-contents_by request long_length s = get_or s 0 0 * 256 + get_or s 1 0
-contents_by request short_length s = get_or s 0 0
-contents_by request seven_in_request s = cond request 6 (get_or s 0 0)
-contents_by request must_be_known s = get_or s 0 0
+unfoldable pub contents_by : Bool → Layout → List ℕ → ℕ
+contents_by request Whole s = 1
+contents_by request LongLength s = get_or s 0 0 * 256 + get_or s 1 0
+contents_by request ShortLength s = get_or s 0 0
+contents_by request SevenInRequest s = cond request 6 (get_or s 0 0)
+contents_by request MustBeKnown s = get_or s 0 0
 
 unfoldable pub contents_of : Bool → ℕ → List ℕ → ℕ
 contents_of request i s = contents_by request (format_of i) s
@@ -64,12 +60,12 @@ unfoldable pub size_of : Bool → ℕ → List ℕ → ℕ
 size_of request i s = lead_of request i + contents_of request i s
 
 -- "Unknown ones are skipped, but an unknown 00 to 0F is malformed": none of those is known
-unfoldable pub read_as : Format → Element → Element
-read_as whole e = e
-read_as long_length e = e
-read_as short_length e = e
-read_as seven_in_request e = e
-read_as must_be_known e = Bad Strange
+unfoldable pub read_as : Layout → Element → Element
+read_as Whole e = e
+read_as LongLength e = e
+read_as ShortLength e = e
+read_as SevenInRequest e = e
+read_as MustBeKnown e = Bad Strange
 
 -- the element that begins with identifier i at offset at, before the octets s: "as is an element past the end"
 unfoldable pub element_of : Bool → ℕ → ℕ → List ℕ → Element
@@ -114,25 +110,30 @@ elements_of request (suc k) at (o ∷ s) = elements_of request k (suc at) s
 unfoldable pub elements_from : Bool → List ℕ → ℕ → Elements
 elements_from request s from = elements_of request 0 from (drop from s)
 
-abbrev pub absent : Part
-absent = record { held = false; start = 0; len = 0 }
+-- what is told of a fault and its offset
+abbrev pub malformed : {A : Type 0} → Fault → ℕ → Result A Malformed
+malformed f at = Err (record { fault = f; at = at })
 
--- "First of a repeat counts, even where it reads as absent": held is that it stood in the message
-unfoldable pub first_of : ℕ → Elements → Part
-first_of x over = absent
-first_of x (broken f at) = absent
-first_of x (element i start n l) = cond (eqb i x) (record { held = true; start = start; len = n }) (first_of x l)
+-- "First of a repeat counts, even where it reads as absent": what is found is where it stood in the message
+unfoldable pub first_of : ℕ → Elements → Option Part
+first_of x over = None
+first_of x (broken f at) = None
+first_of x (element i start n l) = cond (eqb i x) (Some (record { start = start; len = n })) (first_of x l)
 
-unfoldable pub wanted_of : Wanted → Elements → Part
-wanted_of Nothing l = absent
-wanted_of (Id x) l = first_of x l
+unfoldable pub wanted_of : Option ℕ → Elements → Option Part
+wanted_of None l = None
+wanted_of (Some x) l = first_of x l
+
+-- with the message, or with the first fault and its offset
+abbrev pub Ending : Type 0
+Ending = Result ⊤ Malformed
 
 -- how the elements end: with the message, or with the first fault and its offset
-unfoldable pub end_of : Elements → Ending
-end_of over = Whole
-end_of (broken f at) = Broken f at
+unfoldable pub end_of : Elements → Result ⊤ Malformed
+end_of over = Ok tt
+end_of (broken f at) = malformed f at
 end_of (element i start n l) = end_of l
 
 -- their end, and the first ones with four identifiers
-unfoldable pub gather_of : Wanted → Wanted → Wanted → Wanted → Elements → Gathered
+unfoldable pub gather_of : Option ℕ → Option ℕ → Option ℕ → Option ℕ → Elements → Gathered
 gather_of x y z u l = record { end = end_of l; first = wanted_of x l; second = wanted_of y l; third = wanted_of z l; fourth = wanted_of u l }

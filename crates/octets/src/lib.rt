@@ -1,8 +1,9 @@
 // Optional elements of a message: the formats, one element at a place, the walker, and the first elements with given identifiers.
 #![tactic(auto)]
 
-ghost use Rattle.std.specs.Prelude.{◌≡◌, Bool, true, cond, ℕ, ◌<◌, ◌≤◌, length, get_or, drop};
-ghost use Rattle.octets.specs.Element.{Format, format_of, code_of, lead_by, contents_by, element_at, after_of, walked_at, Elements, elements_from, absent, wanted_of, gather_of};
+ghost use Rattle.std.specs.Prelude.{◌≡◌, Bool, true, ℕ, ◌<◌, ◌≤◌, length, get_or, drop};
+ghost use Rattle.std.specs.Option.{option_or};
+ghost use Rattle.octets.specs.Element.{format_of, code_of, lead_by, contents_by, element_at, after_of, walked_at, Elements, elements_from, wanted_of, gather_of};
 ghost use Rattle.octets.specs.Element.Elements.{over, element};
 
 mod formats;
@@ -10,7 +11,7 @@ mod formats;
 use formats::FORMATS;
 
 // Why a message is malformed: cut short, its first or second octet, its type, an element past the end, an element that must be understood.
-#[derive(Clone, Copy)]
+#[derive(Clone, Copy, Debug, PartialEq, Eq)]
 pub enum Fault {
     Cut,
     First,
@@ -20,7 +21,25 @@ pub enum Fault {
     Strange,
 }
 
-#[derive(Clone, Copy)]
+// What is told of a message that is malformed: the fault, and its offset.
+#[derive(Clone, Copy, Debug, PartialEq, Eq)]
+pub struct Malformed {
+    pub fault: Fault,
+    pub at: usize,
+}
+
+// How an element is laid out: format_of in specs has the rule, and says what each means.
+#[derive(Clone, Copy, Debug, PartialEq, Eq)]
+pub enum Layout {
+    Whole,
+    LongLength,
+    ShortLength,
+    SevenInRequest,
+    MustBeKnown,
+}
+
+// Kept: no plainer, an Option of a Result of the rest would say these three cases in two layers.
+#[derive(Clone, Copy, Debug, PartialEq, Eq)]
 pub enum Element {
     End,
     Bad(Fault),
@@ -32,36 +51,21 @@ pub enum Element {
     },
 }
 
-// The contents of an element that was found, or none.
-#[derive(Clone, Copy)]
+// The contents of an element.
+#[derive(Clone, Copy, Debug, PartialEq, Eq)]
 pub struct Part {
-    pub held: bool,
     pub start: usize,
     pub len: usize,
 }
 
-// An identifier that is looked for, or none.
-#[derive(Clone, Copy)]
-pub enum Wanted {
-    Nothing,
-    Id(u8),
-}
-
-// How elements end: with the message, or with a fault and its offset.
-#[derive(Clone, Copy)]
-pub enum Ending {
-    Broken(Fault, usize),
-    Whole,
-}
-
 // How a message's elements end, and the first ones with four identifiers before that.
-#[derive(Clone, Copy)]
+#[derive(Clone, Copy, Debug, PartialEq, Eq)]
 pub struct Gathered {
-    pub end: Ending,
-    pub first: Part,
-    pub second: Part,
-    pub third: Part,
-    pub fourth: Part,
+    pub end: Result<(), Malformed>,
+    pub first: Option<Part>,
+    pub second: Option<Part>,
+    pub third: Option<Part>,
+    pub fourth: Option<Part>,
 }
 
 // An octet as a wider number.
@@ -71,35 +75,31 @@ pub fn wide(x: u8) -> usize
     x as usize
 }
 
-pub fn word(x: u8) -> u32
-    ensures { (result ≡ x) × (result < 256) }
-{
-    x as u32
-}
-
+// Kept: what may not change, `format` promises the number that the table has.
 pub fn format(id: u8) -> u8
     ensures { result ≡ code_of (format_of id) }
 {
-    FORMATS[wide(id)]
+    FORMATS[usize::from(id)]
 }
 
-// The code by the rule's own comparisons, for the walk: the compiler lays the table out anew each time it is asked.
-fn code(id: u8) -> u8
-    ensures { result ≡ code_of (format_of id) }
+// The rule's own comparisons, for the walk: the compiler lays the table out anew each time it is asked.
+#[tactic(auto, unfolding(crate::specs::Element::format_of))]
+fn format_of(id: u8) -> Layout
+    ensures { result ≡ format_of id }
 {
     if 128 <= id {
-        return 0;
+        return Layout::Whole;
     }
     if 112 <= id {
-        return 2;
+        return Layout::LongLength;
     }
     if id == 82 {
-        return 4;
+        return Layout::SevenInRequest;
     }
     if id < 16 {
-        return 3;
+        return Layout::MustBeKnown;
     }
-    1
+    Layout::ShortLength
 }
 
 // An octet behind a place. A missing one reads as 0: its element ends past the end whatever it says.
@@ -108,47 +108,36 @@ fn octet(msg: &[u8], from: usize, i: usize) -> usize
     ensures { (result ≡ get_or (drop from msg.now) i 0) × (result < 256) }
 {
     if i < msg.len() - from {
-        return wide(msg[from + i]);
+        return usize::from(msg[from + i]);
     }
     0
 }
 
-// The octets before the contents, for the format of a code.
-fn lead(code: u8, request: bool) -> usize
-    ensures { ((f : Format) → code ≡ code_of f → result ≡ lead_by request f) × (result < 4) }
+// The octets before the contents.
+#[tactic(auto, unfolding(crate::specs::Element::lead_by))]
+fn lead(layout: Layout, request: bool) -> usize
+    ensures { (result ≡ lead_by request layout) × (result < 4) }
 {
-    if code == 0 {
-        return 0;
+    match layout {
+        Layout::Whole => 0,
+        Layout::LongLength => 3,
+        Layout::SevenInRequest => if request { 1 } else { 2 },
+        Layout::ShortLength | Layout::MustBeKnown => 2,
     }
-    if code == 2 {
-        return 3;
-    }
-    if code == 4 {
-        if request {
-            return 1;
-        }
-    }
-    2
 }
 
-// The octets of the contents, for the format of a code, by what follows the identifier.
-fn contents(msg: &[u8], from: usize, code: u8, request: bool) -> usize
+// The octets of the contents, by what follows the identifier.
+#[tactic(auto, unfolding(crate::specs::Element::contents_by))]
+fn contents(msg: &[u8], from: usize, layout: Layout, request: bool) -> usize
     requires { from ≤ length msg.now }
-    ensures { ((f : Format) → code ≡ code_of f → result ≡ contents_by request f (drop from msg.now)) × (result < 65536) }
+    ensures { (result ≡ contents_by request layout (drop from msg.now)) × (result < 65536) }
 {
-    if code == 0 {
-        return 1;
+    match layout {
+        Layout::Whole => 1,
+        Layout::LongLength => octet(msg, from, 0) * 256 + octet(msg, from, 1),
+        Layout::SevenInRequest => if request { 6 } else { octet(msg, from, 0) },
+        Layout::ShortLength | Layout::MustBeKnown => octet(msg, from, 0),
     }
-    let high = octet(msg, from, 0);
-    if code == 2 {
-        return high * 256 + octet(msg, from, 1);
-    }
-    if code == 4 {
-        if request {
-            return 6;
-        }
-    }
-    high
 }
 
 // The work: the element at a place of a slice.
@@ -159,36 +148,31 @@ pub fn element_at(msg: &[u8], at: usize, request: bool) -> Element
         return Element::End;
     }
     let id = msg[at];
-    let code = code(id);
-    let lead = lead(code, request);
-    let len = contents(msg, at + 1, code, request);
+    let layout = format_of(id);
+    let lead = lead(layout, request);
+    let len = contents(msg, at + 1, layout, request);
     let size = lead + len;
     if msg.len() - at < size {
         return Element::Bad(Fault::Past);
     }
-    if code == 3 {
-        return Element::Bad(Fault::Strange);
-    }
-    Element::At {
-        id,
-        start: at + lead,
-        len,
-        next: at + size,
+    match layout {
+        Layout::MustBeKnown => Element::Bad(Fault::Strange),
+        _ => Element::At {
+            id,
+            start: at + lead,
+            len,
+            next: at + size,
+        },
     }
 }
 
+#[tactic(auto, unfolding(crate::specs::Element::after_of))]
 fn after(e: Element, at: usize) -> usize
     ensures { result ≡ after_of e at }
 {
     match e {
-        Element::End => at,
-        Element::Bad(_) => at,
-        Element::At {
-            id: _,
-            start: _,
-            len: _,
-            next,
-        } => next,
+        Element::At { next, .. } => next,
+        _ => at,
     }
 }
 
@@ -200,162 +184,136 @@ pub struct Walker<'a> {
 }
 
 // What a walker saw at its place, and the place that it stepped to.
-#[derive(Clone, Copy)]
+#[derive(Clone, Copy, Debug, PartialEq, Eq)]
 pub struct Walked {
     pub here: Element,
     pub next: usize,
 }
 
-pub fn open<'a>(msg: &'a [u8], at: usize) -> Walker<'a>
-    ensures { (result.msg ≡ msg.entry) × (result.at ≡ at) }
-{
-    Walker { msg, at }
-}
+impl<'a> Walker<'a> {
+    pub fn open(msg: &'a [u8], at: usize) -> Walker<'a>
+        ensures { (result.msg ≡ msg.entry) × (result.at ≡ at) }
+    {
+        Walker { msg, at }
+    }
 
-pub fn look<'a>(w: Walker<'a>, request: bool) -> Element
-    ensures { result ≡ element_at request w.entry.msg.now w.entry.at }
-{
-    element_at(w.msg, w.at, request)
-}
+    pub fn look(self, request: bool) -> Element
+        ensures { result ≡ element_at request self.entry.msg.now self.entry.at }
+    {
+        element_at(self.msg, self.at, request)
+    }
 
-// Over the element that was looked at: it is not read again.
-pub fn pass<'a>(w: Walker<'a>, e: Element) -> Walker<'a>
-    ensures { (result.msg ≡ w.entry.msg) × (result.at ≡ after_of e w.entry.at) }
-{
-    let at = after(e, w.at);
-    Walker { msg: w.msg, at }
+    // Over the element that was looked at: it is not read again.
+    pub fn pass(self, e: Element) -> Walker<'a>
+        ensures { (result.msg ≡ self.entry.msg) × (result.at ≡ after_of e self.entry.at) }
+    {
+        Walker {
+            msg: self.msg,
+            at: after(e, self.at),
+        }
+    }
 }
 
 // One step, with plain parameters: whoever calls it needs no walk by hand.
+#[tactic(auto, unfolding(crate::specs::Element::walked_at))]
 pub fn walk(msg: &[u8], at: usize, request: bool) -> Walked
     ensures { result ≡ walked_at request msg.now at }
 {
-    let w = open(msg, at);
-    let here = look(w, request);
-    let q = pass(w, here);
-    Walked { here, next: q.at }
-}
-
-fn none() -> Part
-    ensures { result ≡ absent }
-{
-    Part {
-        held: false,
-        start: 0,
-        len: 0,
+    let w = Walker::open(msg, at);
+    let here = w.look(request);
+    Walked {
+        here,
+        next: w.pass(here).at,
     }
 }
 
 // What is held of what is wanted, behind one element more.
-fn kept(p: Part, w: Wanted, id: u8, start: usize, len: usize) -> Part
-    ensures { result ≡ cond p.held p (wanted_of w (element id start len over)) }
+#[tactic(auto, unfolding(crate::specs::Element::wanted_of, crate::specs::Element::first_of))]
+fn kept(held: Option<Part>, wanted: Option<u8>, id: u8, start: usize, len: usize) -> Option<Part>
+    ensures { result ≡ option_or held (wanted_of wanted (element id start len over)) }
 {
-    if p.held {
-        return p;
-    }
-    match w {
-        Wanted::Nothing => none(),
-        Wanted::Id(x) => {
-            if id == x {
-                return Part {
-                    held: true,
-                    start,
-                    len,
-                };
-            }
-            none()
-        }
-    }
-}
-
-fn together(end: Ending, first: Part, second: Part, third: Part, fourth: Part) -> Gathered
-    ensures { result ≡ record { end = end; first = first; second = second; third = third; fourth = fourth } }
-{
-    Gathered {
-        end,
-        first,
-        second,
-        third,
-        fourth,
+    match (held, wanted) {
+        (None, Some(x)) if id == x => Some(Part { start, len }),
+        _ => held,
     }
 }
 
 // Whether what is wanted has no identifier of one octet: an element of one octet then changes nothing.
-fn low(w: Wanted) -> bool
-    ensures { result ≡ true → (i b n : ℕ) (l : Elements) → 128 ≤ i → wanted_of w (element i b n l) ≡ wanted_of w l }
+#[tactic(auto, unfolding(crate::specs::Element::wanted_of, crate::specs::Element::first_of))]
+fn low(wanted: Option<u8>) -> bool
+    ensures { result ≡ true → (i b n : ℕ) (l : Elements) → 128 ≤ i → wanted_of wanted (element i b n l) ≡ wanted_of wanted l }
 {
-    match w {
-        Wanted::Nothing => true,
-        Wanted::Id(x) => x < 128,
+    match wanted {
+        None => true,
+        Some(x) => x < 128,
     }
 }
 
 // The same of all four.
-fn plain(x: Wanted, y: Wanted, z: Wanted, u: Wanted) -> bool
+fn plain(x: Option<u8>, y: Option<u8>, z: Option<u8>, u: Option<u8>) -> bool
     ensures { result ≡ true → (i b n : ℕ) (l : Elements) → 128 ≤ i → gather_of x y z u (element i b n l) ≡ gather_of x y z u l }
 {
-    if low(x) {
-        if low(y) {
-            if low(z) {
-                return low(u);
-            }
-        }
-    }
-    false
+    low(x) && low(y) && low(z) && low(u)
 }
 
 // Past the elements of one octet at a place, where they change nothing: a message can be full of them.
-fn skipped(msg: &[u8], from: usize, x: Wanted, y: Wanted, z: Wanted, u: Wanted) -> usize
+fn skipped(
+    msg: &[u8],
+    from: usize,
+    x: Option<u8>,
+    y: Option<u8>,
+    z: Option<u8>,
+    u: Option<u8>,
+) -> usize
     ensures { (from ≤ result) × ((request : Bool) → gather_of x y z u (elements_from request msg.now result) ≡ gather_of x y z u (elements_from request msg.now from)) }
 {
     if !plain(x, y, z, u) {
         return from;
     }
-    let mut at = from;
-    while at < msg.len() {
+    for at in from..msg.len() {
         if msg[at] < 128 {
             return at;
         }
-        at += 1;
     }
-    at
+    from.max(msg.len())
 }
 
 // How the elements end, and the first ones with the identifiers x, y, z and u, in one pass.
+// Kept: no plainer, an array of four would have places 0 to 3 for what has names.
 pub fn gather(
     msg: &[u8],
     from: usize,
     request: bool,
-    x: Wanted,
-    y: Wanted,
-    z: Wanted,
-    u: Wanted,
+    x: Option<u8>,
+    y: Option<u8>,
+    z: Option<u8>,
+    u: Option<u8>,
 ) -> Gathered
     ensures { result ≡ gather_of x y z u (elements_from request msg.now from) }
 {
-    let absent = none();
-    let mut p = absent;
-    let mut q = absent;
-    let mut r = absent;
-    let mut t = absent;
+    let mut g = Gathered {
+        end: Ok(()),
+        first: None,
+        second: None,
+        third: None,
+        fourth: None,
+    };
     let mut at = from;
+    // Kept: no plainer, nothing is counted: the message itself says where its next element begins.
     loop {
         let place = skipped(msg, at, x, y, z, u);
         let w = walk(msg, place, request);
-        let here = w.here;
-        match here {
-            Element::End => return together(Ending::Whole, p, q, r, t),
-            Element::Bad(fault) => return together(Ending::Broken(fault, place), p, q, r, t),
-            Element::At {
-                id,
-                start,
-                len,
-                next: _,
-            } => {
-                p = kept(p, x, id, start, len);
-                q = kept(q, y, id, start, len);
-                r = kept(r, z, id, start, len);
-                t = kept(t, u, id, start, len);
+        match w.here {
+            Element::End => return g,
+            Element::Bad(fault) => {
+                g.end = Err(Malformed { fault, at: place });
+                return g;
+            }
+            Element::At { id, start, len, .. } => {
+                g.first = kept(g.first, x, id, start, len);
+                g.second = kept(g.second, y, id, start, len);
+                g.third = kept(g.third, z, id, start, len);
+                g.fourth = kept(g.fourth, u, id, start, len);
                 at = w.next;
             }
         }

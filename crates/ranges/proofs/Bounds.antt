@@ -1,17 +1,17 @@
 -- A count that passed its test is a bound. Assumes nothing.
 use mathlib.Core.Path.{◌≡◌}
-use mathlib.Core.Bool.{Bool, true}
+use mathlib.Core.Bool.{true}
 use Prim.Native.Nat.{ℕ, ◌≤◌}
 use mathlib.Core.List.{List}
 use lib.Dec.{eqb}
 use borrow.Author.Tests.{leb-true}
 use Rattle.record.specs.Tests.{both, either, within, up_to, is_flag, is_short}
 use Rattle.record.proofs.Bounds.{one, rest}
-use Rattle.ranges.specs.Valid.{device_ranges, mode_ranges, identity_ranges, pending_ranges, access_ranges, device_numbers, Bounded}
+use Rattle.ranges.specs.Valid.{device_ranges, mode_ranges, identity_ranges, pending_ranges, access_ranges, device_numbers, ranges_of, Bounded}
 use Rattle.entries.specs.declared.Entries.{Entries}
 use Rattle.record.specs.declared.Device.{Device}
 use Rattle.record.specs.declared.Access.{Access}
-use Rattle.record.specs.declared.Hot.{Hot}
+use Rattle.record.specs.declared.Record.{Record}
 
 pub counts : (a : Access) → identity_ranges a ≡ true → (a.equivalents ≤ 15) × (a.entries ≤ 16)
 unfolding identity_ranges
@@ -40,15 +40,15 @@ entries : (a : Access) (l : List ℕ) (t : Entries) → access_ranges a l t ≡ 
 unfolding access_ranges
 entries a l t e = (counts a (one _ _ (rest (pending_ranges a) _ (rest (mode_ranges a) _ e)))).1
 
--- three tests joined, each by what it tells
-pub joined : {all more x y z a b c : Bool} → all ≡ both x more → more ≡ both y z → x ≡ a → y ≡ b → z ≡ c → all ≡ both a (both b c)
-joined e f p q r = cc
-
--- the same of a record's numbers, once the ranges of both accesses hold too
-pub bounded : (h : Hot) (l0 l1 : List ℕ) (t0 t1 : Entries) (more : Bool) → device_numbers h.dev ≡ true → both (access_ranges h.a0 l0 t0) (both (access_ranges h.a1 l1 t1) more) ≡ true → Bounded h
-bounded h l0 l1 t0 t1 more d e = record {
-  first = entries h.a0 l0 t0 (one _ _ e);
-  second = entries h.a1 l1 t1 (one _ more (rest (access_ranges h.a0 l0 t0) _ e));
-  roaming = (lists h.dev d).0;
-  regional = (lists h.dev d).1;
-}
+-- the same of a record's numbers, once its ranges hold
+pub bounded : (r : Record) → ranges_of r ≡ true → Bounded r.hot
+unfolding ranges_of
+bounded r e =
+    let d = one _ _ e in
+    let more = rest (device_numbers r.hot.dev) _ e in
+    record {
+      first = entries r.hot.a0 r.equivalents0 r.e0 (one _ _ more);
+      second = entries r.hot.a1 r.equivalents1 r.e1 (one _ _ (rest (access_ranges r.hot.a0 r.equivalents0 r.e0) _ more));
+      roaming = (lists r.hot.dev d).0;
+      regional = (lists r.hot.dev d).1;
+    }

@@ -128,15 +128,18 @@ is_below n k = ltb k n
 unfoldable pub ranks_of : Access → Entries → Bool
 ranks_of a t = both (all_to (is_below a.entries) a.entries t.ranks) (distinct_to itself a.entries t.ranks)
 
-unfoldable pub valid_of : Record → Bool
-valid_of r =
-    both (ranges_of r)
-    (both (both (counters_of r.hot.dev r.hot.a0 r.e0) (counters_of r.hot.dev r.hot.a1 r.e1))
+-- what is asked beside the ranges, in the list's order
+abbrev pub rules_of : Record → Bool
+rules_of r =
+    both (both (counters_of r.hot.dev r.hot.a0 r.e0) (counters_of r.hot.dev r.hot.a1 r.e1))
     (both (card_of r.hot)
     (both (suci_of r.hot.dev r.suci)
     (both (codes_of r)
     (both (both (clock_of r.hot.a0) (clock_of r.hot.a1))
-    (both (once_of r) (both (ranks_of r.hot.a0 r.e0) (ranks_of r.hot.a1 r.e1))))))))
+    (both (once_of r) (both (ranks_of r.hot.a0 r.e0) (ranks_of r.hot.a1 r.e1)))))))
+
+unfoldable pub valid_of : Record → Bool
+valid_of r = both (ranges_of r) (rules_of r)
 
 -- the record of the parts that the list reads, and nothing for the others: its GUTIs and capabilities
 unfoldable pub parts_record : Hot → Entries → Entries → List ℕ → List ℕ → List ℕ → List ℕ → List ℕ → Record

@@ -4,6 +4,8 @@ ghost use Rattle.record.specs.Answers.{number_of, is_taken, fault_offset};
 
 use crate::Answer;
 
+// Kept: what may not change, `number` promises `number_of`; a `From` would hold the same match.
+#[tactic(auto, unfolding(crate::specs::Answers::number_of))]
 pub fn number(a: Answer) -> u8
     ensures { result ≡ number_of a }
 {
@@ -28,7 +30,7 @@ pub fn number(a: Answer) -> u8
 pub fn taken(a: Answer) -> bool
     ensures { result ≡ is_taken a }
 {
-    number(a) == 0
+    matches!(a, Answer::Taken)
 }
 
 // The offset of the octet at fault, in the message; 0 where the answer is no fault's.

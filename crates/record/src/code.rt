@@ -2,22 +2,16 @@
 ghost use Rattle.std.specs.Prelude.{◌≡◌};
 ghost use Rattle.record.specs.Network.{is_network};
 
-use crate::joins::{all, or};
-
+#[tactic(auto, unfolding(crate::specs::Network::is_network))]
 pub fn network(n: u32) -> bool
     ensures { result ≡ is_network n }
 {
     let third = n / 4096 % 16;
-    let rest = all(
-        or(third < 10, third == 15),
-        n / 256 % 16 < 10,
-        n / 16 % 16 < 10,
-        n % 16 < 10,
-    );
-    all(
-        n < 16777216,
-        n / 1048576 % 16 < 10,
-        n / 65536 % 16 < 10,
-        rest,
-    )
+    n < 16777216
+        && n / 1048576 % 16 < 10
+        && n / 65536 % 16 < 10
+        && (third < 10 || third == 15)
+        && n / 256 % 16 < 10
+        && n / 16 % 16 < 10
+        && n % 16 < 10
 }

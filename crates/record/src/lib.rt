@@ -43,7 +43,7 @@ pub struct Device {
     pub edition: u8,
 }
 
-// Update status 5U1, 5U2 and 5U3.
+// Update status 5U1, 5U2 and 5U3. Kept: a number, as the states below are and the flags above: the C interface, and any octets lent are a record.
 pub const U1: u8 = 1;
 
 pub const U2: u8 = 2;
@@ -89,7 +89,7 @@ pub struct Hot {
     pub a1: Access,
 }
 
-// What a caller holds, by value or lent.
+// What a caller holds, by value or lent. Kept: arrays with their counts among the numbers, and each access's beside the other's: the C interface.
 #[repr(C)]
 #[derive(Clone, Copy)]
 pub struct Record {
@@ -108,6 +108,7 @@ pub struct Record {
 }
 
 // The reply numbers' cases, in their order.
+// Kept: no plainer, document 01 has one table of answers, 0 among them (`number_of`), and a reply carries one.
 #[derive(Clone, Copy)]
 pub enum Answer {
     Taken,
@@ -126,6 +127,7 @@ pub enum Answer {
     Waiting,
 }
 
+// Kept: an answer beside a record: a refusal brings one too, the smallest (`made_of`), which C gets by value.
 #[derive(Clone, Copy)]
 pub struct Made {
     pub answer: Answer,

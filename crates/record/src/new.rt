@@ -4,10 +4,11 @@ ghost use Rattle.laws.specs.Upto.{copied};
 ghost use Rattle.entries.specs.Entries.{none};
 ghost use Rattle.record.specs.New.{new_device, new_access, zeros, empty_record, new_record, may_make, made_of};
 
-use crate::joins::{all, and, ranged};
+use crate::joins::ranged;
 use crate::{Access, Answer, Device, Hot, Made, Record, U2};
 use entries::Entries;
 
+#[tactic(auto, unfolding(crate::specs::New::new_access))]
 pub fn new_access(state: u8) -> Access
     ensures { result ≡ new_access state }
 {
@@ -36,6 +37,7 @@ pub fn new_access(state: u8) -> Access
     }
 }
 
+#[tactic(auto, unfolding(crate::specs::New::new_device))]
 fn device(cardlimit: u8, banlimit: u8, n1limit: u8, capability: u8, security: u8) -> Device
     ensures { result ≡ new_device cardlimit banlimit n1limit capability security }
 {
@@ -58,6 +60,7 @@ fn device(cardlimit: u8, banlimit: u8, n1limit: u8, capability: u8, security: u8
     }
 }
 
+#[tactic(auto, unfolding(entries::specs::Entries::none))]
 fn blank() -> Entries
     ensures { result ≡ none }
 {
@@ -71,6 +74,7 @@ fn blank() -> Entries
     }
 }
 
+#[tactic(auto, unfolding(crate::specs::New::empty_record))]
 pub fn empty(h: Hot, suci: [u8; 64], capability: [u8; 13], security: [u8; 8]) -> Record
     ensures { result ≡ empty_record h suci capability security }
 {
@@ -91,83 +95,50 @@ pub fn empty(h: Hot, suci: [u8; 64], capability: [u8; 13], security: [u8; 8]) ->
     }
 }
 
-fn capability_of(s: &[u8]) -> [u8; 13]
-    requires { length s.now ≤ 13 }
-    ensures { result ≡ copied (length s.now) s.now (zeros 13) }
+// Octets, and zeros behind them.
+fn padded<const N: usize>(s: &[u8]) -> [u8; N]
+    requires { length s.now ≤ N }
+    ensures { result ≡ copied (length s.now) s.now (zeros N) }
 {
-    let mut b = [0u8; 13];
-    let mut i = 0;
-    while i < s.len() {
-        b[i] = s[i];
-        i += 1;
-    }
+    let mut b = [0; N];
+    b[..s.len()].copy_from_slice(s);
     b
 }
 
-fn security_of(s: &[u8]) -> [u8; 8]
-    requires { length s.now ≤ 8 }
-    ensures { result ≡ copied (length s.now) s.now (zeros 8) }
-{
-    let mut b = [0u8; 8];
-    let mut i = 0;
-    while i < s.len() {
-        b[i] = s[i];
-        i += 1;
-    }
-    b
-}
-
+#[tactic(auto, unfolding(crate::specs::New::may_make))]
 fn may_make(cardlimit: u8, banlimit: u8, n1limit: u8, capability: usize, security: usize) -> bool
     ensures { result ≡ may_make cardlimit banlimit n1limit capability security }
 {
-    let sizes = and(
-        and(1 <= capability, capability <= 13),
-        and(2 <= security, security <= 8),
-    );
-    all(
-        ranged(1, 10, cardlimit),
-        ranged(1, 10, banlimit),
-        ranged(1, 10, n1limit),
-        sizes,
-    )
+    ranged(1, 10, cardlimit)
+        && ranged(1, 10, banlimit)
+        && ranged(1, 10, n1limit)
+        && (1 <= capability && capability <= 13)
+        && (2 <= security && security <= 8)
 }
 
-fn numbers(cardlimit: u8, banlimit: u8, n1limit: u8, capability: u8, security: u8) -> Hot
-    ensures { result ≡ record { dev = new_device cardlimit banlimit n1limit capability security; a0 = new_access 0; a1 = new_access 0 } }
-{
-    let a = new_access(0);
-    Hot {
-        dev: device(cardlimit, banlimit, n1limit, capability, security),
-        a0: a,
-        a1: a,
-    }
-}
-
+#[tactic(auto, unfolding(crate::specs::New::new_record))]
 fn make(cardlimit: u8, banlimit: u8, n1limit: u8, capability: &[u8], security: &[u8]) -> Record
     requires { (length capability.now ≤ 13) × (length security.now ≤ 8) }
     ensures { result ≡ new_record cardlimit banlimit n1limit capability.now security.now }
 {
-    let h = numbers(
-        cardlimit,
-        banlimit,
-        n1limit,
-        capability.len() as u8,
-        security.len() as u8,
-    );
-    let c = capability_of(capability);
-    let s = security_of(security);
-    empty(h, [0; 64], c, s)
+    let capabilities = capability.len() as u8;
+    let securities = security.len() as u8;
+    let h = Hot {
+        dev: device(cardlimit, banlimit, n1limit, capabilities, securities),
+        a0: new_access(0),
+        a1: new_access(0),
+    };
+    empty(h, [0; 64], padded(capability), padded(security))
 }
 
 // What comes with the answer to bad limits or capabilities: all of them as small as they may be.
 fn smallest() -> Record
     ensures { result ≡ new_record 1 1 1 (0 ∷ []) (0 ∷ 0 ∷ []) }
 {
-    let c = [0u8; 1];
-    let s = [0u8; 2];
-    make(1, 1, 1, &c, &s)
+    make(1, 1, 1, &[0], &[0, 0])
 }
 
+// Kept: five numbers and octets one by one: so C hands them over.
 pub fn fresh(cardlimit: u8, banlimit: u8, n1limit: u8, capability: &[u8], security: &[u8]) -> Made
     ensures { result ≡ made_of cardlimit banlimit n1limit capability.now security.now }
 {
@@ -184,9 +155,8 @@ pub fn fresh(cardlimit: u8, banlimit: u8, n1limit: u8, capability: &[u8], securi
             made,
         };
     }
-    let made = smallest();
     Made {
         answer: Answer::Range,
-        made,
+        made: smallest(),
     }
 }

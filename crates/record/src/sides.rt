@@ -2,21 +2,21 @@
 ghost use Rattle.std.specs.Prelude.{◌≡◌, cond};
 ghost use Rattle.record.specs.Sides.{access_of, other_of, hot_of};
 
-use crate::joins::{pick, pick_pair, pick_word};
+use crate::joins::pick;
 use crate::{Access, Device, Hot};
 
-// One of two accesses, number by number: where whole ones are chosen between, the choice is made in memory, which measured a third more instructions.
+// One of two accesses. Kept: tried and slower: number by number, since where whole ones are chosen between the choice is made in memory, a third more instructions (R-10).
 fn one_of(first: bool, a: Access, b: Access) -> Access
     ensures { result ≡ cond first a b }
 {
     Access {
-        net: pick_word(first, a.net, b.net),
-        code: pick_word(first, a.code, b.code),
-        lastnet: pick_word(first, a.lastnet, b.lastnet),
-        lastcode: pick_word(first, a.lastcode, b.lastcode),
-        t3502length: pick_pair(first, a.t3502length, b.t3502length),
-        uplink: pick_pair(first, a.uplink, b.uplink),
-        sessions: pick_pair(first, a.sessions, b.sessions),
+        net: pick(first, a.net, b.net),
+        code: pick(first, a.code, b.code),
+        lastnet: pick(first, a.lastnet, b.lastnet),
+        lastcode: pick(first, a.lastcode, b.lastcode),
+        t3502length: pick(first, a.t3502length, b.t3502length),
+        uplink: pick(first, a.uplink, b.uplink),
+        sessions: pick(first, a.sessions, b.sessions),
         state: pick(first, a.state, b.state),
         status: pick(first, a.status, b.status),
         attempts: pick(first, a.attempts, b.attempts),

@@ -1,26 +1,27 @@
 -- The writer's returns, one for each answer: the checks in their order, and a refusal leaves the buffer. Assumes nothing.
 use Prim.Native.Nat.{ℕ, ◌≤◌}
 use mathlib.Core.Path.{◌≡◌, refl, sym, ◌∙◌}
-use mathlib.Core.Bool.{Bool, true, false, cond, not}
+use mathlib.Core.Bool.{Bool, true, false, cond}
 use mathlib.Core.List.{List}
 use lib.ListN.{length}
 use lib.Dec.{leb, eqb}
-use borrow.Author.Tests.{eq-eqb, ne_eqb, not-true, not-false}
+use borrow.Author.Tests.{eq-eqb, ne_eqb}
 use Rattle.laws.specs.Upto.{over}
 use Rattle.record.specs.declared.Access.{Access}
 use Rattle.record.specs.declared.Record.{Record}
+use Rattle.std.proofs.Common.{Result, Ok, Err}
+use Rattle.record.specs.declared.Answer.{Answer}
 use Rattle.record.specs.declared.Answer.TheVariants.{Taken, Range, State, Short}
 use Rattle.record.specs.Answers.{is_taken}
 use Rattle.record.specs.Sides.{access_of}
 use Rattle.identity.specs.declared.S1.{S1}
-use Rattle.request.specs.declared.Written.{Written}
 use Rattle.request.specs.Layout.{layout}
 use Rattle.request.specs.Writing.{says_of, fields_of, request_of, may_request, writing_answer, written_of, buffer_of}
 use Rattle.request.specs.Steps.{sent_of, sent_over}
 use Rattle.request.proofs.Ranges.{ready, may-facts}
 
 -- an answer and a length picked at once, or each for itself
-told : (x : Bool) (k : ℕ) → ◌≡◌ {A = Written} (cond x (record { answer = Taken; len = k }) (record { answer = Short; len = 0 })) (record { answer = cond x Taken Short; len = cond (is_taken (cond x Taken Short)) k 0 })
+told : (x : Bool) (k : ℕ) → cond x (Ok k) (Err Short) ≡ cond (is_taken (cond x Taken Short)) (Ok k) (Err (cond x Taken Short))
 unfolding is_taken
 told true k = refl
 told false k = refl
@@ -31,17 +32,17 @@ left true o b = refl
 left false o b = refl
 
 module _ (r : Record) (access : ℕ) (s1 : S1) (attach : List ℕ) (t : Bool) (e : t ≡ may_request r access (length attach)) where
-  pub out_of_range : (b : List ℕ) → not t ≡ true → (record { answer = Range; len = 0 } ≡ written_of r access s1 attach (length b)) × (b ≡ buffer_of r access s1 attach b)
+  pub out_of_range : (b : List ℕ) → t ≡ false → (Err Range ≡ written_of r access s1 attach (length b)) × (b ≡ buffer_of r access s1 attach b)
   unfolding written_of buffer_of writing_answer is_taken
   out_of_range b h =
-      let fails : may_request r access (length attach) ≡ false = sym e ∙ not-true t h in
+      let fails : may_request r access (length attach) ≡ false = sym e ∙ h in
       (rw fails, rw fails)
 
-  module _ (h : not t ≡ false) (own : Access) (same : own ≡ access_of r.hot access) where
+  module _ (h : t ≡ true) (own : Access) (same : own ≡ access_of r.hot access) where
     holds : may_request r access (length attach) ≡ true
-    holds = sym e ∙ not-false t h
+    holds = sym e ∙ h
 
-    pub out-of-state : (b : List ℕ) → (own.state ≡ 4 → ⊥) → (record { answer = State; len = 0 } ≡ written_of r access s1 attach (length b)) × (b ≡ buffer_of r access s1 attach b)
+    pub out-of-state : (b : List ℕ) → (own.state ≡ 4 → ⊥) → (Err State ≡ written_of r access s1 attach (length b)) × (b ≡ buffer_of r access s1 attach b)
     unfolding written_of buffer_of writing_answer is_taken
     out-of-state b z =
         let fails : eqb (access_of r.hot access).state 4 ≡ false = rw (← same) (ne_eqb own.state 4 z) in
@@ -61,11 +62,12 @@ module _ (r : Record) (access : ℕ) (s1 : S1) (attach : List ℕ) (t : Bool) (e
       unfolding writing_answer
       answered n = rw (holds, eq-eqb _ _ four)
 
-      pub written : (nets b d : List ℕ) (w : Written) → nets ≡ cond (eqb access 0) r.equivalents0 r.equivalents1
-          → w ≡ sent_of (layout (says_of r access own nets s1 attach)) (length b) → d ≡ sent_over (layout (says_of r access own nets s1 attach)) b
+      pub written : (b d : List ℕ) (w : Result ℕ Answer)
+          → w ≡ sent_of (layout (says_of r access own (cond (eqb access 0) r.equivalents0 r.equivalents1) s1 attach)) (length b)
+          → d ≡ sent_over (layout (says_of r access own (cond (eqb access 0) r.equivalents0 r.equivalents1) s1 attach)) b
           → (w ≡ written_of r access s1 attach (length b)) × (d ≡ buffer_of r access s1 attach b)
       unfolding written_of buffer_of sent_of sent_over request_of fields_of
-      written nets b d w f g k = (
-        g ∙ rw (answered (length b), same, f) (told (leb (length (request_of r access s1 attach)) (length b)) (length (request_of r access s1 attach))),
-        k ∙ rw (answered (length b), same, f) (left (leb (length (request_of r access s1 attach)) (length b)) (over (request_of r access s1 attach) b) b),
+      written b d w g k = (
+        g ∙ rw (answered (length b), same) (told (leb (length (request_of r access s1 attach)) (length b)) (length (request_of r access s1 attach))),
+        k ∙ rw (answered (length b), same) (left (leb (length (request_of r access s1 attach)) (length b)) (over (request_of r access s1 attach) b) b),
       )

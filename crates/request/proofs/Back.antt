@@ -10,16 +10,17 @@ use lib.ListN.{length, length-append}
 use lib.Seq.{take_at, drop_at}
 use lib.Dec.{eqb}
 use borrow.Author.Tests.{le-ltb}
+use Rattle.std.specs.Prelude.{Option, Some, None, Ok}
 use Rattle.octets.specs.declared.Element.{Element}
 use Rattle.octets.specs.declared.Part.{Part}
-use Rattle.octets.specs.declared.Ending.TheVariants.{Whole}
-use Rattle.octets.specs.Element.{Format, format_of, lead_of, lead_by, contents_of, contents_by, size_of, read_as, element_of, joined, elements_of, elements_from, first_of, end_of}
+use Rattle.octets.specs.declared.Layout.TheVariants.{ShortLength, LongLength, SevenInRequest}
+use Rattle.octets.specs.Element.{format_of, lead_of, lead_by, contents_of, contents_by, size_of, read_as, element_of, joined, elements_of, elements_from, first_of, end_of}
 use Rattle.octets.specs.Element.Elements.{element}
 use Rattle.octets.proofs.Elements.{skip}
 use Rattle.request.specs.Layout.{Form, Item, length_in, with_lead, item_octets, laid}
 use Rattle.request.specs.Layout.Form.{short_form, long_form, plain_form}
 use Rattle.request.specs.Layout.Item.{item}
-use Rattle.request.specs.Reading.{cut_of}
+use Rattle.request.specs.Reading.{part_of}
 
 -- an element that is read as it is laid out
 pub record Reads (f : Form) (id : ℕ) (c : List ℕ) : Type 0 where
@@ -29,15 +30,15 @@ pub record Reads (f : Form) (id : ℕ) (c : List ℕ) : Type 0 where
 
 -- each form is that of its formats
 module _ (id : ℕ) (c : List ℕ) where
-  pub short-reads : format_of id ≡ Format.short_length → Reads short_form id c
+  pub short-reads : format_of id ≡ ShortLength → Reads short_form id c
   unfolding lead_of lead_by contents_of contents_by read_as length_in
   short-reads e = record { lead = rw e; size = λ rest. rw e; known = λ x. rw e }
 
-  pub long-reads : format_of id ≡ Format.long_length → Reads long_form id c
+  pub long-reads : format_of id ≡ LongLength → Reads long_form id c
   unfolding lead_of lead_by contents_of contents_by read_as length_in
   long-reads e = record { lead = rw e; size = λ rest. rw e (omega arith); known = λ x. rw e }
 
-  pub plain-reads : format_of id ≡ Format.seven_in_request → length c ≡ 6 → Reads plain_form id c
+  pub plain-reads : format_of id ≡ SevenInRequest → length c ≡ 6 → Reads plain_form id c
   unfolding lead_of lead_by contents_of contents_by read_as length_in
   plain-reads e h = record { lead = rw e; size = λ rest. rw (e, h); known = λ x. rw e }
 
@@ -92,19 +93,17 @@ unfoldable pub says_in : ℕ → List Item → List ℕ
 says_in x [] = []
 says_in x (item f id c ∷ l) = cond (eqb id x) (or_else c (says_in x l)) (says_in x l)
 
-unfoldable pub some : List ℕ → Bool
-some [] = false
-some (o ∷ c) = true
-
 -- a part of a message that has these octets, or that is absent where there are none
-pub record Found (s : List ℕ) (q : Part) (c : List ℕ) : Type 0 where
-  pub held : q.held ≡ some c
-  pub len : q.len ≡ length c
-  pub cut : cut_of s q ≡ c
+pub record Cut (s : List ℕ) (c : List ℕ) (p : Part) : Type 0 where
+  pub len : p.len ≡ length c
+  pub cut : part_of s p ≡ c
+
+unfoldable pub Found : List ℕ → Option Part → List ℕ → Type 0
+Found s None c = c ≡ []
+Found s (Some p) c = Cut s c p
 
 -- an element's contents lie behind its lead
-placed : (p m c rest : List ℕ) → cut_of (p ++ ((m ++ c) ++ rest)) (record { held = true; start = length p + length m; len = length c }) ≡ c
-unfolding cut_of
+placed : (p m c rest : List ℕ) → part_of (p ++ ((m ++ c) ++ rest)) (record { start = length p + length m; len = length c }) ≡ c
 placed p m c rest = rw (append_assoc m c rest, ← append_assoc p m (c ++ rest), drop_at (p ++ m) (c ++ rest) _ (length-append p m)) (take_at c rest (length c) refl)
 
 same : (b : Bool) (l : List ℕ) → cond b l l ≡ l
@@ -117,9 +116,9 @@ module _ (x : ℕ) (f : Form) (id : ℕ) (rest says p : List ℕ) where
   Behind c = Found ((p ++ item_octets f id c) ++ rest) (first_of x (elements_of true 0 (length (p ++ item_octets f id c)) rest)) says
 
   picked : (o : ℕ) (c : List ℕ) (b : Bool) → Behind (o ∷ c)
-      → Found (p ++ (item_octets f id (o ∷ c) ++ rest)) (cond b (record { held = true; start = length p + suc (length (length_in f (length (o ∷ c)))); len = length (o ∷ c) }) (first_of x (elements_of true 0 (length (p ++ item_octets f id (o ∷ c))) rest))) (cond b (o ∷ c) says)
-  unfolding some item_octets with_lead
-  picked o c true h = record { held = refl; len = refl; cut = placed p (id ∷ length_in f (length (o ∷ c))) (o ∷ c) rest }
+      → Found (p ++ (item_octets f id (o ∷ c) ++ rest)) (cond b (Some (record { start = length p + suc (length (length_in f (length (o ∷ c)))); len = length (o ∷ c) })) (first_of x (elements_of true 0 (length (p ++ item_octets f id (o ∷ c))) rest))) (cond b (o ∷ c) says)
+  unfolding Found item_octets with_lead
+  picked o c true h = record { len = refl; cut = placed p (id ∷ length_in f (length (o ∷ c))) (o ∷ c) rest }
   picked o c false h = rw (← append_assoc p (item_octets f id (o ∷ c)) rest) h
 
   next : (c : List ℕ) → (c ≡ []) ⊎ Reads f id c → Behind c
@@ -131,11 +130,11 @@ module _ (x : ℕ) (f : Form) (id : ℕ) (rest says p : List ℕ) where
 
 -- Reading a list laid out behind any octets gives, for each identifier, what the list says of it
 back_on : (x : ℕ) (l : List Item) (p : List ℕ) → AllRead l → Found (p ++ laid l) (first_of x (elements_of true 0 (length p) (laid l))) (says_in x l)
-unfolding laid AllRead says_in elements_of first_of cut_of some
-back_on x [] p h = record { held = refl; len = refl; cut = refl }
+unfolding laid AllRead says_in elements_of first_of Found
+back_on x [] p h = refl
 back_on x (item f id c ∷ l) p h = next x f id (laid l) (says_in x l) p c h.0 (back_on x l (p ++ item_octets f id c) h.1)
 
-ends_on : (l : List Item) (p : List ℕ) → AllRead l → end_of (elements_of true 0 (length p) (laid l)) ≡ Whole
+ends_on : (l : List Item) (p : List ℕ) → AllRead l → end_of (elements_of true 0 (length p) (laid l)) ≡ (Ok tt)
 unfolding laid AllRead elements_of end_of item_octets with_lead
 ends_on [] p h = refl
 ends_on (item f id [] ∷ l) p h = ends_on l p h.1
@@ -150,5 +149,5 @@ module _ (p : List ℕ) (l : List Item) (h : AllRead l) where
   pub back : (x : ℕ) → Found (p ++ laid l) (first_of x (elements_from true (p ++ laid l) (length p))) (says_in x l)
   back x = rw from (back_on x l p h)
 
-  pub ends : end_of (elements_from true (p ++ laid l) (length p)) ≡ Whole
+  pub ends : end_of (elements_from true (p ++ laid l) (length p)) ≡ (Ok tt)
   ends = rw from (ends_on l p h)

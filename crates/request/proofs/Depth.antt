@@ -1,12 +1,14 @@
 -- The round trip, once over the depth: fields that fit, laid out so many levels in, read back as they are if the reader goes that deep, and are a level too many if
 -- not. By induction on the levels; each is the clear part and a 71. Assumes nothing.
 use Prim.Native.Nat.{ℕ, zero, suc, ◌+◌, ◌≤◌, ◌<◌}
-use mathlib.Core.Path.{◌≡◌, refl, sym, ◌∙◌, ap}
+use mathlib.Core.Path.{◌≡◌, refl, sym, ◌∙◌, ap, subst}
 use mathlib.Core.Bool.{Bool, true, false, cond}
 use mathlib.Core.Logic.{inl, inr}
 use mathlib.Core.List.{List, [], ◌∷◌, ◌++◌, append_assoc, append-nil}
 use native.Mathlib.Omega.{arith}
 use lib.Dec.{eqb}
+use Rattle.request.specs.declared.Request.{Request}
+use Rattle.std.specs.Prelude.{Result, Err}
 use Rattle.octets.specs.Element.{format_of}
 use Rattle.request.specs.Layout.{Fields, Fit, Item, laid, item_octets, opening_head, opening, items_of, octets_of, clear, nested, shown, levels_of, layout}
 use Rattle.request.specs.Layout.Item.{item}
@@ -14,8 +16,8 @@ use Rattle.request.specs.Layout.Form.{long_form}
 use Rattle.request.specs.Reading.{told_by}
 use Rattle.request.specs.Reading.Said.{says}
 use Rattle.request.specs.Levels.{shifted, read_to, asking_of}
-use Rattle.request.specs.declared.Asking.{Asking}
-use Rattle.request.specs.declared.Asking.TheVariants as asking
+use Rattle.request.specs.declared.Unread.{Unread}
+use Rattle.request.specs.declared.Unread.TheVariants as unread
 use Rattle.request.proofs.Back.{AllRead, short-reads, long-reads, or_else, says_in}
 use Rattle.request.proofs.RoundTrip.{rear-read, all_read, alone, Tells, any_order, inner, inner-told, too-deep}
 
@@ -41,10 +43,10 @@ clear-fit f fit = record {
 }
 
 -- a level too many, wherever its 71 stands
-abbrev pub TooDeep : Asking → Type 0
-TooDeep a = (at : ℕ) × (a ≡ asking.Deep at)
+abbrev pub TooDeep : Result Request Unread → Type 0
+TooDeep a = (at : ℕ) × (a ≡ Err (unread.Deep at))
 
-moved-deep : (k : ℕ) (a : Asking) → TooDeep a → TooDeep (shifted k a)
+moved-deep : (k : ℕ) (a : Result Request Unread) → TooDeep a → TooDeep (shifted k a)
 unfolding shifted
 moved-deep k a (at, e) = (k + at, rw e)
 
@@ -123,8 +125,9 @@ module _ (f : Fields) (fit : Fit f) where
       rw (clear-laid k) (_, too-deep (clear f) (clear-fit f fit) (enclosing (nested k f)) (clear-tells (nested k f)) 0x7E b.0 (clear-holds (nested k f) ∙ b.1))
   deeper (suc d) (suc k) h =
       let b = begun k in
-      rw (clear-laid k, inner (clear f) (clear-fit f fit) (enclosing (nested k f)) (clear-tells (nested k f)) 0x7E b.0 (clear-holds (nested k f) ∙ b.1) d, ← b.1)
-      (moved-deep _ (read_to d (nested k f)) (deeper d k (omega arith)))
+      let i = inner (clear f) (clear-fit f fit) (enclosing (nested k f)) (clear-tells (nested k f)) 0x7E b.0 (clear-holds (nested k f) ∙ b.1) d in
+      let deep = subst (λ (t : List ℕ). TooDeep (read_to d t)) b.1 (deeper d k (omega arith)) in
+      rw (clear-laid k) (subst TooDeep (sym i) (moved-deep _ (read_to d (0x7E ∷ b.0)) deep))
 
 -- what ngKSI 7 leaves out fits too
 shown-fit : (f : Fields) → Fit f → Fit (shown f)

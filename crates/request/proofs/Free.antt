@@ -8,26 +8,28 @@ use mathlib.Core.List.{List, [], ◌∷◌, ◌++◌}
 use native.Mathlib.Omega.{arith}
 use lib.ListN.{length, get_or, take, drop, length-append, length-drop, get_or-append}
 use native.Mathlib.Nat.{add-zero}
-use lib.Seq.{length-take-le, take_at, take-take, drop-append-le, get_or-take, get_or-drop}
+use lib.Seq.{take_at, take-take, drop-append-le, get_or-take, get_or-drop}
 use lib.Dec.{ltb, leb, eqb}
 use borrow.Author.Tests.{lt-ltb, le-ltb, ltb-false, eqb-true, eqb-false}
+use Rattle.request.specs.declared.Request.{Request}
+use Rattle.std.specs.Prelude.{Option, Some, None, Result, Ok, Err, ⊤}
+use Rattle.std.specs.Option.{option_map_or}
 use Rattle.octets.specs.declared.Part.{Part}
-use Rattle.octets.specs.declared.Ending.{Ending}
-use Rattle.octets.specs.declared.Ending.TheVariants.{Broken, Whole}
-use Rattle.octets.specs.Element.{Elements, elements_from, absent, first_of, end_of}
+use Rattle.octets.specs.declared.Malformed.{Malformed}
+use Rattle.octets.specs.Element.{Elements, elements_from, first_of, end_of}
 use Rattle.octets.proofs.Inside.{Sound, from_place, found_inside}
 use Rattle.octets.proofs.Order.{Says, said_in, is_whole, said, formed, Same, Alone, Piece, piece_octets, pieces_octets, AllAlone, order-free, unknown-skipped}
 use Rattle.octets.proofs.Order.Says.{contents, nothing as missing}
 use Rattle.messages.specs.Message.{opened_by, ended_by}
 use Rattle.record.specs.Tests.{both, within}
-use Rattle.request.specs.Reading.{identity_in, head_of, is_fourth, is_identity, is_security, is_capability, is_request, filled_of, leading_of, guti_in, request_in, judged_of, Said, cut_of, told_by}
+use Rattle.request.specs.Reading.{identity_in, head_of, is_fourth, is_identity, is_security, is_capability, is_request, filled_of, leading_of, guti_in, request_in, judged_of, Said, part_of, cut_of, told_by, refused}
 use Rattle.request.specs.Reading.Said.{says, nothing}
 use Rattle.request.specs.Levels.{around_of, asked_by, read_to, asking_of}
-use Rattle.request.specs.Reader.{inside_of, elements_reading, Below}
-use Rattle.request.specs.declared.Asking.{Asking}
-use Rattle.request.specs.declared.Asking.TheVariants as asking
+use Rattle.request.specs.Reader.{inside_of, elements_reading, PartBelow, Below}
+use Rattle.request.specs.declared.Unread.{Unread}
+use Rattle.request.specs.declared.Unread.TheVariants as unread
 use Rattle.request.proofs.Below.{cut-length, reads-below}
-use Rattle.request.proofs.Shifts.{told-shifted, chosen}
+use Rattle.request.proofs.Shifts.{told-shifted}
 use Rattle.request.proofs.Ways.{by-head}
 
 -- the octets found, and the tests of a 10 and of a 2E on them
@@ -53,82 +55,61 @@ unfoldable guti_said : Says → List ℕ
 guti_said missing = []
 guti_said (contents c) = cond (eqb (get_or c 0 0) 0xF2) (cond (ltb (length c) 11) [] (take 11 c)) []
 
-module _ (s : List ℕ) (p : Part) where
-  abbrev at : List ℕ
-  at = take p.len (drop p.start s)
-
-  cut-said : cut_of s p ≡ octets_in (said_in s p)
+module _ (s : List ℕ) where
+  cut-said : (o : Option Part) → cut_of s o ≡ octets_in (said_in s o)
   unfolding cut_of octets_in said_in
-  cut-said = go p.held
-    where
-      go : (b : Bool) → cond b at [] ≡ octets_in (cond b (contents at) missing)
-      go true = refl
-      go false = refl
+  cut-said None = refl
+  cut-said (Some p) = refl
 
   -- a 10 of no octets says none
-  able-said : cut_of s (filled_of p) ≡ octets_in (said_in s p)
+  able-said : (o : Option Part) → cut_of s (filled_of o) ≡ octets_in (said_in s o)
   unfolding filled_of cut_of octets_in said_in
-  able-said = go (eqb p.len 0) p.held refl refl
+  able-said None = refl
+  able-said (Some p) = go (eqb p.len 0) refl
     where
-      go : (b h : Bool) → eqb p.len 0 ≡ b → p.held ≡ h → cut_of s (cond b absent p) ≡ octets_in (cond h (contents at) missing)
-      go true true e f = rw (eqb-true p.len 0 e)
-      go true false e f = refl
-      go false true e f = rw f
-      go false false e f = rw f
+      go : (b : Bool) → eqb p.len 0 ≡ b → cut_of s (cond b None (Some p)) ≡ part_of s p
+      go true e = rw (eqb-true p.len 0 e)
+      go false e = refl
 
-  module _ (inside : p.held ≡ true → p.start + p.len ≤ length s) where
-    long : p.held ≡ true → length at ≡ p.len
-    long e = let h : p.start + p.len ≤ length s = inside e in length-take-le p.len (drop p.start s) (simp length-drop (omega arith))
+  capable-said : (o : Option Part) → PartBelow (length s) o → is_capability o ≡ capable_in (said_in s o)
+  unfolding is_capability capable_in said_in
+  capable-said None inside = refl
+  capable-said (Some p) inside = rw (cut-length s p inside)
 
-    capable-said : is_capability p ≡ capable_in (said_in s p)
-    unfolding is_capability capable_in said_in
-    capable-said = go p.held refl
-      where
-        go : (b : Bool) → p.held ≡ b → cond b (leb p.len 13) true ≡ capable_in (cond b (contents at) missing)
-        go true e = rw (long e)
-        go false e = refl
+  leading-said : (k : ℕ) (o : Option Part) → PartBelow (length s) o → cut_of s (leading_of k o) ≡ leading_in k (said_in s o)
+  unfolding leading_of cut_of leading_in said_in
+  leading-said k None inside = refl
+  leading-said k (Some p) inside = go (ltb p.len k) refl
+    where
+      go : (b : Bool) → ltb p.len k ≡ b → cut_of s (cond b None (Some (record { start = p.start; len = k }))) ≡ cond (ltb (length (part_of s p)) k) [] (take k (part_of s p))
+      go true e = rw (cut-length s p inside, e)
+      go false e = rw (cut-length s p inside, e) (sym (take-take k p.len (drop p.start s) (ltb-false p.len k e)))
 
-    leading-said : (k : ℕ) → cut_of s (leading_of k p) ≡ leading_in k (said_in s p)
-    unfolding leading_of cut_of leading_in said_in
-    leading-said k = go (ltb p.len k) p.held refl refl
-      where
-        go : (b h : Bool) → ltb p.len k ≡ b → p.held ≡ h → cut_of s (cond b absent (record { held = h; start = p.start; len = k })) ≡ leading_in k (cond h (contents at) missing)
-        go true true e f = rw (long f, e)
-        go true false e f = refl
-        go false true e f = rw (long f, e) (sym (take-take k p.len (drop p.start s) (ltb-false p.len k e)))
-        go false false e f = refl
+  guti-said : (o : Option Part) → PartBelow (length s) o → cut_of s (guti_in s o) ≡ guti_said (said_in s o)
+  unfolding guti_in leading_of cut_of guti_said said_in
+  guti-said None inside = refl
+  guti-said (Some p) inside = go (eqb (get_or s p.start 0) 0xF2) (ltb p.len 11) refl refl
+    where
+      none : (x : Bool) → cond {A = List ℕ} x [] [] ≡ []
+      none true = refl
+      none false = refl
 
-    guti-said : cut_of s (guti_in s p) ≡ guti_said (said_in s p)
-    unfolding guti_in leading_of cut_of guti_said said_in
-    guti-said = go (eqb (get_or s p.start 0) 0xF2) (ltb p.len 11) p.held refl refl refl
-      where
-        none : (x : Bool) → cond {A = List ℕ} x [] [] ≡ []
-        none true = refl
-        none false = refl
+      first : ltb p.len 11 ≡ false → get_or (part_of s p) 0 0 ≡ get_or s p.start 0
+      first e =
+          let h : 11 ≤ p.len = ltb-false p.len 11 e in
+          get_or-take p.len (drop p.start s) 0 0 (omega arith) ∙ get_or-drop p.start s 0 0 ∙ ap (λ (k : ℕ). get_or s k 0) (add-zero p.start)
 
-        first : ltb p.len 11 ≡ false → get_or at 0 0 ≡ get_or s p.start 0
-        first e =
-            let h : 11 ≤ p.len = ltb-false p.len 11 e in
-            get_or-take p.len (drop p.start s) 0 0 (omega arith) ∙ get_or-drop p.start s 0 0 ∙ ap (λ (k : ℕ). get_or s k 0) (add-zero p.start)
+      go : (x b : Bool) → eqb (get_or s p.start 0) 0xF2 ≡ x → ltb p.len 11 ≡ b
+          → cut_of s (cond x (cond b None (Some (record { start = p.start; len = 11 }))) None) ≡ cond (eqb (get_or (part_of s p) 0 0) 0xF2) (cond (ltb (length (part_of s p)) 11) [] (take 11 (part_of s p))) []
+      go true true d e = rw (cut-length s p inside, e) (sym (none (eqb (get_or (part_of s p) 0 0) 0xF2)))
+      go false true d e = rw (cut-length s p inside, e) (sym (none (eqb (get_or (part_of s p) 0 0) 0xF2)))
+      go true false d e = rw (first e, d, cut-length s p inside, e) (sym (take-take 11 p.len (drop p.start s) (ltb-false p.len 11 e)))
+      go false false d e = rw (first e, d)
 
-        go : (x b h : Bool) → eqb (get_or s p.start 0) 0xF2 ≡ x → ltb p.len 11 ≡ b → p.held ≡ h
-            → cut_of s (cond x (cond b absent (record { held = h; start = p.start; len = 11 })) absent) ≡ guti_said (cond h (contents at) missing)
-        go true true true d e f = rw (long f, e) (sym (none (eqb (get_or at 0 0) 0xF2)))
-        go false true true d e f = rw (long f, e) (sym (none (eqb (get_or at 0 0) 0xF2)))
-        go true false true d e f = rw (first e, d, long f, e) (sym (take-take 11 p.len (drop p.start s) (ltb-false p.len 11 e)))
-        go false false true d e f = rw (first e, d)
-        go true true false d e f = refl
-        go true false false d e f = refl
-        go false true false d e f = refl
-        go false false false d e f = refl
-
-    secure-said : is_security p ≡ secure_in (said_in s p)
-    unfolding is_security secure_in said_in
-    secure-said = go p.held refl
-      where
-        go : (b : Bool) → p.held ≡ b → both b (within 2 8 p.len) ≡ secure_in (cond b (contents at) missing)
-        go true e = rw (long e)
-        go false e = refl
+  secure-said : (o : Option Part) → PartBelow (length s) o → is_security o ≡ secure_in (said_in s o)
+  unfolding is_security secure_in said_in
+  secure-said None inside = refl
+  secure-said (Some p) inside = rw (cut-length s p inside)
 
 -- whether a request keeps the layout, by octet 4, its identity and what is found
 unfoldable keeping : ℕ → Bool → Says → Says → Bool
@@ -156,15 +137,19 @@ saying o known identity f =
 -- each choice of the reading, told
 
 module _ (s : List ℕ) (n : ℕ) (l : Elements) (sound : Sound true (length s) l) where
-  found : (x : ℕ) → (first_of x l).held ≡ true → (first_of x l).start + (first_of x l).len ≤ length s
-  found x h = (found_inside true (length s) x l sound h).0
+  found : (x : ℕ) → PartBelow (length s) (first_of x l)
+  found x = go (first_of x l) refl
+    where
+      go : (o : Option Part) → first_of x l ≡ o → PartBelow (length s) o
+      go None e = tt
+      go (Some p) e = (found_inside true (length s) x l p sound e).0
 
   kept-told : is_request s n l ≡ keeping (get_or s 3 0) (is_identity (get_or s 6 0) n) (said_in s (first_of 0x10 l)) (said_in s (first_of 0x2E l))
   unfolding is_request keeping
   kept-told = rw (← capable-said s (first_of 0x10 l) (found 0x10), ← secure-said s (first_of 0x2E l) (found 0x2E))
 
   judged-told : told_by s (judged_of s n l)
-      ≡ saying (get_or s 3 0) (is_identity (get_or s 6 0) n) (cut_of s (record { held = true; start = 6; len = n })) (λ x. said_in s (first_of x l))
+      ≡ saying (get_or s 3 0) (is_identity (get_or s 6 0) n) (part_of s (record { start = 6; len = n })) (λ x. said_in s (first_of x l))
   unfolding judged_of request_in told_by saying
   judged-told =
       rw (
@@ -172,37 +157,37 @@ module _ (s : List ℕ) (n : ℕ) (l : Elements) (sound : Sound true (length s) 
         ← able-said s (first_of 0x10 l),
         ← cut-said s (first_of 0x2E l),
         ← cut-said s (first_of 0x52 l),
-        ← leading-said s (first_of 0x40 l) (found 0x40) 2,
-        ← leading-said s (first_of 0x50 l) (found 0x50) 2,
+        ← leading-said s 2 (first_of 0x40 l) (found 0x40),
+        ← leading-said s 2 (first_of 0x50 l) (found 0x50),
         ← guti-said s (first_of 0x77 l) (found 0x77),
-        ← leading-said s (first_of 0x2B l) (found 0x2B) 1,
+        ← leading-said s 1 (first_of 0x2B l) (found 0x2B),
         ← able-said s (first_of 0x70 l),
       )
       (go (is_request s n l))
     where
-      go : (b : Bool) → told_by s (cond b (asking.Request (request_in s n l)) asking.Unfit) ≡ cond b (told_by s (asking.Request (request_in s n l))) nothing
+      go : (b : Bool) → told_by s (cond b (Ok (request_in s n l)) (Err unread.Unfit)) ≡ cond b (told_by s (Ok (request_in s n l))) nothing
       go true = refl
       go false = refl
 
-ended-told : (s : List ℕ) (e : Ending) (a : Asking) → told_by s (ended_by asking.Bad e a) ≡ cond (is_whole e) (told_by s a) nothing
+ended-told : (s : List ℕ) (e : Result ⊤ Malformed) (a : Result Request Unread) → told_by s (ended_by refused e a) ≡ cond (is_whole e) (told_by s a) nothing
 unfolding told_by ended_by is_whole
-ended-told s (Broken f at) a = refl
-ended-told s Whole a = refl
+ended-told s (Err m) a = refl
+ended-told s (Ok _) a = refl
 
-around-told : (s : List ℕ) (e : Ending) (b : Bool) (a : Asking) → told_by s (around_of e b a) ≡ cond (is_whole e) (cond b (told_by s a) nothing) nothing
+around-told : (s : List ℕ) (e : Result ⊤ Malformed) (b : Bool) (a : Result Request Unread) → told_by s (around_of e b a) ≡ cond (is_whole e) (cond b (told_by s a) nothing) nothing
 unfolding told_by around_of ended_by is_whole
-around-told s Whole true (asking.Request q) = refl
-around-told s Whole true (asking.Bad f at) = refl
-around-told s Whole true (asking.Deep at) = refl
-around-told s Whole true asking.Unfit = refl
-around-told s Whole false (asking.Request q) = refl
-around-told s Whole false (asking.Bad f at) = refl
-around-told s Whole false (asking.Deep at) = refl
-around-told s Whole false asking.Unfit = refl
-around-told s (Broken g to) b (asking.Request q) = refl
-around-told s (Broken g to) b (asking.Bad f at) = refl
-around-told s (Broken g to) b (asking.Deep at) = refl
-around-told s (Broken g to) b asking.Unfit = refl
+around-told s (Ok _) true (Ok q) = refl
+around-told s (Ok _) true (Err (unread.Malformed m)) = refl
+around-told s (Ok _) true (Err (unread.Deep at)) = refl
+around-told s (Ok _) true (Err unread.Unfit) = refl
+around-told s (Ok _) false (Ok q) = refl
+around-told s (Ok _) false (Err (unread.Malformed m)) = refl
+around-told s (Ok _) false (Err (unread.Deep at)) = refl
+around-told s (Ok _) false (Err unread.Unfit) = refl
+around-told s (Err m) b (Ok q) = refl
+around-told s (Err m) b (Err (unread.Malformed w)) = refl
+around-told s (Err m) b (Err (unread.Deep at)) = refl
+around-told s (Err m) b (Err unread.Unfit) = refl
 
 -- what a level says, by what its 71 holds, whether it keeps the layout and what it says by itself
 unfoldable level_says : ℕ → Says → Bool → Said → Said
@@ -212,9 +197,6 @@ level_says zero (contents (o ∷ c)) b own = nothing
 level_says (suc d) (contents (o ∷ c)) b own = cond b (told_by (o ∷ c) (read_to d (o ∷ c))) nothing
 
 module _ (d : ℕ) (s : List ℕ) (n : ℕ) (l : Elements) (sound : Sound true (length s) l) where
-  abbrev p : Part
-  p = first_of 0x71 l
-
   abbrev own : Said
   own = told_by s (judged_of s n l)
 
@@ -223,43 +205,35 @@ module _ (d : ℕ) (s : List ℕ) (n : ℕ) (l : Elements) (sound : Sound true (
   none false = refl
 
   -- octets in a 71
-  module _ (held : p.held ≡ true) (b : Bool) where
-    inside-told : (d o : ℕ) (c : List ℕ) → cut_of s p ≡ o ∷ c → cond b (told_by s (inside_of d s p)) nothing ≡ level_says d (contents (o ∷ c)) b own
+  module _ (p : Part) (inside : p.start + p.len ≤ length s) (b : Bool) where
+    inside-told : (d o : ℕ) (c : List ℕ) → part_of s p ≡ o ∷ c → cond b (told_by s (inside_of d s p)) nothing ≡ level_says d (contents (o ∷ c)) b own
     unfolding inside_of level_says told_by
     inside-told zero o c e = none b
     inside-told (suc d) o c e =
-        let below = subst (λ (k : ℕ). Below k (read_to d (cut_of s p))) (cut-length s p held (found s n l sound 0x71 held)) (reads-below d (cut_of s p)) in
-        rw (told-shifted s p held (read_to d (cut_of s p)) below, e)
+        let below = subst (λ (k : ℕ). Below k (read_to d (part_of s p))) (cut-length s p inside) (reads-below d (part_of s p)) in
+        rw (told-shifted s p (read_to d (part_of s p)) below, e)
 
-    nested-told : (t : List ℕ) → cut_of s p ≡ t → (p.len ≡ 0 → ⊥) → told_by s (around_of (end_of l) b (inside_of d s p)) ≡ cond (is_whole (end_of l)) (level_says d (contents t) b own) nothing
-    nested-told [] e z = absurd (z (sym (cut-length s p held (found s n l sound 0x71 held)) ∙ ap length e))
+    nested-told : (t : List ℕ) → part_of s p ≡ t → (p.len ≡ 0 → ⊥) → told_by s (around_of (end_of l) b (inside_of d s p)) ≡ cond (is_whole (end_of l)) (level_says d (contents t) b own) nothing
+    nested-told [] e z = absurd (z (sym (cut-length s p inside) ∙ ap length e))
     nested-told (o ∷ c) e z = around-told s (end_of l) b (inside_of d s p) ∙ ap (λ (x : Said). cond (is_whole (end_of l)) x nothing) (inside-told d o c e)
 
-  abbrev flat : Asking
-  flat = ended_by asking.Bad (end_of l) (judged_of s n l)
-
   -- by whether there is a 71 and whether it is empty
-  abbrev part : Bool → Part
-  part k = cond k absent p
+  by-71 : (o : Option Part) → PartBelow (length s) o
+      → told_by s (option_map_or (λ c. around_of (end_of l) (is_request s n l) (inside_of d s c)) (filled_of o) (ended_by refused (end_of l) (judged_of s n l)))
+      ≡ cond (is_whole (end_of l)) (level_says d (said_in s o) (is_request s n l) own) nothing
+  unfolding level_says filled_of said_in
+  by-71 None w = ended-told s (end_of l) (judged_of s n l)
+  by-71 (Some p) w = go (eqb p.len 0) refl
+    where
+      go : (b : Bool) → eqb p.len 0 ≡ b
+          → told_by s (option_map_or (λ c. around_of (end_of l) (is_request s n l) (inside_of d s c)) (cond b None (Some p)) (ended_by refused (end_of l) (judged_of s n l)))
+          ≡ cond (is_whole (end_of l)) (level_says d (contents (part_of s p)) (is_request s n l) own) nothing
+      go true e = rw (eqb-true p.len 0 e) (ended-told s (end_of l) (judged_of s n l))
+      go false e = nested-told p w (is_request s n l) (part_of s p) refl (eqb-false p.len 0 e)
 
-  abbrev octets : List ℕ
-  octets = take p.len (drop p.start s)
-
-  held_cut : p.held ≡ true → cut_of s p ≡ octets
-  unfolding cut_of
-  held_cut e = rw e
-
-  by-71 : (h k : Bool) → p.held ≡ h → eqb p.len 0 ≡ k
-      → told_by s (cond (part k).held (around_of (end_of l) (is_request s n l) (inside_of d s (part k))) flat) ≡ cond (is_whole (end_of l)) (level_says d (cond h (contents octets) missing) (is_request s n l) own) nothing
-  unfolding level_says
-  by-71 true true e f = rw (eqb-true p.len 0 f) (ended-told s (end_of l) (judged_of s n l))
-  by-71 false true e f = ended-told s (end_of l) (judged_of s n l)
-  by-71 false false e f = rw e (ended-told s (end_of l) (judged_of s n l))
-  by-71 true false e f = ap (told_by s) (chosen p.held _ flat e) ∙ nested-told e (is_request s n l) octets (held_cut e) (eqb-false p.len 0 f)
-
-  asked-told : told_by s (asked_by (inside_of d s) s n l) ≡ cond (is_whole (end_of l)) (level_says d (said_in s p) (is_request s n l) own) nothing
-  unfolding asked_by filled_of said_in
-  asked-told = by-71 p.held (eqb p.len 0) refl refl
+  asked-told : told_by s (asked_by (inside_of d s) s n l) ≡ cond (is_whole (end_of l)) (level_says d (said_in s (first_of 0x71 l)) (is_request s n l) own) nothing
+  unfolding asked_by
+  asked-told = by-71 (first_of 0x71 l) (found s n l sound 0x71)
 
 -- no identity has no octets
 none-known : (o : ℕ) → is_identity o 0 ≡ false
@@ -293,8 +267,7 @@ module _ (p : List ℕ) (long : length p ≡ 6 + identity_in p) (s : List ℕ) w
       go zero e = none-known (get_or all 6 0) ∙ sym (none-known (get_or p 6 0))
       go (suc m) e = rw (get_or-append p s 0 6 (omega arith))
 
-  identity-same : cut_of all (record { held = true; start = 6; len = n }) ≡ drop 6 p
-  unfolding cut_of
+  identity-same : part_of all (record { start = 6; len = n }) ≡ drop 6 p
   identity-same = rw (drop-append-le 6 p s (omega arith)) (take_at (drop 6 p) s n (omega (arith, length-drop 6 p)))
 
   head-same : head_of all ≡ head_of p

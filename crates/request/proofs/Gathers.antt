@@ -3,14 +3,17 @@ use Prim.Native.Nat.{ℕ, ◌+◌}
 use mathlib.Core.Path.{◌≡◌, refl, ◌∙◌, ap}
 use mathlib.Core.Bool.{Bool, true}
 use mathlib.Core.List.{List}
+use Rattle.request.specs.declared.Request.{Request}
+use Rattle.std.specs.Prelude.{Result, Ok, Err}
 use Rattle.octets.specs.Element.{Elements, elements_from, first_of, wanted_of, gather_of}
 use Rattle.octets.specs.declared.Gathered.{Gathered}
+use Rattle.octets.specs.declared.Malformed.{Malformed}
 use Rattle.messages.specs.Message.{ended_by}
 use Rattle.request.specs.Reading.{identity_in, is_request, judged_of}
 use Rattle.request.specs.Levels.{around_of}
 use Rattle.request.specs.Reader.{elements_in, parts_of, statuses_of, attaches_of, Common, Statuses, alone_of, enclosed_of}
-use Rattle.request.specs.declared.Asking.{Asking}
-use Rattle.request.specs.declared.Asking.TheVariants as asking
+use Rattle.request.specs.declared.Unread.{Unread}
+use Rattle.request.specs.declared.Unread.TheVariants as unread
 
 module _ (s : List ℕ) (g : Gathered) where
   pub gathered : g ≡ parts_of s → Common g (elements_in s)
@@ -25,15 +28,19 @@ module _ (s : List ℕ) (g : Gathered) where
   unfolding attaches_of gather_of wanted_of
   attaches k e = rw e
 
-  pub alone-so : (h k : Gathered) (n : ℕ) (own r : Asking) → n ≡ identity_in s → h ≡ statuses_of s → k ≡ attaches_of s
-      → ((l : Elements) → Common g l → Statuses h l → k.first ≡ first_of 0x70 l → own ≡ judged_of s n l)
-      → r ≡ ended_by asking.Bad g.end own → g ≡ parts_of s → r ≡ alone_of s
-  unfolding alone_of
-  alone-so h k n own r en eh ek j er eg =
-      let o : own ≡ judged_of s (identity_in s) (elements_in s) = j (elements_in s) (gathered eg) (statuses h eh) (attaches k ek) ∙ ap (λ (m : ℕ). judged_of s m (elements_in s)) en in
-      er ∙ rw ((gathered eg).end, o)
+  -- by how the elements end
+  pub alone-broken : (m : Malformed) → g.end ≡ Err m → g ≡ parts_of s → Err (unread.Malformed m) ≡ alone_of s
+  unfolding alone_of ended_by
+  alone-broken m e eg = rw (← (gathered eg).end, e)
 
-  pub around-so : (n : ℕ) (fits : Bool) (inner r : Asking) → n ≡ identity_in s → ((l : Elements) → g.first ≡ first_of 0x10 l → g.second ≡ first_of 0x2E l → fits ≡ is_request s n l)
+  pub alone-whole : (h k : Gathered) (n : ℕ) (r : Result Request Unread) → g.end ≡ Ok tt → n ≡ identity_in s → h ≡ statuses_of s → k ≡ attaches_of s
+      → ((l : Elements) → Common g l → Statuses h l → k.first ≡ first_of 0x70 l → r ≡ judged_of s n l)
+      → g ≡ parts_of s → r ≡ alone_of s
+  unfolding alone_of ended_by
+  alone-whole h k n r e en eh ek j eg =
+      rw (← (gathered eg).end, e) (j (elements_in s) (gathered eg) (statuses h eh) (attaches k ek) ∙ ap (λ (m : ℕ). judged_of s m (elements_in s)) en)
+
+  pub around-so : (n : ℕ) (fits : Bool) (inner r : Result Request Unread) → n ≡ identity_in s → ((l : Elements) → g.first ≡ first_of 0x10 l → g.second ≡ first_of 0x2E l → fits ≡ is_request s n l)
       → r ≡ around_of g.end fits inner → g ≡ parts_of s → r ≡ enclosed_of s inner
   unfolding enclosed_of
   around-so n fits inner r en j er eg =

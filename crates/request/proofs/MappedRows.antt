@@ -2,8 +2,8 @@
 -- long, too short or empty. By computation. Assumes nothing.
 use Prim.Native.Nat.{ℕ}
 use mathlib.Core.Path.{◌≡◌, refl}
-use mathlib.Core.Bool.{true}
 use mathlib.Core.List.{List, [], ◌∷◌, ◌++◌}
+use Rattle.std.specs.Prelude.{Option, Some, None, Ok}
 use Rattle.octets.specs.declared.Part.{Part}
 use Rattle.octets.specs.Element as octets
 use Rattle.messages.specs.Message as messages
@@ -11,7 +11,6 @@ use Rattle.identity.specs.Mapping as mapping
 use Rattle.request.specs.Layout.{Fields, length_in, with_lead, item_octets, laid, opening_head, opening, items_of, octets_of, clear, nested, shown, levels_of, layout}
 use Rattle.request.specs.Reading.{head_of, is_fourth, is_identity, is_security, is_capability, is_request, filled_of, leading_of, guti_in, request_in, judged_of, cut_of}
 use Rattle.request.specs.Levels.{shifted_part, shifted_request, shifted, around_of, asked_by, message_by, read_to, asking_of}
-use Rattle.request.specs.declared.Asking.TheVariants as asking
 
 -- MME group 8001, code C5: AMF region 128, set 7, pointer 5
 abbrev guti_4g : List ℕ
@@ -59,27 +58,30 @@ unfolding layout levels_of shown clear nested octets_of opening opening_head ite
 enclosed-laid = refl
 
 -- so many octets from an offset on
-abbrev part : ℕ → ℕ → Part
-part start len = record { held = true; start = start; len = len }
+abbrev place : ℕ → ℕ → Part
+place start len = record { start = start; len = len }
 
-pub mapped-read : (asking_of bare ≡ asking.Request (record { regtype = 1; ksi = 7; identity = part 6 11; capability = octets.absent; security = part 19 2; last = octets.absent; uplink = octets.absent; sessions = octets.absent; additional = part 24 11; status = part 37 1; attach = part 41 2 }))
-    × (asking_of enclosed ≡ asking.Request (record { regtype = 1; ksi = 3; identity = part 52 11; capability = part 65 1; security = part 68 2; last = part 71 6; uplink = octets.absent; sessions = octets.absent; additional = part 80 11; status = part 93 1; attach = part 97 2 }))
+abbrev part : ℕ → ℕ → Option Part
+part start len = Some (place start len)
+
+pub mapped-read : (asking_of bare ≡ Ok (record { regtype = 1; ksi = 7; identity = place 6 11; capability = None; security = part 19 2; last = None; uplink = None; sessions = None; additional = part 24 11; status = part 37 1; attach = part 41 2 }))
+    × (asking_of enclosed ≡ Ok (record { regtype = 1; ksi = 3; identity = place 52 11; capability = part 65 1; security = part 68 2; last = part 71 6; uplink = None; sessions = None; additional = part 80 11; status = part 93 1; attach = part 97 2 }))
 unfolding asking_of read_to message_by head_of asked_by around_of judged_of request_in filled_of leading_of guti_in cut_of shifted shifted_request shifted_part is_request is_fourth is_identity is_capability is_security messages.opened_by messages.ended_by octets.elements_from octets.elements_of octets.joined octets.element_of octets.read_as octets.size_of octets.contents_of octets.contents_by octets.lead_of octets.lead_by octets.format_of octets.first_of octets.end_of
 mapped-read = (refl, refl)
 
 -- 2B, 77, 70
 pub table-order : asking_of (0x7E ∷ 0x00 ∷ 0x41 ∷ 0x71 ∷ 0x00 ∷ 0x0B ∷ 0xF2 ∷ 0x00 ∷ 0xF1 ∷ 0x10 ∷ 0x80 ∷ 0x01 ∷ 0xC5 ∷ 0xD1 ∷ 0xC2 ∷ 0xB3 ∷ 0xA4 ∷ 0x2E ∷ 0x02 ∷ 0xF0 ∷ 0xF0 ∷ 0x2B ∷ 0x01 ∷ 0x00 ∷ 0x77 ∷ 0x00 ∷ 0x0B ∷ 0xF2 ∷ 0x00 ∷ 0xF2 ∷ 0x20 ∷ 0x11 ∷ 0x22 ∷ 0x83 ∷ 0x0A ∷ 0x0B ∷ 0x0C ∷ 0x0D ∷ 0x70 ∷ 0x00 ∷ 0x02 ∷ 0x07 ∷ 0x41 ∷ [])
-    ≡ asking.Request (record { regtype = 1; ksi = 7; identity = part 6 11; capability = octets.absent; security = part 19 2; last = octets.absent; uplink = octets.absent; sessions = octets.absent; additional = part 27 11; status = part 23 1; attach = part 41 2 })
+    ≡ Ok (record { regtype = 1; ksi = 7; identity = place 6 11; capability = None; security = part 19 2; last = None; uplink = None; sessions = None; additional = part 27 11; status = part 23 1; attach = part 41 2 })
 unfolding asking_of read_to message_by head_of asked_by around_of judged_of request_in filled_of leading_of guti_in cut_of shifted shifted_request shifted_part is_request is_fourth is_identity is_capability is_security messages.opened_by messages.ended_by octets.elements_from octets.elements_of octets.joined octets.element_of octets.read_as octets.size_of octets.contents_of octets.contents_by octets.lead_of octets.lead_by octets.format_of octets.first_of octets.end_of
 table-order = refl
 
 -- a 77 of twelve octets and a 2B of two are their first ones; a 77 of ten or with F3, an empty 2B and an empty 70 are absent
 pub ends-ignored : asking_of (0x7E ∷ 0x00 ∷ 0x41 ∷ 0x71 ∷ 0x00 ∷ 0x0B ∷ 0xF2 ∷ 0x00 ∷ 0xF1 ∷ 0x10 ∷ 0x80 ∷ 0x01 ∷ 0xC5 ∷ 0xD1 ∷ 0xC2 ∷ 0xB3 ∷ 0xA4 ∷ 0x2E ∷ 0x02 ∷ 0xF0 ∷ 0xF0 ∷ 0x77 ∷ 0x00 ∷ 0x0C ∷ 0xF2 ∷ 0x00 ∷ 0xF2 ∷ 0x20 ∷ 0x11 ∷ 0x22 ∷ 0x83 ∷ 0x0A ∷ 0x0B ∷ 0x0C ∷ 0x0D ∷ 0x0E ∷ 0x2B ∷ 0x02 ∷ 0x01 ∷ 0x00 ∷ [])
-    ≡ asking.Request (record { regtype = 1; ksi = 7; identity = part 6 11; capability = octets.absent; security = part 19 2; last = octets.absent; uplink = octets.absent; sessions = octets.absent; additional = part 24 11; status = part 38 1; attach = octets.absent })
+    ≡ Ok (record { regtype = 1; ksi = 7; identity = place 6 11; capability = None; security = part 19 2; last = None; uplink = None; sessions = None; additional = part 24 11; status = part 38 1; attach = None })
 unfolding asking_of read_to message_by head_of asked_by around_of judged_of request_in filled_of leading_of guti_in cut_of shifted shifted_request shifted_part is_request is_fourth is_identity is_capability is_security messages.opened_by messages.ended_by octets.elements_from octets.elements_of octets.joined octets.element_of octets.read_as octets.size_of octets.contents_of octets.contents_by octets.lead_of octets.lead_by octets.format_of octets.first_of octets.end_of
 ends-ignored = refl
 
-pub too_short : (asking_of (0x7E ∷ 0x00 ∷ 0x41 ∷ 0x71 ∷ 0x00 ∷ 0x0B ∷ 0xF2 ∷ 0x00 ∷ 0xF1 ∷ 0x10 ∷ 0x80 ∷ 0x01 ∷ 0xC5 ∷ 0xD1 ∷ 0xC2 ∷ 0xB3 ∷ 0xA4 ∷ 0x2E ∷ 0x02 ∷ 0xF0 ∷ 0xF0 ∷ 0x77 ∷ 0x00 ∷ 0x0A ∷ 0xF2 ∷ 0x00 ∷ 0xF2 ∷ 0x20 ∷ 0x11 ∷ 0x22 ∷ 0x83 ∷ 0x0A ∷ 0x0B ∷ 0x0C ∷ 0x2B ∷ 0x00 ∷ 0x70 ∷ 0x00 ∷ 0x00 ∷ []) ≡ asking.Request (record { regtype = 1; ksi = 7; identity = part 6 11; capability = octets.absent; security = part 19 2; last = octets.absent; uplink = octets.absent; sessions = octets.absent; additional = octets.absent; status = octets.absent; attach = octets.absent }))
-    × (asking_of (0x7E ∷ 0x00 ∷ 0x41 ∷ 0x71 ∷ 0x00 ∷ 0x0B ∷ 0xF2 ∷ 0x00 ∷ 0xF1 ∷ 0x10 ∷ 0x80 ∷ 0x01 ∷ 0xC5 ∷ 0xD1 ∷ 0xC2 ∷ 0xB3 ∷ 0xA4 ∷ 0x2E ∷ 0x02 ∷ 0xF0 ∷ 0xF0 ∷ 0x77 ∷ 0x00 ∷ 0x0B ∷ 0xF3 ∷ 0x00 ∷ 0xF2 ∷ 0x20 ∷ 0x11 ∷ 0x22 ∷ 0x83 ∷ 0x0A ∷ 0x0B ∷ 0x0C ∷ 0x0D ∷ []) ≡ asking.Request (record { regtype = 1; ksi = 7; identity = part 6 11; capability = octets.absent; security = part 19 2; last = octets.absent; uplink = octets.absent; sessions = octets.absent; additional = octets.absent; status = octets.absent; attach = octets.absent }))
+pub too_short : (asking_of (0x7E ∷ 0x00 ∷ 0x41 ∷ 0x71 ∷ 0x00 ∷ 0x0B ∷ 0xF2 ∷ 0x00 ∷ 0xF1 ∷ 0x10 ∷ 0x80 ∷ 0x01 ∷ 0xC5 ∷ 0xD1 ∷ 0xC2 ∷ 0xB3 ∷ 0xA4 ∷ 0x2E ∷ 0x02 ∷ 0xF0 ∷ 0xF0 ∷ 0x77 ∷ 0x00 ∷ 0x0A ∷ 0xF2 ∷ 0x00 ∷ 0xF2 ∷ 0x20 ∷ 0x11 ∷ 0x22 ∷ 0x83 ∷ 0x0A ∷ 0x0B ∷ 0x0C ∷ 0x2B ∷ 0x00 ∷ 0x70 ∷ 0x00 ∷ 0x00 ∷ []) ≡ Ok (record { regtype = 1; ksi = 7; identity = place 6 11; capability = None; security = part 19 2; last = None; uplink = None; sessions = None; additional = None; status = None; attach = None }))
+    × (asking_of (0x7E ∷ 0x00 ∷ 0x41 ∷ 0x71 ∷ 0x00 ∷ 0x0B ∷ 0xF2 ∷ 0x00 ∷ 0xF1 ∷ 0x10 ∷ 0x80 ∷ 0x01 ∷ 0xC5 ∷ 0xD1 ∷ 0xC2 ∷ 0xB3 ∷ 0xA4 ∷ 0x2E ∷ 0x02 ∷ 0xF0 ∷ 0xF0 ∷ 0x77 ∷ 0x00 ∷ 0x0B ∷ 0xF3 ∷ 0x00 ∷ 0xF2 ∷ 0x20 ∷ 0x11 ∷ 0x22 ∷ 0x83 ∷ 0x0A ∷ 0x0B ∷ 0x0C ∷ 0x0D ∷ []) ≡ Ok (record { regtype = 1; ksi = 7; identity = place 6 11; capability = None; security = part 19 2; last = None; uplink = None; sessions = None; additional = None; status = None; attach = None }))
 unfolding asking_of read_to message_by head_of asked_by around_of judged_of request_in filled_of leading_of guti_in cut_of shifted shifted_request shifted_part is_request is_fourth is_identity is_capability is_security messages.opened_by messages.ended_by octets.elements_from octets.elements_of octets.joined octets.element_of octets.read_as octets.size_of octets.contents_of octets.contents_by octets.lead_of octets.lead_by octets.format_of octets.first_of octets.end_of
 too_short = (refl, refl)

@@ -1,14 +1,15 @@
 -- The round trip of a record: reading what the writer writes gives what the record says. Assumes nothing.
 use Prim.Native.Nat.{ℕ, zero, suc, ◌*◌, ◌<◌, ◌≤◌}
 use mathlib.Core.Path.{◌≡◌, refl, ◌∙◌, ap}
-use mathlib.Core.Bool.{Bool, true, false, cond}
+use mathlib.Core.Bool.{Bool, true, false, cond, false≢true}
 use mathlib.Core.Logic.{◌⊎◌, inl, inr}
 use mathlib.Core.List.{List, [], ◌∷◌, ◌++◌}
 use native.Mathlib.Omega.{arith}
 use lib.ListN.{length, get_or, take, drop}
 use lib.Seq.{length-take-le, take_at, drop_at, take_all}
-use lib.Dec.{ltb, leb, eqb}
-use borrow.Author.Tests.{ltb-true, eqb-true, ne_eqb}
+use lib.Dec.{leb, eqb}
+use borrow.Author.Tests.{eqb-true, ne_eqb}
+use Rattle.std.specs.Prelude.{Option, Some, None, Ok, Err, IfSome}
 use Rattle.laws.specs.Upto.{over}
 use Rattle.record.specs.declared.Access.{Access}
 use Rattle.record.specs.declared.Record.{Record}
@@ -22,7 +23,7 @@ use Rattle.identity.specs.Identity.{Identities, order_of, is_held, source_of, oc
 use Rattle.identity.specs.Identity.Source.{suci as suci_source}
 use Rattle.identity.specs.Choice.{slot_of, part_of, chosen_of, is_mapped_by}
 use Rattle.identity.proofs.Mapped.{mapped-long}
-use Rattle.identity.proofs.Editions.{First, always, identity-by, best-chosen}
+use Rattle.identity.proofs.Editions.{First, always, slot-small, identity-by, best-chosen}
 use Rattle.request.specs.Layout.{Fit, shown}
 use Rattle.request.specs.Reading.{told_by}
 use Rattle.request.specs.Levels.{asking_of}
@@ -71,9 +72,11 @@ leads (suc n) (o ∷ l) h = refl
 known : (a b s : List ℕ) (access held0 held1 net : ℕ) (nets : List ℕ) (count : ℕ) → length a ≡ 10 → length b ≡ 10 → Known s
     → Known (chosen_of (gutis_of a b) s access held0 held1 net nets count)
 unfolding chosen_of part_of
-known a b s access held0 held1 net nets count ha hb h =
-    either (ltb (slot_of (gutis_of a b) access held0 held1 net nets count) 2) _ s
-    (λ t. inl (slot-known (slot_of (gutis_of a b) access held0 held1 net nets count) a b ha hb (ltb-true _ _ t))) h
+known a b s access held0 held1 net nets count ha hb h = go (slot_of (gutis_of a b) access held0 held1 net nets count) (slot-small (gutis_of a b) access held0 held1 net nets count)
+  where
+    go : (o : Option ℕ) → IfSome o (λ k. k ≤ 1) → Known (part_of (gutis_of a b) s o)
+    go None t = h
+    go (Some k) t = inl (slot-known k a b ha hb (omega arith))
 
 -- a mapped GUTI is one too
 mapped-known : (b : Bool) (g i : List ℕ) → Known i → Known (cond b (mapped_guti g) i)
@@ -86,11 +89,11 @@ GutiOrNone g = (g ≡ []) ⊎ ((get_or g 0 0 ≡ 0xF2) × (length g ≡ 11))
 
 best-known : (a b : List ℕ) (access held0 held1 net : ℕ) (nets : List ℕ) (count : ℕ) → length a ≡ 10 → length b ≡ 10 → GutiOrNone (chosen_of (gutis_of a b) [] access held0 held1 net nets count)
 unfolding chosen_of part_of GutiOrNone
-best-known a b access held0 held1 net nets count ha hb = go (ltb (slot_of (gutis_of a b) access held0 held1 net nets count) 2) refl
+best-known a b access held0 held1 net nets count ha hb = go (slot_of (gutis_of a b) access held0 held1 net nets count) (slot-small (gutis_of a b) access held0 held1 net nets count)
   where
-    go : (x : Bool) → ltb (slot_of (gutis_of a b) access held0 held1 net nets count) 2 ≡ x → GutiOrNone (cond x (take 11 (drop (slot_of (gutis_of a b) access held0 held1 net nets count * 11) (gutis_of a b))) [])
-    go true t = inr (slot-known (slot_of (gutis_of a b) access held0 held1 net nets count) a b ha hb (ltb-true _ _ t))
-    go false t = inl refl
+    go : (o : Option ℕ) → IfSome o (λ k. k ≤ 1) → GutiOrNone (part_of (gutis_of a b) [] o)
+    go None t = inl refl
+    go (Some k) t = inr (slot-known k a b ha hb (omega arith))
 
 kept-or-none : (x : Bool) (g : List ℕ) → GutiOrNone g → GutiOrNone (cond x g [])
 unfolding GutiOrNone
@@ -178,24 +181,36 @@ module _ (r : Record) (access : ℕ) (whole : Whole r) (valid : valid_of r ≡ t
         sure = rw (ne_eqb (length (take r.hot.dev.suci r.suci)) 0 (λ z. omega (arith, long, all.suci.0)))
 
 -- only a valid record in state 4 is taken
-passed : (x y z : Bool) → cond x (cond y (cond z Taken Short) State) Range ≡ Taken → (x ≡ true) × (y ≡ true)
+passed : (x y z : Bool) → is_taken (cond x (cond y (cond z Taken Short) State) Range) ≡ true → (x ≡ true) × (y ≡ true)
+unfolding is_taken
 passed true true z e = (refl, refl)
-passed true false z e = let n : ◌≡◌ {A = ℕ} 0 1 = cc in absurd (omega arith)
-passed false y z e = let n : ◌≡◌ {A = ℕ} 0 1 = cc in absurd (omega arith)
+passed true false z e = absurd (false≢true e)
+passed false y z e = absurd (false≢true e)
 
-module _ (r : Record) (access : ℕ) (s1 : S1) (attach b : List ℕ) (whole : Whole r) (taken : writing_answer r access s1 attach (length b) ≡ Taken) where
+-- what is written of a request is all of it
+module _ (r : Record) (access : ℕ) (s1 : S1) (attach b : List ℕ) (n : ℕ) (w : written_of r access s1 attach (length b) ≡ Ok n) where
+  taken : (is_taken (writing_answer r access s1 attach (length b)) ≡ true) × (n ≡ length (request_of r access s1 attach))
+  unfolding written_of
+  taken = go (is_taken (writing_answer r access s1 attach (length b))) refl w
+    where
+      go : (t : Bool) → is_taken (writing_answer r access s1 attach (length b)) ≡ t
+          → cond t (Ok (length (request_of r access s1 attach))) (Err (writing_answer r access s1 attach (length b))) ≡ Ok n
+          → (is_taken (writing_answer r access s1 attach (length b)) ≡ true) × (n ≡ length (request_of r access s1 attach))
+      go true e x = (e, cc)
+      go false e x = cc
+
   tests : (may_request r access (length attach) ≡ true) × (eqb (access_of r.hot access).state 4 ≡ true)
   unfolding writing_answer
-  tests = passed _ _ (leb (length (request_of r access s1 attach)) (length b)) taken
+  tests = passed _ _ (leb (length (request_of r access s1 attach)) (length b)) taken.0
 
   -- what the writer has written
   abbrev pub sent : List ℕ
-  sent = take (written_of r access s1 attach (length b)).len (buffer_of r access s1 attach b)
+  sent = take n (buffer_of r access s1 attach b)
 
   same : sent ≡ request_of r access s1 attach
-  unfolding written_of buffer_of over is_taken
-  same = rw taken (take_at (request_of r access s1 attach) (drop (length (request_of r access s1 attach)) b) (length (request_of r access s1 attach)) refl)
+  unfolding buffer_of over
+  same = rw (taken.0, taken.1) (take_at (request_of r access s1 attach) (drop (length (request_of r access s1 attach)) b) (length (request_of r access s1 attach)) refl)
 
   -- the round trip: reading what the writer has written gives what the record says
-  pub read_back : told_by sent (asking_of sent) ≡ says (shown (fields_of r access s1 attach))
-  read_back = rw same (recorded r access whole (may-facts r access (length attach) tests.0).valid (eqb-true _ 4 tests.1) s1 attach)
+  pub read_back : Whole r → told_by sent (asking_of sent) ≡ says (shown (fields_of r access s1 attach))
+  read_back whole = rw same (recorded r access whole (may-facts r access (length attach) tests.0).valid (eqb-true _ 4 tests.1) s1 attach)

@@ -7,29 +7,29 @@ use mathlib.Core.Logic.{◌⊎◌, inl, inr}
 use mathlib.Core.List.{List, [], ◌∷◌, ◌++◌}
 use native.Mathlib.Omega.{arith}
 use native.Mathlib.Nat.{add-zero}
-use lib.ListN.{length, get_or, take, drop, length-append}
+use lib.ListN.{length, get_or, drop, length-append}
 use lib.Seq.{take_at, get_or-take, get_or-drop}
 use lib.Dec.{eqb}
 use borrow.Author.Tests.{lt-ltb, le-ltb, le-leb, ne_eqb}
+use Rattle.std.specs.Prelude.{Option, Some, None, Ok, Err}
 use Rattle.octets.specs.declared.Part.{Part}
-use Rattle.octets.specs.declared.Ending.TheVariants.{Whole}
-use Rattle.octets.specs.Element.{Elements, format_of, elements_from, absent, first_of, end_of}
+use Rattle.octets.specs.Element.{Elements, format_of, elements_from, first_of, end_of}
 use Rattle.messages.specs.Message.{opened_by, ended_by}
 use Rattle.request.specs.Layout.{Fields, Fit, Item, length_in, laid, opening_head, opening, items_of}
 use Rattle.request.specs.Layout.Form.{short_form, long_form, plain_form}
 use Rattle.request.specs.Layout.Item.{item}
-use Rattle.request.specs.Reading.{identity_in, head_of, is_fourth, is_identity, is_security, is_capability, is_request, filled_of, leading_of, guti_in, request_in, judged_of, cut_of, told_by}
+use Rattle.request.specs.Reading.{identity_in, head_of, is_fourth, is_identity, is_security, is_capability, is_request, filled_of, leading_of, guti_in, request_in, judged_of, part_of, cut_of, told_by}
 use Rattle.request.specs.Reading.Said.{says}
 use Rattle.request.specs.Levels.{shifted, asked_by, read_to}
 use Rattle.request.specs.Reader.{inside_of, elements_reading}
-use Rattle.request.specs.declared.Asking.TheVariants as asking
-use Rattle.request.proofs.Back.{Reads, AllRead, short-reads, long-reads, plain-reads, or_else, says_in, some, Found, back, ends}
+use Rattle.request.specs.declared.Unread.TheVariants as unread
+use Rattle.request.proofs.Back.{Reads, AllRead, short-reads, long-reads, plain-reads, or_else, says_in, Cut, Found, back, ends}
 use Rattle.request.proofs.Below.{reads-below}
-use Rattle.request.proofs.Shifts.{told-shifted, chosen, kept-around}
+use Rattle.request.proofs.Shifts.{told-shifted, kept-around}
 use Rattle.request.proofs.Ways.{by-head}
 
 -- 7E 00 41, octet 4 and the identity are all there
-head-whole : (o hi lo : ℕ) (t : List ℕ) → hi * 256 + lo ≤ length t → head_of (0x7E ∷ 0x00 ∷ 0x41 ∷ o ∷ hi ∷ lo ∷ t) ≡ Whole
+head-whole : (o hi lo : ℕ) (t : List ℕ) → hi * 256 + lo ≤ length t → head_of (0x7E ∷ 0x00 ∷ 0x41 ∷ o ∷ hi ∷ lo ∷ t) ≡ (Ok tt)
 unfolding head_of opened_by
 head-whole o hi lo t h =
     rw (lt-ltb 0 (suc (suc (suc (suc (suc (suc (length t))))))) (omega arith), lt-ltb 1 (suc (suc (suc (suc (suc (suc (length t))))))) (omega arith), lt-ltb 2 (suc (suc (suc (suc (suc (suc (length t))))))) (omega arith), le-ltb (suc (suc (suc (suc (suc (suc (length t))))))) (6 + (hi * 256 + lo)) (omega arith))
@@ -74,48 +74,67 @@ alone [] = refl
 alone (o ∷ c) = refl
 
 -- a part found passes its test, and stays
-module _ {s : List ℕ} {q : Part} where
-  capable : (c : List ℕ) → Found s q c → length c ≤ 13 → is_capability q ≡ true
-  unfolding is_capability
-  capable c h k = rw (h.len, le-leb (length c) 13 k) (either q.held) where
-    either : (t : Bool) → cond t true true ≡ true
-    either true = refl
-    either false = refl
+module _ (s : List ℕ) where
+  nothing-left : (o : ℕ) (c : List ℕ) → o ∷ c ≡ [] → ⊥
+  nothing-left o c e = let z : ◌≡◌ {A = ℕ} 0 1 = cc in absurd (omega arith)
 
-  secure : (c : List ℕ) → Found s q c → 2 ≤ length c → length c ≤ 8 → is_security q ≡ true
-  unfolding is_security some
-  secure [] h k m = absurd (omega arith)
-  secure (o ∷ c) h k m = rw (h.held, h.len, le-leb 2 (length (o ∷ c)) k, le-leb (length (o ∷ c)) 8 m)
+  capable : (q : Option Part) (c : List ℕ) → Found s q c → length c ≤ 13 → is_capability q ≡ true
+  unfolding is_capability Found
+  capable None c h k = refl
+  capable (Some p) c h k = rw (h.len, le-leb (length c) 13 k)
 
-  stays : (c : List ℕ) → Found s q c → cut_of s (filled_of q) ≡ c
-  unfolding filled_of cut_of
-  stays [] h = rw h.len
-  stays (o ∷ c) h = rw (ne_eqb q.len 0 (λ e. omega (arith, h.len))) h.cut
+  secure : (q : Option Part) (c : List ℕ) → Found s q c → 2 ≤ length c → length c ≤ 8 → is_security q ≡ true
+  unfolding is_security Found
+  secure None c h k m = let z : length c ≡ 0 = ap length h in absurd (omega arith)
+  secure (Some p) c h k m = rw (h.len, le-leb 2 (length c) k, le-leb (length c) 8 m)
+
+  found-cut : (q : Option Part) (c : List ℕ) → Found s q c → cut_of s q ≡ c
+  unfolding cut_of Found
+  found-cut None c h = sym h
+  found-cut (Some p) c h = h.cut
+
+  stays : (q : Option Part) (c : List ℕ) → Found s q c → cut_of s (filled_of q) ≡ c
+  unfolding filled_of cut_of Found
+  stays None c h = sym h
+  stays (Some p) [] h = rw h.len
+  stays (Some p) (o ∷ c) h = rw (ne_eqb p.len 0 (λ e. omega (arith, h.len))) h.cut
 
   -- one of as many octets as its kind has, or none, is all of it
-  led : (k : ℕ) (c : List ℕ) → Found s q c → (c ≡ []) ⊎ (length c ≡ suc k) → cut_of s (leading_of (suc k) q) ≡ c
-  unfolding leading_of cut_of
-  led k c h (inl e) = let z : q.len ≡ 0 = h.len ∙ ap length e in rw (z, e, lt-ltb 0 (suc k) (omega arith))
-  led k c h (inr e) = let z : q.len ≡ suc k = h.len ∙ e in rw (z, le-ltb (suc k) (suc k) (omega arith)) (rw z at h.cut)
+  led : (k : ℕ) (q : Option Part) (c : List ℕ) → Found s q c → (c ≡ []) ⊎ (length c ≡ suc k) → cut_of s (leading_of (suc k) q) ≡ c
+  unfolding leading_of cut_of Found
+  led k None c h x = sym h
+  led k (Some p) c h (inl e) = let z : p.len ≡ 0 = h.len ∙ ap length e in rw (z, e, lt-ltb 0 (suc k) (omega arith))
+  led k (Some p) c h (inr e) = let z : p.len ≡ suc k = h.len ∙ e in rw (z, le-ltb (suc k) (suc k) (omega arith)) (rw z at h.cut)
 
   -- a GUTI begins with its F2
-  opening-octet : (o : ℕ) (c : List ℕ) → Found s q (o ∷ c) → get_or s q.start 0 ≡ o
-  unfolding some cut_of
-  opening-octet o c h =
-      let cut : take q.len (drop q.start s) ≡ o ∷ c = rw h.held at h.cut in
-      ap (λ (k : ℕ). get_or s k 0) (sym (add-zero q.start))
-      ∙ sym (get_or-take q.len (drop q.start s) 0 0 (omega (arith, h.len)) ∙ get_or-drop q.start s 0 0)
-      ∙ ap (λ (l : List ℕ). get_or l 0 0) cut
+  opening-octet : (p : Part) (o : ℕ) (c : List ℕ) → Cut s (o ∷ c) p → get_or s p.start 0 ≡ o
+  opening-octet p o c h =
+      ap (λ (k : ℕ). get_or s k 0) (sym (add-zero p.start))
+      ∙ sym (get_or-take p.len (drop p.start s) 0 0 (omega (arith, h.len)) ∙ get_or-drop p.start s 0 0)
+      ∙ ap (λ (l : List ℕ). get_or l 0 0) h.cut
 
-  identified-back : (c : List ℕ) → Found s q c → (c ≡ []) ⊎ ((get_or c 0 0 ≡ 0xF2) × (length c ≡ 11)) → cut_of s (guti_in s q) ≡ c
-  unfolding guti_in cut_of
-  identified-back [] h x = go (eqb (get_or s q.start 0) 0xF2)
+  identified-back : (q : Option Part) (c : List ℕ) → Found s q c → (c ≡ []) ⊎ ((get_or c 0 0 ≡ 0xF2) × (length c ≡ 11)) → cut_of s (guti_in s q) ≡ c
+  unfolding guti_in cut_of Found
+  identified-back None c h x = sym h
+  identified-back (Some p) [] h x = go (eqb (get_or s p.start 0) 0xF2)
     where
-      go : (b : Bool) → cut_of s (cond b (leading_of 11 q) absent) ≡ []
-      go true = led 10 [] h (inl refl)
+      go : (b : Bool) → cut_of s (cond b (leading_of 11 (Some p)) None) ≡ []
+      go true = led 10 (Some p) [] h (inl refl)
       go false = refl
-  identified-back (o ∷ c) h (inl e) = let z : ◌≡◌ {A = ℕ} 0 1 = cc in absurd (omega arith)
-  identified-back (o ∷ c) h (inr (e, l)) = let z : get_or s q.start 0 ≡ 0xF2 = opening-octet o c h ∙ e in rw z (led 10 (o ∷ c) h (inr l))
+  identified-back (Some p) (o ∷ c) h (inl e) = absurd (nothing-left o c e)
+  identified-back (Some p) (o ∷ c) h (inr (e, l)) = let z : get_or s p.start 0 ≡ 0xF2 = opening-octet p o c h ∙ e in rw z (led 10 (Some p) (o ∷ c) h (inr l))
+
+  -- octets in a part are not none
+  found-some : (q : Option Part) (o : ℕ) (c : List ℕ) → Found s q (o ∷ c) → (p : Part) × ((q ≡ Some p) × Cut s (o ∷ c) p)
+  unfolding Found
+  found-some None o c h = absurd (nothing-left o c h)
+  found-some (Some p) o c h = (p, (refl, h))
+
+  -- and one of none is left out
+  found-none : (q : Option Part) → Found s q [] → filled_of q ≡ None
+  unfolding filled_of Found
+  found-none None h = refl
+  found-none (Some p) h = rw h.len
 
 -- elements that say what the fields say, in any order, others among them
 pub record Tells (i : List Item) (f : Fields) : Type 0 where
@@ -177,11 +196,11 @@ module _ (f : Fields) (fit : Fit f) (i : List Item) (tells : Tells i f) where
   unfolding opening opening_head length_in
   long = let h : n ≤ 64 = size.1 in omega arith
 
-  begins : head_of s ≡ Whole
+  begins : head_of s ≡ (Ok tt)
   unfolding opening opening_head length_in
   begins = let h : n ≤ 64 = size.1 in head-whole (f.ksi * 16 + f.regtype) (n / 256) (n % 256) (f.identity ++ laid i) (omega (arith, length-append f.identity (laid i)))
 
-  whole : end_of l ≡ Whole
+  whole : end_of l ≡ (Ok tt)
   whole = rw (← opened) (ends (opening f) i tells.read)
 
   opens : (is_fourth (get_or s 3 0) ≡ true) × (is_identity (get_or s 6 0) n ≡ true)
@@ -190,74 +209,70 @@ module _ (f : Fields) (fit : Fit f) (i : List Item) (tells : Tells i f) where
 
   keeps : is_request s n l ≡ true
   unfolding is_request
-  keeps = rw (opens.0, opens.1, capable f.capability found-capability fit.capability, secure f.security found-security fit.security.0 fit.security.1)
+  keeps = rw (opens.0, opens.1, capable s (first_of 0x10 l) f.capability found-capability fit.capability, secure s (first_of 0x2E l) f.security found-security fit.security.0 fit.security.1)
 
   -- the level reads as its elements have it
   level : (d : ℕ) → read_to d s ≡ asked_by (inside_of d s) s n l
   unfolding ended_by elements_reading
   level d = rw (by-head d s, begins, long)
 
-  same-identity : cut_of s (record { held = true; start = 6; len = n }) ≡ f.identity
-  unfolding cut_of opening opening_head length_in
+  same-identity : part_of s (record { start = 6; len = n }) ≡ f.identity
+  unfolding opening opening_head length_in
   same-identity = take_at f.identity (laid i) n refl
 
   halves : (get_or s 3 0 % 16 ≡ f.regtype) × (get_or s 3 0 / 16 ≡ f.ksi)
   unfolding opening opening_head
   halves = let h : f.regtype ≤ 3 = fit.regtype.1 in (omega arith, omega arith)
 
-  told : told_by s (asking.Request (request_in s n l)) ≡ says f
+  told : told_by s (Ok (request_in s n l)) ≡ says f
   unfolding told_by request_in
   told =
       rw (
         halves.0,
         halves.1,
         same-identity,
-        stays f.capability found-capability,
-        found-security.cut,
-        found-last.cut,
-        led 1 f.uplink found-uplink fit.uplink,
-        led 1 f.sessions found-sessions fit.sessions,
-        identified-back f.additional found-additional fit.additional,
-        led 0 f.status found-status fit.status,
-        stays f.attach found-attach,
+        stays s _ f.capability found-capability,
+        found-cut s _ f.security found-security,
+        found-cut s _ f.last found-last,
+        led s 1 _ f.uplink found-uplink fit.uplink,
+        led s 1 _ f.sessions found-sessions fit.sessions,
+        identified-back s _ f.additional found-additional fit.additional,
+        led s 0 _ f.status found-status fit.status,
+        stays s _ f.attach found-attach,
       )
 
   -- "Reading a request back accepts, elements in any order": others among them change nothing of what is said
   pub any_order : (d : ℕ) → says_in 0x71 i ≡ [] → told_by s (read_to d s) ≡ says f
-  unfolding asked_by judged_of ended_by filled_of
-  any_order d none = ap (told_by s) (level d ∙ rw (rw none at (finds 0x71).len, whole, keeps)) ∙ told
+  unfolding asked_by judged_of ended_by
+  any_order d none = ap (told_by s) (level d ∙ rw (found-none s (first_of 0x71 l) (rw none at (finds 0x71)), whole, keeps)) ∙ told
 
   -- with octets in a 71, what they say
   module _ (o : ℕ) (c : List ℕ) (has : says_in 0x71 i ≡ o ∷ c) where
+    pub found : (p : Part) × ((first_of 0x71 l ≡ Some p) × Cut s (o ∷ c) p)
+    found = found-some s (first_of 0x71 l) o c (rw has at (finds 0x71))
+
     abbrev p : Part
-    p = first_of 0x71 l
+    p = found.0
 
-    found : Found s p (o ∷ c)
-    found = rw has at (finds 0x71)
-
-    held : p.held ≡ true
-    unfolding some
-    held = found.held
-
-    full : filled_of p ≡ p
+    full : filled_of (first_of 0x71 l) ≡ Some p
     unfolding filled_of
-    full = rw (ne_eqb p.len 0 (λ e. omega (arith, found.len)))
+    full = rw found.1.0 (rw (ne_eqb p.len 0 (λ e. omega (arith, found.1.1.len))))
 
     around : (d : ℕ) → read_to d s ≡ inside_of d s p
     unfolding asked_by
-    around d = level d ∙ rw full (chosen p.held _ _ held ∙ rw (whole, keeps) (kept-around (inside_of d s p)))
+    around d = level d ∙ rw (full, whole, keeps) (kept-around (inside_of d s p))
 
     pub inner : (d : ℕ) → read_to (suc d) s ≡ shifted p.start (read_to d (o ∷ c))
     unfolding inside_of
-    inner d = around (suc d) ∙ ap (λ (t : List ℕ). shifted p.start (read_to d t)) found.cut
+    inner d = around (suc d) ∙ ap (λ (t : List ℕ). shifted p.start (read_to d t)) found.1.1.cut
 
     -- "and reads the inner one as the message"
     pub inner-told : (d : ℕ) → told_by s (read_to (suc d) s) ≡ told_by (o ∷ c) (read_to d (o ∷ c))
     inner-told d =
         ap (told_by s) (inner d)
-        ∙ told-shifted s p held (read_to d (o ∷ c)) (rw found.len (reads-below d (o ∷ c)))
-        ∙ ap (λ (t : List ℕ). told_by t (read_to d (o ∷ c))) found.cut
+        ∙ told-shifted s p (read_to d (o ∷ c)) (rw found.1.1.len (reads-below d (o ∷ c)))
+        ∙ ap (λ (t : List ℕ). told_by t (read_to d (o ∷ c))) found.1.1.cut
 
-    pub too-deep : read_to 0 s ≡ asking.Deep (p.start - 3)
+    pub too-deep : read_to 0 s ≡ Err (unread.Deep (p.start - 3))
     unfolding inside_of
     too-deep = around 0

@@ -2,16 +2,16 @@
 -- message; then bad ones, each with its fault. By computation. Assumes nothing.
 use Prim.Native.Nat.{ℕ}
 use mathlib.Core.Path.{◌≡◌, refl}
-use mathlib.Core.Bool.{true}
 use mathlib.Core.List.{List, [], ◌∷◌, ◌++◌}
+use Rattle.std.specs.Prelude.{Option, Some, None, Ok, Err}
 use Rattle.octets.specs.declared.Fault.TheVariants.{Cut, Kind, Past}
 use Rattle.octets.specs.declared.Part.{Part}
 use Rattle.octets.specs.Element as octets
 use Rattle.messages.specs.Message as messages
 use Rattle.request.specs.Layout.{Fields, length_in, with_lead, item_octets, laid, opening_head, opening, items_of, octets_of, clear, nested, shown, levels_of, layout}
-use Rattle.request.specs.Reading.{head_of, is_fourth, is_identity, is_security, is_capability, is_request, filled_of, leading_of, guti_in, request_in, judged_of, cut_of}
+use Rattle.request.specs.Reading.{head_of, is_fourth, is_identity, is_security, is_capability, is_request, filled_of, leading_of, guti_in, request_in, judged_of, cut_of, refused}
 use Rattle.request.specs.Levels.{shifted_part, shifted_request, shifted, around_of, asked_by, message_by, read_to, asking_of}
-use Rattle.request.specs.declared.Asking.TheVariants as asking
+use Rattle.request.specs.declared.Unread.TheVariants as unread
 
 -- capability 00, security F0 F0, last area 00 F2 20 with code 00 00 2A
 abbrev saying : ℕ → ℕ → List ℕ → List ℕ → List ℕ → Fields
@@ -84,28 +84,31 @@ unfolding layout levels_of shown clear nested octets_of opening opening_head ite
 fourth-laid = refl
 
 -- so many octets from an offset on
-abbrev part : ℕ → ℕ → Part
-part start len = record { held = true; start = start; len = len }
+abbrev place : ℕ → ℕ → Part
+place start len = record { start = start; len = len }
 
-pub first_read : asking_of first ≡ asking.Request (record { regtype = 1; ksi = 7; identity = part 6 9; capability = octets.absent; security = part 17 2; last = octets.absent; uplink = octets.absent; sessions = octets.absent; additional = octets.absent; status = octets.absent; attach = octets.absent })
+abbrev part : ℕ → ℕ → Option Part
+part start len = Some (place start len)
+
+pub first_read : asking_of first ≡ Ok (record { regtype = 1; ksi = 7; identity = place 6 9; capability = None; security = part 17 2; last = None; uplink = None; sessions = None; additional = None; status = None; attach = None })
 unfolding asking_of read_to message_by head_of asked_by around_of judged_of request_in filled_of leading_of guti_in cut_of shifted shifted_request shifted_part is_request is_fourth is_identity is_capability is_security messages.opened_by messages.ended_by octets.elements_from octets.elements_of octets.joined octets.element_of octets.read_as octets.size_of octets.contents_of octets.contents_by octets.lead_of octets.lead_by octets.format_of octets.first_of octets.end_of
 first_read = refl
 
-pub second-read : asking_of second ≡ asking.Request (record { regtype = 1; ksi = 3; identity = part 30 11; capability = part 43 1; security = part 46 2; last = part 49 6; uplink = octets.absent; sessions = octets.absent; additional = octets.absent; status = octets.absent; attach = octets.absent })
+pub second-read : asking_of second ≡ Ok (record { regtype = 1; ksi = 3; identity = place 30 11; capability = part 43 1; security = part 46 2; last = part 49 6; uplink = None; sessions = None; additional = None; status = None; attach = None })
 unfolding asking_of read_to message_by head_of asked_by around_of judged_of request_in filled_of leading_of guti_in cut_of shifted shifted_request shifted_part is_request is_fourth is_identity is_capability is_security messages.opened_by messages.ended_by octets.elements_from octets.elements_of octets.joined octets.element_of octets.read_as octets.size_of octets.contents_of octets.contents_by octets.lead_of octets.lead_by octets.format_of octets.first_of octets.end_of
 second-read = refl
 
-pub third-read : asking_of third ≡ asking.Request (record { regtype = 2; ksi = 3; identity = part 30 11; capability = part 43 1; security = part 46 2; last = part 49 6; uplink = part 57 2; sessions = part 61 2; additional = octets.absent; status = octets.absent; attach = octets.absent })
+pub third-read : asking_of third ≡ Ok (record { regtype = 2; ksi = 3; identity = place 30 11; capability = part 43 1; security = part 46 2; last = part 49 6; uplink = part 57 2; sessions = part 61 2; additional = None; status = None; attach = None })
 unfolding asking_of read_to message_by head_of asked_by around_of judged_of request_in filled_of leading_of guti_in cut_of shifted shifted_request shifted_part is_request is_fourth is_identity is_capability is_security messages.opened_by messages.ended_by octets.elements_from octets.elements_of octets.joined octets.element_of octets.read_as octets.size_of octets.contents_of octets.contents_by octets.lead_of octets.lead_by octets.format_of octets.first_of octets.end_of
 third-read = refl
 
-pub fourth-read : asking_of fourth ≡ asking.Request (record { regtype = 3; ksi = 7; identity = part 6 11; capability = octets.absent; security = part 19 2; last = octets.absent; uplink = octets.absent; sessions = octets.absent; additional = octets.absent; status = octets.absent; attach = octets.absent })
+pub fourth-read : asking_of fourth ≡ Ok (record { regtype = 3; ksi = 7; identity = place 6 11; capability = None; security = part 19 2; last = None; uplink = None; sessions = None; additional = None; status = None; attach = None })
 unfolding asking_of read_to message_by head_of asked_by around_of judged_of request_in filled_of leading_of guti_in cut_of shifted shifted_request shifted_part is_request is_fourth is_identity is_capability is_security messages.opened_by messages.ended_by octets.elements_from octets.elements_of octets.joined octets.element_of octets.read_as octets.size_of octets.contents_of octets.contents_by octets.lead_of octets.lead_by octets.format_of octets.first_of octets.end_of
 fourth-read = refl
 
 -- with a key set and no 71 it is read as it stands, and so it is behind an empty 71, whatever another one holds
-pub flat-read : (asking_of whole ≡ asking.Request (record { regtype = 1; ksi = 3; identity = part 6 11; capability = part 19 1; security = part 22 2; last = part 25 6; uplink = octets.absent; sessions = octets.absent; additional = octets.absent; status = octets.absent; attach = octets.absent }))
-    × (asking_of (clear_part ++ (0x71 ∷ 0x00 ∷ 0x00 ∷ 0x71 ∷ 0x00 ∷ 0x1F ∷ whole)) ≡ asking.Request (record { regtype = 1; ksi = 3; identity = part 6 11; capability = octets.absent; security = part 19 2; last = octets.absent; uplink = octets.absent; sessions = octets.absent; additional = octets.absent; status = octets.absent; attach = octets.absent }))
+pub flat-read : (asking_of whole ≡ Ok (record { regtype = 1; ksi = 3; identity = place 6 11; capability = part 19 1; security = part 22 2; last = part 25 6; uplink = None; sessions = None; additional = None; status = None; attach = None }))
+    × (asking_of (clear_part ++ (0x71 ∷ 0x00 ∷ 0x00 ∷ 0x71 ∷ 0x00 ∷ 0x1F ∷ whole)) ≡ Ok (record { regtype = 1; ksi = 3; identity = place 6 11; capability = None; security = part 19 2; last = None; uplink = None; sessions = None; additional = None; status = None; attach = None }))
 unfolding asking_of read_to message_by head_of asked_by around_of judged_of request_in filled_of leading_of guti_in cut_of shifted shifted_request shifted_part is_request is_fourth is_identity is_capability is_security messages.opened_by messages.ended_by octets.elements_from octets.elements_of octets.joined octets.element_of octets.read_as octets.size_of octets.contents_of octets.contents_by octets.lead_of octets.lead_by octets.format_of octets.first_of octets.end_of
 flat-read = (refl, refl)
 
@@ -114,14 +117,14 @@ abbrev threefold : List ℕ
 threefold = clear_part ++ (0x71 ∷ 0x00 ∷ 0x37 ∷ second)
 
 -- the inner one cut, and at the same octet an element past the end; an inner reject; a container that says more than there is
-pub faults-told : (asking_of (clear_part ++ (0x71 ∷ 0x00 ∷ 0x02 ∷ 0x7E ∷ 0x00 ∷ 0x16 ∷ [])) ≡ asking.Bad Cut 26)
-    × (asking_of (clear_part ++ (0x71 ∷ 0x00 ∷ 0x04 ∷ 0x7E ∷ 0x00 ∷ 0x44 ∷ 0x0B ∷ [])) ≡ asking.Bad Kind 26)
-    × (asking_of (clear_part ++ (0x71 ∷ 0x00 ∷ 0x20 ∷ whole)) ≡ asking.Bad Past 21)
+pub faults-told : (asking_of (clear_part ++ (0x71 ∷ 0x00 ∷ 0x02 ∷ 0x7E ∷ 0x00 ∷ 0x16 ∷ [])) ≡ refused Cut 26)
+    × (asking_of (clear_part ++ (0x71 ∷ 0x00 ∷ 0x04 ∷ 0x7E ∷ 0x00 ∷ 0x44 ∷ 0x0B ∷ [])) ≡ refused Kind 26)
+    × (asking_of (clear_part ++ (0x71 ∷ 0x00 ∷ 0x20 ∷ whole)) ≡ refused Past 21)
 unfolding asking_of read_to message_by head_of asked_by around_of judged_of request_in filled_of leading_of guti_in cut_of shifted shifted_request shifted_part is_request is_fourth is_identity is_capability is_security messages.opened_by messages.ended_by octets.elements_from octets.elements_of octets.joined octets.element_of octets.read_as octets.size_of octets.contents_of octets.contents_by octets.lead_of octets.lead_by octets.format_of octets.first_of octets.end_of
 faults-told = (refl, refl, refl)
 
 -- a third level, and a fault behind it; what it holds is not looked at
-pub levels-told : (asking_of threefold ≡ asking.Deep 45) × (asking_of (threefold ++ (0x05 ∷ [])) ≡ asking.Bad Past 79)
-    × (asking_of (clear_part ++ (0x71 ∷ 0x00 ∷ 0x19 ∷ (clear_part ++ (0x71 ∷ 0x00 ∷ 0x01 ∷ 0xFF ∷ [])))) ≡ asking.Deep 45)
+pub levels-told : (asking_of threefold ≡ Err (unread.Deep 45)) × (asking_of (threefold ++ (0x05 ∷ [])) ≡ refused Past 79)
+    × (asking_of (clear_part ++ (0x71 ∷ 0x00 ∷ 0x19 ∷ (clear_part ++ (0x71 ∷ 0x00 ∷ 0x01 ∷ 0xFF ∷ [])))) ≡ Err (unread.Deep 45))
 unfolding asking_of read_to message_by head_of asked_by around_of judged_of request_in filled_of leading_of guti_in cut_of shifted shifted_request shifted_part is_request is_fourth is_identity is_capability is_security messages.opened_by messages.ended_by octets.elements_from octets.elements_of octets.joined octets.element_of octets.read_as octets.size_of octets.contents_of octets.contents_by octets.lead_of octets.lead_by octets.format_of octets.first_of octets.end_of
 levels-told = (refl, refl, refl)

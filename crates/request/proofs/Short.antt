@@ -21,27 +21,28 @@ use Rattle.identity.specs.Identity.{Identities, is_from_s1, is_from_native, iden
 use Rattle.identity.specs.Choice.{chosen_of, is_mapped_by}
 use Rattle.identity.proofs.Mapped.{mapped-long}
 use Rattle.identity.proofs.Editions.{mapped-by, identity-by, best-chosen}
-use Rattle.request.specs.Layout.{octets_of, clear, nested, shown, levels_of, layout}
+use Rattle.request.specs.Layout.{Fields, octets_of, clear, nested, shown, levels_of, layout}
 use Rattle.request.specs.Writing.{octets2, last_of, uplink_of, sessions_of, saying_of, identities_of, additional_of, status_of, attach_of, says_by, says_of, fields_of, request_of, no_s1}
 use Rattle.request.specs.Steps.{sized_of}
 use Rattle.request.proofs.Pieces.{sized-most, long, nested-long, take_short, chosen-short}
 use Rattle.request.proofs.Ranges.{ready}
 
 -- by the octets of the identity, of 40 and 50, and of 77, 2B and 70
-module _ (regtype ksi : ℕ) (i c s l u v g t m : List ℕ) (a b d : ℕ) (hi : length i ≤ a) (hc : length c ≤ 13) (hs : length s ≤ 8) (hl : length l ≤ 6)
-    (hu : sized_of 2 (length u) + sized_of 2 (length v) ≤ b) (hr : sized_of 3 (length g) + (sized_of 2 (length t) + sized_of 3 (length m)) ≤ d) where
-  clear-short : length (octets_of (saying_of regtype ksi i [] s [] [] [] g t m)) ≤ 16 + a + d
-  clear-short = omega (arith, long regtype ksi i [] s [] [] [] g t m, sized-most 2 (length s))
+module _ (f : Fields) (a b d : ℕ) (hi : length f.identity ≤ a) (hc : length f.capability ≤ 13) (hs : length f.security ≤ 8) (hl : length f.last ≤ 6)
+    (hu : sized_of 2 (length f.uplink) + sized_of 2 (length f.sessions) ≤ b) (hr : sized_of 3 (length f.additional) + (sized_of 2 (length f.status) + sized_of 3 (length f.attach)) ≤ d) where
+  clear-short : length (octets_of (clear f)) ≤ 16 + a + d
+  unfolding clear
+  clear-short = omega (arith, long (clear f), sized-most 2 (length f.security))
 
-  whole-short : length (octets_of (saying_of regtype ksi i c s l u v g t m)) ≤ 38 + a + b + d
-  whole-short = omega (arith, long regtype ksi i c s l u v g t m, sized-most 2 (length s), sized-most 2 (length c), sized-most 1 (length l))
+  whole-short : length (octets_of f) ≤ 38 + a + b + d
+  whole-short = omega (arith, long f, sized-most 2 (length f.security), sized-most 2 (length f.capability), sized-most 1 (length f.last))
 
-  layout-short : length (layout (saying_of regtype ksi i c s l u v g t m)) ≤ 57 + (a + a) + b + (d + d)
-  unfolding layout levels_of nested shown clear saying_of
-  layout-short = go (eqb ksi 7) where
-    go : (x : Bool) → length (nested (cond x 0 1) (cond x (saying_of regtype ksi i [] s [] [] [] g t m) (saying_of regtype ksi i c s l u v g t m))) ≤ 57 + (a + a) + b + (d + d)
+  layout-short : length (layout f) ≤ 57 + (a + a) + b + (d + d)
+  unfolding layout levels_of nested shown
+  layout-short = go (eqb f.ksi 7) where
+    go : (x : Bool) → length (nested (cond x 0 1) (cond x (clear f) f)) ≤ 57 + (a + a) + b + (d + d)
     go true = omega (arith, clear-short)
-    go false = omega (arith, nested-long regtype ksi i c s l u v g t m refl refl, clear-short, whole-short)
+    go false = omega (arith, nested-long f refl refl, clear-short, whole-short)
 
 within-short : (b : Bool) (k : ℕ) (c : List ℕ) → length c ≤ k → length (cond b [] c) ≤ k
 within-short true k c h = omega arith
@@ -89,10 +90,10 @@ module _ (r : Record) (access : ℕ) (s1 : S1) (attach : List ℕ) (valid : vali
   record-short : (a b d : ℕ) → length (identity_of r.hot.dev.edition h) ≤ a → sized_of 2 (length (uplink_of own)) + sized_of 2 (length (sessions_of own)) ≤ b
       → sized_of 3 (length (additional_of r.hot.dev.edition h)) + (sized_of 2 (length (status_of r.hot.dev.edition h)) + sized_of 3 (length (attach_of r.hot.dev.edition h attach))) ≤ d
       → length (request_of r access s1 attach) ≤ 57 + (a + a) + b + (d + d)
-  unfolding request_of fields_of says_of says_by last_of
+  unfolding request_of fields_of says_of says_by last_of saying_of
   record-short a b d hi hu hr =
       let all = ready r access valid state in
-      layout-short _ _ _ _ _ _ _ _ _ _ _ a b d hi (omega (arith, take_short r.hot.dev.capability r.capability, all.capability.1))
+      layout-short _ a b d hi (omega (arith, take_short r.hot.dev.capability r.capability, all.capability.1))
       (omega (arith, take_short r.hot.dev.security r.security, all.security.1))
       (within-short (eqb own.visited 0) 6 (octets3 own.lastnet ++ octets3 own.lastcode) (omega arith)) hu hr
 

@@ -1,5 +1,5 @@
 -- The writing of a request: what a record says in it, the checks, and the buffer. Assumes nothing.
-use Rattle.std.specs.Prelude.{ℕ, ◌/◌, ◌%◌, Bool, cond, List, [], ◌∷◌, ◌++◌, length, take, replicate, leb, eqb}
+use Rattle.std.specs.Prelude.{ℕ, ◌/◌, ◌%◌, Bool, cond, List, [], ◌∷◌, ◌++◌, length, take, replicate, leb, eqb, Result, Ok, Err}
 use Rattle.laws.specs.Upto.{over}
 use Rattle.networks.specs.Networks.{octets3}
 use Rattle.record.specs.Tests.{both, either}
@@ -14,7 +14,6 @@ use Rattle.record.specs.declared.Answer.TheVariants.{Taken, Range, State, Short}
 use Rattle.identity.specs.declared.S1.{S1}
 use Rattle.identity.specs.Identity.{Identities, source_of, identity_of, is_mapped, best_guti}
 use Rattle.request.specs.Layout.{Fields, layout}
-use Rattle.request.specs.declared.Written.{Written}
 
 -- F2 and ten octets for each access
 unfoldable pub gutis_of : List ℕ → List ℕ → List ℕ
@@ -112,8 +111,9 @@ writing_answer r access s1 attach n =
     State)
     Range
 
-unfoldable pub written_of : Record → ℕ → S1 → List ℕ → ℕ → Written
-written_of r access s1 attach n = record { answer = writing_answer r access s1 attach n; len = cond (is_taken (writing_answer r access s1 attach n)) (length (request_of r access s1 attach)) 0 }
+-- how many octets are written, or why none are
+unfoldable pub written_of : Record → ℕ → S1 → List ℕ → ℕ → Result ℕ Answer
+written_of r access s1 attach n = cond (is_taken (writing_answer r access s1 attach n)) (Ok (length (request_of r access s1 attach))) (Err (writing_answer r access s1 attach n))
 
 -- "a longer one keeps its further octets"
 unfoldable pub buffer_of : Record → ℕ → S1 → List ℕ → List ℕ → List ℕ

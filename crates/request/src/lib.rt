@@ -1,8 +1,9 @@
 // The registration request: its writing and its reading.
 #![tactic(auto)]
 
-use octets::{Fault, Part};
-use record::Answer;
+ghost use Rattle.std.specs.Prelude.{◌≡◌};
+
+use octets::{Malformed, Part};
 
 mod laying;
 mod reading;
@@ -18,28 +19,30 @@ pub struct Request {
     pub regtype: u8,
     pub ksi: u8,
     pub identity: Part,
-    pub capability: Part,
-    pub security: Part,
-    pub last: Part,
-    pub uplink: Part,
-    pub sessions: Part,
-    pub additional: Part,
-    pub status: Part,
-    pub attach: Part,
+    pub capability: Option<Part>,
+    pub security: Option<Part>,
+    pub last: Option<Part>,
+    pub uplink: Option<Part>,
+    pub sessions: Option<Part>,
+    pub additional: Option<Part>,
+    pub status: Option<Part>,
+    pub attach: Option<Part>,
 }
 
-// A refusal is a fault and its offset, a third level and its 71's offset, or a well-formed request that breaks the layout.
+// Why octets are not read as a request: a fault and its offset, a third level and its 71's offset, or a well-formed request that breaks the layout.
 #[derive(Clone, Copy)]
-pub enum Asking {
-    Request(Request),
-    Bad(Fault, usize),
+pub enum Unread {
+    Malformed(Malformed),
     Deep(usize),
     Unfit,
 }
 
-// An answer, and how many octets were written.
-#[derive(Clone, Copy)]
-pub struct Written {
-    pub answer: Answer,
-    pub len: usize,
+impl From<Malformed> for Unread {
+    ghost use Rattle.request.specs.declared.Unread.TheVariants as unread;
+
+    ghost from_gives = { λ m u. u ≡ unread.Malformed m };
+
+    fn from(m: Malformed) -> Unread {
+        Unread::Malformed(m)
+    }
 }

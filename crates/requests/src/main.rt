@@ -2,7 +2,7 @@
 #![tactic(auto)]
 
 use sent::{length, lent, long, sent};
-use shapes::{bits, facts, fresh, made, message, short, varied};
+use shapes::{Shape, bits, facts, fresh, made, message, short, varied};
 use std::io;
 
 mod sent;
@@ -28,10 +28,12 @@ fn sucis(rt: &impl Print) -> io::Result<()> {
 
 // With room for the clear part, or for it and the container's lead, none of it is written.
 fn gutis(rt: &impl Print) -> io::Result<()> {
-    let mut s = short();
-    s.guti0 = 1;
-    s.visited = 1;
-    s.ksi = 3;
+    let mut s = Shape {
+        guti0: 1,
+        visited: 1,
+        ksi: 3,
+        ..short()
+    };
     sent(rt, made(s), 0, 55)?;
     sent(rt, made(s), 0, 56)?;
     sent(rt, made(s), 1, 54)?;
@@ -57,13 +59,15 @@ fn gutis(rt: &impl Print) -> io::Result<()> {
 
 // A mobility update of session 5, then without uplink data; sessions 1, 8 and 15; none at all.
 fn updates(rt: &impl Print) -> io::Result<()> {
-    let mut s = short();
-    s.guti0 = 1;
-    s.visited = 1;
-    s.ksi = 3;
-    s.regtype = 2;
-    s.uplink = 0x0020;
-    s.sessions = 0x0020;
+    let mut s = Shape {
+        guti0: 1,
+        visited: 1,
+        ksi: 3,
+        regtype: 2,
+        uplink: 0x0020,
+        sessions: 0x0020,
+        ..short()
+    };
     sent(rt, made(s), 0, 63)?;
     sent(rt, made(s), 1, 64)?;
     sent(rt, made(s), 0, 62)?;
@@ -81,11 +85,13 @@ fn updates(rt: &impl Print) -> io::Result<()> {
 
 // With ngKSI 7 an update shows neither status, and an initial registration never does; the longest request.
 fn bare(rt: &impl Print) -> io::Result<()> {
-    let mut s = short();
-    s.visited = 1;
-    s.regtype = 3;
-    s.uplink = 0x0020;
-    s.sessions = 0x0020;
+    let mut s = Shape {
+        visited: 1,
+        regtype: 3,
+        uplink: 0x0020,
+        sessions: 0x0020,
+        ..short()
+    };
     sent(rt, made(s), 0, 19)?;
     s.guti0 = 1;
     s.regtype = 2;
@@ -105,8 +111,10 @@ fn bare(rt: &impl Print) -> io::Result<()> {
 
 // Types 0 and 4, and session 0.
 fn outside(rt: &impl Print) -> io::Result<()> {
-    let mut s = short();
-    s.regtype = 0;
+    let mut s = Shape {
+        regtype: 0,
+        ..short()
+    };
     sent(rt, made(s), 0, 19)?;
     s.regtype = 4;
     sent(rt, made(s), 0, 19)?;
@@ -128,12 +136,14 @@ fn refusals(rt: &impl Print) -> io::Result<()> {
 
 // A router from 4G that holds both GUTIs, by edition 2: 77, 2B and 70 behind 2E, and in a container too; with each of them left out.
 fn mapped(rt: &impl Print) -> io::Result<()> {
-    let mut s = short();
-    s.edition = 2;
-    s.guti0 = 1;
-    s.guti1 = 1;
-    s.net = 0x00F220;
-    s.visited = 1;
+    let mut s = Shape {
+        edition: 2,
+        guti0: 1,
+        guti1: 1,
+        net: 0x00F220,
+        visited: 1,
+        ..short()
+    };
     lent(rt, made(s), 0, facts(15), 2, 43)?;
     lent(rt, made(s), 0, facts(15), 24, 65)?;
     lent(rt, made(s), 1, facts(15), 24, 66)?;
@@ -151,8 +161,10 @@ fn mapped(rt: &impl Print) -> io::Result<()> {
 
 // Without one of the facts, by edition 1, in an update, or by edition 3 with a GUTI that is not native, it is the request of before.
 fn unmapped(rt: &impl Print) -> io::Result<()> {
-    let mut s = short();
-    s.edition = 2;
+    let mut s = Shape {
+        edition: 2,
+        ..short()
+    };
     lent(rt, made(s), 0, facts(14), 24, 19)?;
     lent(rt, made(s), 0, facts(13), 24, 19)?;
     lent(rt, made(s), 0, facts(11), 24, 19)?;
@@ -172,13 +184,15 @@ fn unmapped(rt: &impl Print) -> io::Result<()> {
 
 // The longest request, in a buffer of its length and in one that is too short; an attach message too long, used or not.
 fn longest(rt: &impl Print) -> io::Result<()> {
-    let mut s = short();
-    s.edition = 3;
-    s.guti0 = 1;
-    s.capability = 13;
-    s.security = 8;
-    s.visited = 1;
-    s.ksi = 0;
+    let mut s = Shape {
+        edition: 3,
+        guti0: 1,
+        capability: 13,
+        security: 8,
+        visited: 1,
+        ksi: 0,
+        ..short()
+    };
     long(rt, made(s), 65000, 130119)?;
     long(rt, made(s), 65000, 130118)?;
     long(rt, made(s), 65001, 130200)?;
@@ -189,8 +203,10 @@ fn longest(rt: &impl Print) -> io::Result<()> {
 
 // Editions 0 and 4.
 fn unknown(rt: &impl Print) -> io::Result<()> {
-    let mut s = short();
-    s.edition = 0;
+    let mut s = Shape {
+        edition: 0,
+        ..short()
+    };
     sent(rt, made(s), 0, 19)?;
     s.edition = 4;
     sent(rt, made(s), 0, 19)
@@ -206,10 +222,8 @@ fn one(rt: &impl Print, i: u32) -> io::Result<()> {
 }
 
 fn many(rt: &impl Print) -> io::Result<()> {
-    let mut i = 0;
-    while i < 320 {
+    for i in 0..320 {
         one(rt, i)?;
-        i += 1;
     }
     Ok(())
 }

@@ -1,79 +1,52 @@
 // Requests written into buffers of AA, and the buffers printed.
 use crate::shapes::facts;
 use identity::S1;
-use record::Record;
-use std::io;
+use record::{Answer, Record};
+use std::{fmt, io};
 
-fn say(rt: &impl Print, s: &[u8]) -> io::Result<()> {
-    rt.write_all(s)
-}
+// An attach message that others read.
+const ATTACH: [u8; 24] = [
+    0x07, 0x41, 0x71, 0x0B, 0xF6, 0x00, 0xF1, 0x10, 0x80, 0x01, 0xC5, 0xD1, 0xC2, 0xB3, 0xA4, 0x02,
+    0xF0, 0x70, 0x00, 0x04, 0x02, 0x01, 0xD0, 0x11,
+];
 
-fn number(rt: &impl Print, n: u64) -> io::Result<()> {
-    print!(rt; " {n}")
-}
+// Octets as they are printed, each behind a space.
+#[derive(Clone, Copy)]
+struct Octets<'a>(&'a [u8]);
 
-fn digit(x: u8) -> u8 {
-    let y = x % 16;
-    if y < 10 { 48 + y } else { 55 + y }
-}
-
-fn octet(rt: &impl Print, x: u8) -> io::Result<()> {
-    let two = [32, digit(x / 16), digit(x)];
-    say(rt, &two)
-}
-
-fn octets(rt: &impl Print, s: &[u8]) -> io::Result<()> {
-    let mut i = 0;
-    while i < s.len() {
-        octet(rt, s[i])?;
-        i += 1;
+impl fmt::Display for Octets<'_> {
+    fn fmt<W: fmt::Write>(&self, f: &mut fmt::Formatter<W>) -> fmt::Result {
+        for octet in self.0 {
+            write!(f, " {octet:02X}")?;
+        }
+        Ok(())
     }
-    say(rt, b"\n")
 }
 
-// The answer and the length, then the whole buffer.
+// The answer and the length, then octets of the buffer.
+fn tell(rt: &impl Print, name: &str, w: Result<usize, Answer>, shown: &[u8]) -> io::Result<()> {
+    let (answer, len) = match w {
+        Ok(len) => (Answer::Taken, len),
+        Err(answer) => (answer, 0),
+    };
+    let answer = record::number(answer);
+    let octets = Octets(shown);
+    println!(rt; "{name} {answer} length {len}:{octets}")
+}
+
 fn send(
     rt: &impl Print,
-    r: Record,
+    r: &Record,
     access: u8,
     s1: S1,
     attach: &[u8],
     buffer: &mut [u8],
 ) -> io::Result<()> {
     let w = request::write(r, access, s1, attach, buffer);
-    let answer = w.answer;
-    say(rt, b"answer")?;
-    number(rt, record::number(answer) as u64)?;
-    say(rt, b" length")?;
-    number(rt, w.len as u64)?;
-    say(rt, b":")?;
-    octets(rt, buffer)
+    tell(rt, "answer", w, buffer)
 }
 
-// With an attach message of n octets: one of 24 that others read, else filler.
-fn hand(
-    rt: &impl Print,
-    r: Record,
-    access: u8,
-    s1: S1,
-    n: usize,
-    buffer: &mut [u8],
-) -> io::Result<()> {
-    if n == 24 {
-        let attach = [
-            0x07, 0x41, 0x71, 0x0B, 0xF6, 0x00, 0xF1, 0x10, 0x80, 0x01, 0xC5, 0xD1, 0xC2, 0xB3,
-            0xA4, 0x02, 0xF0, 0x70, 0x00, 0x04, 0x02, 0x01, 0xD0, 0x11,
-        ];
-        return send(rt, r, access, s1, &attach, buffer);
-    }
-    let filler = [0x55u8; 300];
-    if n <= 300 {
-        send(rt, r, access, s1, &filler[..n], buffer)?;
-    }
-    Ok(())
-}
-
-// A buffer of AA with this many octets of room.
+// With an attach message of n octets, into a buffer of AA with this many octets of room.
 pub fn lent(
     rt: &impl Print,
     r: Record,
@@ -82,11 +55,17 @@ pub fn lent(
     n: usize,
     room: usize,
 ) -> io::Result<()> {
+    let filler = [0x55u8; 300];
     let mut buffer = [0xAAu8; 1000];
-    if room <= 1000 {
-        hand(rt, r, access, s1, n, &mut buffer[..room])?;
+    if n > filler.len() || room > buffer.len() {
+        return Ok(());
     }
-    Ok(())
+    let attach = if n == ATTACH.len() {
+        &ATTACH[..]
+    } else {
+        &filler[..n]
+    };
+    send(rt, &r, access, s1, attach, &mut buffer[..room])
 }
 
 pub fn sent(rt: &impl Print, r: Record, access: u8, room: usize) -> io::Result<()> {
@@ -97,40 +76,27 @@ pub fn sent(rt: &impl Print, r: Record, access: u8, room: usize) -> io::Result<(
 pub fn length(r: Record, access: u8, s1: S1, n: usize) -> usize {
     let filler = [0x55u8; 300];
     let mut buffer = [0u8; 1000];
-    if n <= 300 {
-        let w = request::write(r, access, s1, &filler[..n], &mut buffer);
-        return w.len;
+    if n > filler.len() {
+        return 0;
     }
-    0
+    request::write(&r, access, s1, &filler[..n], &mut buffer).unwrap_or(0)
 }
 
-// The first octets of a long buffer.
-fn first(rt: &impl Print, s: &[u8]) -> io::Result<()> {
-    if s.len() >= 60 {
-        octets(rt, &s[..60])?;
-    }
-    Ok(())
+// Of a long buffer the first octets alone: what is written of such requests is compared elsewhere.
+fn first(s: &[u8]) -> &[u8] {
+    if s.len() < 60 { s } else { &s[..60] }
 }
 
-// The answer and the length; what is written of such requests is compared elsewhere.
-fn tell(rt: &impl Print, r: Record, attach: &[u8], buffer: &mut [u8]) -> io::Result<()> {
+fn send_long(rt: &impl Print, r: &Record, attach: &[u8], buffer: &mut [u8]) -> io::Result<()> {
     let w = request::write(r, 0, facts(31), attach, buffer);
-    let answer = w.answer;
-    say(rt, b"long answer")?;
-    number(rt, record::number(answer) as u64)?;
-    say(rt, b" length")?;
-    number(rt, w.len as u64)?;
-    say(rt, b":")?;
-    first(rt, buffer)
+    tell(rt, "long answer", w, first(buffer))
 }
 
 pub fn long(rt: &impl Print, r: Record, n: usize, room: usize) -> io::Result<()> {
     let attach = [0x55u8; 65001];
     let mut buffer = [0xAAu8; 130200];
-    if n <= 65001 {
-        if room <= 130200 {
-            tell(rt, r, &attach[..n], &mut buffer[..room])?;
-        }
+    if n > attach.len() || room > buffer.len() {
+        return Ok(());
     }
-    Ok(())
+    send_long(rt, &r, &attach[..n], &mut buffer[..room])
 }

@@ -1,6 +1,6 @@
 // The records whose requests are written, and what is lent at a write.
 use identity::S1;
-use record::{Access, Hot, Record};
+use record::{Access, Device, Hot, Record};
 
 // What a record holds: octets of the SUCI and the capabilities; of each access the same numbers.
 #[derive(Clone, Copy)]
@@ -21,88 +21,72 @@ pub struct Shape {
 }
 
 fn access(s: Shape, guti: u8) -> Access {
-    let mut a = record::new_access(4);
-    a.t3510 = 1;
-    a.net = s.net;
-    a.guti = guti;
-    a.visited = s.visited;
-    a.lastnet = 0x00F220;
-    a.lastcode = 0x00002A;
-    a.ksi = s.ksi;
-    a.regtype = s.regtype;
-    a.uplink = s.uplink;
-    a.sessions = s.sessions;
-    a.equivalents = s.equivalents;
-    a
+    Access {
+        t3510: 1,
+        net: s.net,
+        guti,
+        visited: s.visited,
+        lastnet: 0x00F220,
+        lastcode: 0x00002A,
+        ksi: s.ksi,
+        regtype: s.regtype,
+        uplink: s.uplink,
+        sessions: s.sessions,
+        equivalents: s.equivalents,
+        ..record::new_access(4)
+    }
 }
 
 // A record with no card, in state 0.
 pub fn fresh() -> Record {
-    let capability = [0u8; 1];
-    let security = [0u8; 2];
-    let m = record::fresh(3, 3, 3, &capability, &security);
-    m.made
+    record::fresh(3, 3, 3, &[0], &[0, 0]).made
 }
 
 fn numbers(s: Shape) -> Hot {
-    let r = fresh();
-    let mut h = r.hot;
-    let mut d = h.dev;
-    d.card = 1;
-    d.suci = s.suci;
-    d.capability = s.capability;
-    d.security = s.security;
-    d.edition = s.edition;
-    h.dev = d;
-    let a0 = access(s, s.guti0);
-    let a1 = access(s, s.guti1);
-    h.a0 = a0;
-    h.a1 = a1;
-    h
+    let hot = fresh().hot;
+    Hot {
+        dev: Device {
+            card: 1,
+            suci: s.suci,
+            capability: s.capability,
+            security: s.security,
+            edition: s.edition,
+            ..hot.dev
+        },
+        a0: access(s, s.guti0),
+        a1: access(s, s.guti1),
+    }
 }
 
 // 01 00 F1 10 F0 FF 00 00, then 07 and on.
 fn suci() -> [u8; 64] {
-    let mut s = [0u8; 64];
-    s[0] = 0x01;
-    s[2] = 0xF1;
-    s[3] = 0x10;
-    s[4] = 0xF0;
-    s[5] = 0xFF;
-    let mut i = 8;
-    while i < 64 {
-        s[i] = (i - 1) as u8;
-        i += 1;
+    let mut s = [0; 64];
+    s[..8].copy_from_slice(&[0x01, 0x00, 0xF1, 0x10, 0xF0, 0xFF, 0x00, 0x00]);
+    for (i, x) in s[8..].iter_mut().enumerate() {
+        *x = (i + 7) as u8;
     }
     s
 }
 
 // 00 and on.
 fn capability() -> [u8; 13] {
-    let mut s = [0u8; 13];
-    let mut i = 1;
-    while i < 13 {
-        s[i] = i as u8;
-        i += 1;
+    let mut s = [0; 13];
+    for (i, x) in s.iter_mut().enumerate() {
+        *x = i as u8;
     }
     s
 }
 
 // The GUTIs are of the networks 00 F1 10 and 00 F2 20; each access's equivalent is the other's.
 pub fn made(s: Shape) -> Record {
-    let suci = suci();
-    let capability = capability();
     let security = [0xF0, 0xF0, 0x01, 0x02, 0x03, 0x04, 0x05, 0x06];
-    let mut r = record::empty(numbers(s), suci, capability, security);
-    let guti0 = [0x00, 0xF1, 0x10, 0x80, 0x01, 0xC5, 0xD1, 0xC2, 0xB3, 0xA4];
-    let guti1 = [0x00, 0xF2, 0x20, 0x11, 0x22, 0x83, 0x0A, 0x0B, 0x0C, 0x0D];
-    r.guti0 = guti0;
-    r.guti1 = guti1;
-    let equivalents0 = [0x00F220u32; 15];
-    let equivalents1 = [0x00F110u32; 15];
-    r.equivalents0 = equivalents0;
-    r.equivalents1 = equivalents1;
-    r
+    Record {
+        guti0: [0x00, 0xF1, 0x10, 0x80, 0x01, 0xC5, 0xD1, 0xC2, 0xB3, 0xA4],
+        guti1: [0x00, 0xF2, 0x20, 0x11, 0x22, 0x83, 0x0A, 0x0B, 0x0C, 0x0D],
+        equivalents0: [0x00F220; 15],
+        equivalents1: [0x00F110; 15],
+        ..record::empty(numbers(s), suci(), capability(), security)
+    }
 }
 
 // What is lent from S1 mode, by the bits of a number: registered there, told of N26, security context, valid 4G-GUTI, native.
@@ -172,11 +156,9 @@ pub fn bits(i: u32) -> u8 {
 }
 
 pub fn message(i: u32) -> usize {
-    if i % 17 < 3 {
-        return (i % 17) as usize;
+    match i % 17 {
+        n @ 0..3 => n as usize,
+        16 => 290,
+        _ => 24,
     }
-    if i % 17 == 16 {
-        return 290;
-    }
-    24
 }

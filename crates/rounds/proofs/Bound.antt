@@ -18,8 +18,7 @@ use Rattle.validity.proofs.Good.{Good}
 use Rattle.validity.proofs.Valid.{valid-good}
 use Rattle.deadlines.specs.declared.Slot.{Slot}
 use Rattle.deadlines.specs.declared.Table.{Table}
-use Rattle.deadlines.specs.declared.Named.{Named}
-use Rattle.deadlines.specs.declared.Named.TheVariants.{Timer, Nothing}
+use Rattle.std.proofs.Common.{Option, Some, None}
 use Rattle.deadlines.specs.Clock.{clock}
 use Rattle.deadlines.specs.Slots.{started, stopped, rolled, due}
 use Rattle.deadlines.specs.Asking.{slot_at, asked, after_ask, Ten, Furthest}
@@ -112,12 +111,12 @@ abbrev pub behind_out : ℕ → Record → Table → ℕ → Table
 behind_out now r t at = armed now (tolds_in (out_of r at).reply) (after_ask now t)
 
 -- nothing is named where no slot is due
-none_named : (now : ℕ) (t : Table) → Ten t → ((i : ℕ) → i < 10 → bits now t i ≡ 0) → asked now t ≡ Nothing
+none_named : (now : ℕ) (t : Table) → Ten t → ((i : ℕ) → i < 10 → bits now t i ≡ 0) → asked now t ≡ None
 none_named now t h f = go (asked now t) refl
   where
-    go : (x : Named) → asked now t ≡ x → asked now t ≡ Nothing
-    go Nothing e = e
-    go (Timer j) e =
+    go : (x : Option ℕ) → asked now t ≡ x → asked now t ≡ None
+    go None e = e
+    go (Some j) e =
         let w : Furthest now (after_ask now t) j = furthest-named now t j e in
         absurd (true≢false (sym w.ripe ∙ (ap (due now) (slot-ask now t j h w.below) ∙ none-due now (slot_at t j) (f j w.below))))
 
@@ -127,7 +126,7 @@ module _ (r : Record) (t : Table) (now : ℕ) (n : now < 2 ^ 32) (h : Matched r 
   bit-asked i l = rw (slot-ask now t i h.ten l) (bit-rolled now (slot_at t i) n (h.tidy i l).ends)
 
   -- and names nobody again
-  asked-again : asked now t ≡ Nothing → asked now (after_ask now t) ≡ Nothing
+  asked-again : asked now t ≡ None → asked now (after_ask now t) ≡ None
   asked-again e =
       none_named now (after_ask now t) (ask-matched now r t h).ten
       (λ i l. bit-asked i l ∙ bit-none now (slot_at t i) (rw (slot-ask now t i h.ten l) at (nothing-due now t e i l)))
@@ -136,7 +135,7 @@ module _ (r : Record) (t : Table) (now : ℕ) (n : now < 2 ^ 32) (h : Matched r 
   abbrev FiredAt : ℕ → Type 0
   FiredAt at = Fired at (bits now t) (last_in r) (bits now (behind_out now r t at)) (last_in (out_of r at).next)
 
-  fired : (at : ℕ) → asked now t ≡ Timer at → FiredAt at
+  fired : (at : ℕ) → asked now t ≡ Some at → FiredAt at
   fired at e = record {
     below = w.below;
     bits = (bits_most now t, lasts-most r, bits_most now u, lasts-most (out_of r at).next);
@@ -159,30 +158,30 @@ module _ (r : Record) (t : Table) (now : ℕ) (n : now < 2 ^ 32) (h : Matched r 
       slot i l = slot-armed now (out_of r at).reply (after_ask now t) i (ask-matched now r t h).ten l
 
   -- takes its slot's chance, and gives none
-  pub named-chance : (at : ℕ) → asked now t ≡ Timer at → chances now r t at ≡ 1
+  pub named-chance : (at : ℕ) → asked now t ≡ Some at → chances now r t at ≡ 1
   named-chance at e =
       let o : FiredAt at = fired at e in
       omega (arith, o.ripe, chances-due now r t at o.below, chances-most now r t at o.below)
 
-  pub out-gone : (at : ℕ) → asked now t ≡ Timer at → chances now (out_of r at).next (behind_out now r t at) at ≡ 0
+  pub out-gone : (at : ℕ) → asked now t ≡ Some at → chances now (out_of r at).next (behind_out now r t at) at ≡ 0
   out-gone at e = chance-gone (bits now t) (last_in r) _ (last_in (out_of r at).next) at (fired at e).below (fired at e)
 
-  pub out_stays : (at : ℕ) → asked now t ≡ Timer at → (i : ℕ) → i < 10 → chances now (out_of r at).next (behind_out now r t at) i ≤ chances now r t i
+  pub out_stays : (at : ℕ) → asked now t ≡ Some at → (i : ℕ) → i < 10 → chances now (out_of r at).next (behind_out now r t at) i ≤ chances now r t i
   out_stays at e i l = chance-stays at (bits now t) (last_in r) _ (last_in (out_of r at).next) (fired at e) i l
 
-  falls : (at : ℕ) → asked now t ≡ Timer at → count (chances now (out_of r at).next (behind_out now r t at)) < count (chances now r t)
+  falls : (at : ℕ) → asked now t ≡ Some at → count (chances now (out_of r at).next (behind_out now r t at)) < count (chances now r t)
   falls at e = count-falls (chances now r t) _ (out_stays at e) at (fired at e).below (omega (arith, named-chance at e, out-gone at e))
 
 -- a round of up to n timers leaves nobody due where n slots at most have a chance
-pub quiet : (n : ℕ) (r : Record) (t : Table) (now : ℕ) → now < 2 ^ 32 → Matched r t → count (chances now r t) ≤ n → asked now (round_to n now r t).table ≡ Nothing
+pub quiet : (n : ℕ) (r : Record) (t : Table) (now : ℕ) → now < 2 ^ 32 → Matched r t → count (chances now r t) ≤ n → asked now (round_to n now r t).table ≡ None
 unfolding round_to round_by behind
 quiet zero r t now b h m = none_named now t h.ten (λ i l. omega (arith, chances-due now r t i l, count_none (chances now r t) m i l))
 quiet (suc n) r t now b h m = go (asked now t) refl (λ q u k w. quiet n q u now b k w)
   where
-    go : (x : Named) → asked now t ≡ x → ((q : Record) (u : Table) → Matched q u → count (chances now q u) ≤ n → asked now (round_to n now q u).table ≡ Nothing)
-        → asked now (round_by (round_to n now) now x r (after_ask now t)).table ≡ Nothing
-    go Nothing e f = asked-again r t now b h e
-    go (Timer at) e f =
+    go : (x : Option ℕ) → asked now t ≡ x → ((q : Record) (u : Table) → Matched q u → count (chances now q u) ≤ n → asked now (round_to n now q u).table ≡ None)
+        → asked now (round_by (round_to n now) now x r (after_ask now t)).table ≡ None
+    go None e f = asked-again r t now b h e
+    go (Some at) e f =
         f (out_of r at).next (behind_out now r t at) (out-matched now at r (after_ask now t) (ask-matched now r t h)) (omega (arith, falls r t now b h at e))
 
 -- a valid record's flags are 0 or 1
@@ -214,5 +213,5 @@ matches r t z v f h e = record {
 
 -- ten timers: after a round nobody is due
 pub round-quiet : (r : Record) (t : Table) (now : ℕ) → now < 2 ^ 32 → Sized r → valid_of r ≡ true → fits_to r.hot t.held ≡ true → Ten t → ((i : ℕ) → i < 10 → (slot_at t i).ends < 2 ^ 32)
-    → asked now (round_to 10 now r t).table ≡ Nothing
+    → asked now (round_to 10 now r t).table ≡ None
 round-quiet r t now b z v f h e = quiet 10 r t now b (matches r t z v f h e) (count_most (chances now r t) (chances-most now r t))

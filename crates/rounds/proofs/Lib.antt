@@ -1,6 +1,5 @@
--- Laws of a round: what a timer's running does, the numbers laid, and timer after timer; that the table stays fit, that each timer changes the record, that a round ends and names each slot once at most; the theorem of rounds over true time,
+-- Laws of a round: the numbers laid, and timer after timer; that the table stays fit, that each timer changes the record, that a round ends and names each slot once at most; the theorem of rounds over true time,
 -- and that nobody oversleeps.
-pub mod Running
 pub mod Laying
 pub mod Goes
 pub mod Fit

@@ -7,8 +7,7 @@ use native.Mathlib.Omega.{arith}
 use Rattle.record.specs.declared.Record.{Record}
 use Rattle.ranges.specs.Valid.{valid_of}
 use Rattle.validity.specs.Sized.{Sized}
-use Rattle.deadlines.specs.declared.Named.{Named}
-use Rattle.deadlines.specs.declared.Named.TheVariants.{Timer, Nothing}
+use Rattle.std.proofs.Common.{Option, Some, None}
 use Rattle.deadlines.specs.declared.Table.{Table}
 use Rattle.deadlines.specs.Asking.{slot_at, asked, after_ask, Ten}
 use Rattle.deadlines.specs.Arming.{fits_to}
@@ -33,9 +32,9 @@ unfolding round_to round_by behind
 absent i zero r t now b l h m = tt
 absent i (suc n) r t now b l h m = go (asked now t) refl (λ q u k w. absent i n q u now b l k w)
   where
-    go : (x : Named) → asked now t ≡ x → ((q : Record) (u : Table) → Matched q u → chances now q u i ≡ 0 → Absent i (round_to n now q u).ran) → Absent i (round_by (round_to n now) now x r (after_ask now t)).ran
-    go Nothing e f = tt
-    go (Timer at) e f = (
+    go : (x : Option ℕ) → asked now t ≡ x → ((q : Record) (u : Table) → Matched q u → chances now q u i ≡ 0 → Absent i (round_to n now q u).ran) → Absent i (round_by (round_to n now) now x r (after_ask now t)).ran
+    go None e f = tt
+    go (Some at) e f = (
       λ q. omega (arith, rw q at (named-chance r t now b h at e)),
       f (out_of r at).next (behind_out now r t at) (out-matched now at r (after_ask now t) (ask-matched now r t h)) (omega (arith, out_stays r t now b h at e i l)),
     )
@@ -45,9 +44,9 @@ unfolding round_to round_by behind
 ran-once zero r t now b h = tt
 ran-once (suc n) r t now b h = go (asked now t) refl (λ q u k. ran-once n q u now b k)
   where
-    go : (x : Named) → asked now t ≡ x → ((q : Record) (u : Table) → Matched q u → Once (round_to n now q u).ran) → Once (round_by (round_to n now) now x r (after_ask now t)).ran
-    go Nothing e f = tt
-    go (Timer at) e f =
+    go : (x : Option ℕ) → asked now t ≡ x → ((q : Record) (u : Table) → Matched q u → Once (round_to n now q u).ran) → Once (round_by (round_to n now) now x r (after_ask now t)).ran
+    go None e f = tt
+    go (Some at) e f =
         let k : Matched (out_of r at).next (behind_out now r t at) = out-matched now at r (after_ask now t) (ask-matched now r t h) in
         (absent at n (out_of r at).next (behind_out now r t at) now b (furthest-named now t at e).below k (out-gone r t now b h at e), f (out_of r at).next (behind_out now r t at) k)
 

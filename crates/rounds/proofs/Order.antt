@@ -10,8 +10,7 @@ use Rattle.record.specs.declared.Record.{Record}
 use Rattle.turns.specs.declared.Told.{Told}
 use Rattle.deadlines.specs.declared.Slot.{Slot}
 use Rattle.deadlines.specs.declared.Table.{Table}
-use Rattle.deadlines.specs.declared.Named.{Named}
-use Rattle.deadlines.specs.declared.Named.TheVariants.{Timer, Nothing}
+use Rattle.std.proofs.Common.{Option, Some, None}
 use Rattle.deadlines.specs.Clock.{clock}
 use Rattle.deadlines.specs.Clock as clocks
 use Rattle.deadlines.specs.Slots.{rolled, due}
@@ -32,7 +31,7 @@ late : (τ : ℕ) (l : Life) (y : Slot) → Going τ l y → due (clock τ) (rol
 late τ still y w e = absurd (due-right τ still y w e)
 late τ (runs d) y w e = ⊎_elim (λ f. (d, refl, f.0, f.2)) (λ f. absurd (true≢false (sym e ∙ f.1))) w
 
-pub named-earliest : (τ : ℕ) (ls : ℕ → Life) (t : Table) → Ten t → ((i : ℕ) → i < 10 → Going τ (ls i) (slot_at t i)) → (j : ℕ) → asked (clock τ) t ≡ Timer j → Earliest ls j
+pub named-earliest : (τ : ℕ) (ls : ℕ → Life) (t : Table) → Ten t → ((i : ℕ) → i < 10 → Going τ (ls i) (slot_at t i)) → (j : ℕ) → asked (clock τ) t ≡ Some j → Earliest ls j
 named-earliest τ ls t h w j e = record {
   deadline = own.0;
   own = own.1;
@@ -65,10 +64,10 @@ module _ (τ : ℕ) where
   abbrev Goes : (Record → Table → Round) → Type 0
   Goes on = (ls : ℕ → Life) (r : Record) (t : Table) → Matched r t → ((i : ℕ) → i < 10 → Going τ (ls i) (slot_at t i)) → InOrder ls τ (on r t).ran
 
-  more : (on : Record → Table → Round) → Goes on → (k : Named) (ls : ℕ → Life) (r : Record) (t : Table) → asked (clock τ) t ≡ k → Matched r t → ((i : ℕ) → i < 10 → Going τ (ls i) (slot_at t i)) → InOrder ls τ (round_by on (clock τ) k r (after_ask (clock τ) t)).ran
+  more : (on : Record → Table → Round) → Goes on → (k : Option ℕ) (ls : ℕ → Life) (r : Record) (t : Table) → asked (clock τ) t ≡ k → Matched r t → ((i : ℕ) → i < 10 → Going τ (ls i) (slot_at t i)) → InOrder ls τ (round_by on (clock τ) k r (after_ask (clock τ) t)).ran
   unfolding round_by behind
-  more on f Nothing ls r t e h w = tt
-  more on f (Timer j) ls r t e h w = (named-earliest τ ls t h.ten w j e, f on-lives (out_of r j).next v (out-matched (clock τ) j r (after_ask (clock τ) t) (ask-matched (clock τ) r t h)) (λ i l. looked-going τ (on-lives i) (slot_at v i) (next i τ l j (ls i) r t h (w i l) e).1))
+  more on f None ls r t e h w = tt
+  more on f (Some j) ls r t e h w = (named-earliest τ ls t h.ten w j e, f on-lives (out_of r j).next v (out-matched (clock τ) j r (after_ask (clock τ) t) (ask-matched (clock τ) r t h)) (λ i l. looked-going τ (on-lives i) (slot_at v i) (next i τ l j (ls i) r t h (w i l) e).1))
     where
       v : Table
       v = armed (clock τ) (tolds_in (out_of r j).reply) (after_ask (clock τ) t)

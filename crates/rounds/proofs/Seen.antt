@@ -10,8 +10,7 @@ use Rattle.record.specs.declared.Record.{Record}
 use Rattle.turns.specs.declared.Told.TheVariants.{Stopped}
 use Rattle.rules.specs.declared.Reply.{Reply}
 use Rattle.deadlines.specs.declared.Table.{Table}
-use Rattle.deadlines.specs.declared.Named.{Named}
-use Rattle.deadlines.specs.declared.Named.TheVariants.{Timer, Nothing}
+use Rattle.std.proofs.Common.{Option, Some, None}
 use Rattle.deadlines.specs.Clock.{clock}
 use Rattle.deadlines.specs.Slots.{rolled, due}
 use Rattle.deadlines.specs.Asking.{slot_at, asked, after_ask, Ten}
@@ -59,7 +58,7 @@ module _ (i τ : ℕ) where
 
 module _ (i τ : ℕ) (small : i < 10) where
   -- none is due
-  ended : (l : Life) (r : Record) (t : Table) → Matched r t → Looked τ l (slot_at t i) → asked (clock τ) t ≡ Nothing → Went i τ l (round.over r t)
+  ended : (l : Life) (r : Record) (t : Table) → Matched r t → Looked τ l (slot_at t i) → asked (clock τ) t ≡ None → Went i τ l (round.over r t)
   unfolding life_in life_after ran_moments
   ended l r t h w e =
       let n : due (clock τ) (rolled (clock τ) (slot_at t i)) ≡ false = rw (slot-ask (clock τ) t i h.ten small) at (nothing-due (clock τ) t e i small) in
@@ -67,9 +66,9 @@ module _ (i τ : ℕ) (small : i < 10) where
       record { kept = (o.0, tt); matched = h; lives = o.1 }
 
   -- slot i itself was named: it was due, and its event stops it
-  own : (l : Life) (r : Record) (t : Table) (j : ℕ) → Matched r t → Going τ l (slot_at t i) → asked (clock τ) t ≡ Timer j → j ≡ i → Right l (named τ) × (told_at (tolds_in (out_of r j).reply) i ≡ Stopped)
+  own : (l : Life) (r : Record) (t : Table) (j : ℕ) → Matched r t → Going τ l (slot_at t i) → asked (clock τ) t ≡ Some j → j ≡ i → Right l (named τ) × (told_at (tolds_in (out_of r j).reply) i ≡ Stopped)
   own l r t j h w e q =
-      let f : asked (clock τ) t ≡ Timer i = e ∙ ap Timer q in
+      let f : asked (clock τ) t ≡ Some i = e ∙ ap Some q in
       let d : due (clock τ) (rolled (clock τ) (slot_at t i)) ≡ true = rw (slot-ask (clock τ) t i h.ten small) at (furthest-named (clock τ) t i f).ripe in
       let n : (slot_at t i).held ≡ 0 → ⊥ = λ z. due-held (clock τ) (rolled (clock τ) (slot_at t i)) d (rolled-held (clock τ) (slot_at t i) (h.tidy i small).bit ∙ z) in
       let o : told_at (tolds_in (out_of r i).reply) i ≡ Stopped = out-stops r i small (ne_eqb (get_or (flags_of r.hot) i 0) 0 (λ z. n (fit_at r.hot t.held i h.fits small ∙ z))) in
@@ -86,7 +85,7 @@ module _ (i τ : ℕ) (small : i < 10) where
   ask-looked l r t h w = rw (slot-ask (clock τ) t i h.ten small) (asked-looked τ l (slot_at t i) (h.tidy i small).ends w)
 
   -- one timer of a round, its own or another's
-  pub next : (j : ℕ) (l : Life) (r : Record) (t : Table) → Matched r t → Going τ l (slot_at t i) → asked (clock τ) t ≡ Timer j → Kept l (ran_moments i τ (record { at = j; reply = (out_of r j).reply } ∷ [])) × Looked τ (life_in l (ran_moments i τ (record { at = j; reply = (out_of r j).reply } ∷ []))) (slot_at (armed (clock τ) (tolds_in (out_of r j).reply) (after_ask (clock τ) t)) i)
+  pub next : (j : ℕ) (l : Life) (r : Record) (t : Table) → Matched r t → Going τ l (slot_at t i) → asked (clock τ) t ≡ Some j → Kept l (ran_moments i τ (record { at = j; reply = (out_of r j).reply } ∷ [])) × Looked τ (life_in l (ran_moments i τ (record { at = j; reply = (out_of r j).reply } ∷ []))) (slot_at (armed (clock τ) (tolds_in (out_of r j).reply) (after_ask (clock τ) t)) i)
   unfolding life_in life_after ran_moments
   next j l r t h w e = go (eqb j i) refl
     where
@@ -106,13 +105,13 @@ module _ (i τ : ℕ) (small : i < 10) where
       go false q = rw q ((tt, tt), armed-looked l p u m.ten (ask-looked l r t h w))
 
   abbrev Goes : (Record → Table → Round) → Type 0
-  Goes on = (l : Life) (r : Record) (t : Table) → Matched r t → Looked τ l (slot_at t i) → asked (clock τ) (on r t).table ≡ Nothing → Went i τ l (on r t)
+  Goes on = (l : Life) (r : Record) (t : Table) → Matched r t → Looked τ l (slot_at t i) → asked (clock τ) (on r t).table ≡ None → Went i τ l (on r t)
 
   -- one more, if the round goes right from there on
-  more : (on : Record → Table → Round) → Goes on → (k : Named) (l : Life) (r : Record) (t : Table) → asked (clock τ) t ≡ k → Matched r t → Going τ l (slot_at t i) → asked (clock τ) (round_by on (clock τ) k r (after_ask (clock τ) t)).table ≡ Nothing → Went i τ l (round_by on (clock τ) k r (after_ask (clock τ) t))
+  more : (on : Record → Table → Round) → Goes on → (k : Option ℕ) (l : Life) (r : Record) (t : Table) → asked (clock τ) t ≡ k → Matched r t → Going τ l (slot_at t i) → asked (clock τ) (round_by on (clock τ) k r (after_ask (clock τ) t)).table ≡ None → Went i τ l (round_by on (clock τ) k r (after_ask (clock τ) t))
   unfolding round_by behind
-  more on f Nothing l r t e h w z = ended l r (after_ask (clock τ) t) (ask-matched (clock τ) r t h) (ask-looked l r t h w) z
-  more on f (Timer j) l r t e h w z =
+  more on f None l r t e h w z = ended l r (after_ask (clock τ) t) (ask-matched (clock τ) r t h) (ask-looked l r t h w) z
+  more on f (Some j) l r t e h w z =
       record {
         kept = rw (one_more i τ x g.ran (over τ ∷ [])) (kept-both l (ran_moments i τ (x ∷ [])) (seen i τ g) o.0 n.kept);
         matched = n.matched;
@@ -139,6 +138,6 @@ module _ (i τ : ℕ) (small : i < 10) where
   goes zero l r t h w z = ended l r t h w z
   goes (suc n) l r t h w z = more (round_to n (clock τ)) (goes n) (asked (clock τ) t) l r t refl h (looked-going τ l (slot_at t i) w) z
 
-  pub first : (n : ℕ) (l : Life) (r : Record) (t : Table) → Matched r t → Going τ l (slot_at t i) → asked (clock τ) (round_to (suc n) (clock τ) r t).table ≡ Nothing → Went i τ l (round_to (suc n) (clock τ) r t)
+  pub first : (n : ℕ) (l : Life) (r : Record) (t : Table) → Matched r t → Going τ l (slot_at t i) → asked (clock τ) (round_to (suc n) (clock τ) r t).table ≡ None → Went i τ l (round_to (suc n) (clock τ) r t)
   unfolding round_to
   first n l r t h w z = more (round_to n (clock τ)) (goes n) (asked (clock τ) t) l r t refl h w z

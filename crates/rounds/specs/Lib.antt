@@ -1,4 +1,4 @@
--- An asking round, its replies as numbers, the same on lent parts, what the ten timers live through, and in which order they are named.
+-- An asking round, its replies as numbers, the same from where it stands, what the ten timers live through, and in which order they are named.
 pub mod Words
 pub mod Round
 pub mod Going

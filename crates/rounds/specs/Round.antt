@@ -1,5 +1,5 @@
 -- "An asking round asks and runs the due timer until none is left" (document 02, R-13). Assumes nothing.
-use Rattle.std.specs.Prelude.{ℕ, zero, suc, cond, List, [], ◌∷◌, ltb, length, get_or}
+use Rattle.std.specs.Prelude.{ℕ, zero, suc, cond, Option, Some, None, Result, Ok, Err, List, [], ◌∷◌, ltb, length, get_or}
 use Rattle.record.specs.Answers.{is_taken}
 use Rattle.record.specs.declared.Record.{Record}
 use Rattle.record.specs.declared.Answer.{Answer}
@@ -13,8 +13,6 @@ use Rattle.ranges.specs.Valid.{valid_of}
 use Rattle.events.specs.declared.Outcome.{Outcome}
 use Rattle.events.specs.Step.{advance_of}
 use Rattle.deadlines.specs.declared.Table.{Table}
-use Rattle.deadlines.specs.declared.Named.{Named}
-use Rattle.deadlines.specs.declared.Named.TheVariants.{Timer, Nothing}
 use Rattle.deadlines.specs.Asking.{asked, after_ask}
 use Rattle.deadlines.specs.Arming.{numbers, accesses, tolds_of, armed, fits_to}
 use Rattle.rounds.specs.declared.Rounded.{Rounded}
@@ -44,9 +42,9 @@ unfoldable pub behind : Ran → Round → Round
 behind x g = record { next = g.next; table = g.table; ran = x ∷ g.ran }
 
 -- none is left; or the one that is due runs out, its reply arms the table at the round's time, and the round goes on
-unfoldable pub round_by : (Record → Table → Round) → ℕ → Named → Record → Table → Round
-round_by on now Nothing r t = over r t
-round_by on now (Timer at) r t = behind (record { at = at; reply = (out_of r at).reply }) (on (out_of r at).next (armed now (tolds_in (out_of r at).reply) t))
+unfoldable pub round_by : (Record → Table → Round) → ℕ → Option ℕ → Record → Table → Round
+round_by on now None r t = over r t
+round_by on now (Some at) r t = behind (record { at = at; reply = (out_of r at).reply }) (on (out_of r at).next (armed now (tolds_in (out_of r at).reply) t))
 
 -- at most n timers of a round; ten are as many as there can be (proofs/Bound)
 unfoldable pub round_to : ℕ → ℕ → Record → Table → Round
@@ -67,6 +65,10 @@ round_for r t now n = round_to (most_of (round_answer r t n)) now r t
 
 unfoldable pub round_of : Record → Table → ℕ → ℕ → Rounded
 round_of r t now n = record { answer = round_answer r t n; count = length (round_for r t now n).ran; next = (round_for r t now n).next; table = (round_for r t now n).table }
+
+-- how many timers ran out, or the refusal
+unfoldable pub result_of : Rounded → Result ℕ Answer
+result_of o = cond (is_taken o.answer) (Ok o.count) (Err o.answer)
 
 -- the list after it: each timer's numbers from the front on, in the order in which they ran out
 unfoldable pub words_after : Record → Table → ℕ → List ℕ → List ℕ

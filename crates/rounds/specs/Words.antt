@@ -1,10 +1,8 @@
 -- What a round hands out: for each timer that ran out its slot and the event's reply, as the 28 numbers of 32 bits that C's struct has. Assumes nothing.
-use Rattle.std.specs.Prelude.{ℕ, suc, ◌+◌, List, [], ◌∷◌, ◌++◌, set}
+use Rattle.std.specs.Prelude.{ℕ, suc, ◌+◌, Option, Some, None, List, [], ◌∷◌, ◌++◌, set}
 use Rattle.turns.specs.declared.Told.{Told}
 use Rattle.turns.specs.declared.Told.TheVariants.{Left, Stopped, Started}
 use Rattle.turns.specs.declared.Clocks.{Clocks}
-use Rattle.rules.specs.declared.Asked.{Asked}
-use Rattle.rules.specs.declared.Asked.TheVariants.{No, On}
 use Rattle.rules.specs.declared.Reply.{Reply}
 
 -- a timer that ran out, by its slot, and what was told of it
@@ -30,9 +28,9 @@ unfoldable pub clocks_words : Clocks → List ℕ
 clocks_words c = timer_words c.t3510 ++ timer_words c.t3511 ++ timer_words c.t3502 ++ timer_words c.t3346
 
 -- a request: none, or 1 plus the access
-unfoldable pub asked_word : Asked → ℕ
-asked_word No = 0
-asked_word (On access) = 1 + access
+unfoldable pub asked_word : Option ℕ → ℕ
+asked_word None = 0
+asked_word (Some access) = 1 + access
 
 unfoldable pub request_words : Reply → List ℕ
 request_words p = asked_word p.restart ∷ asked_word p.leave ∷ asked_word p.update ∷ []

@@ -2,22 +2,17 @@
 #![tactic(auto)]
 
 use deadlines::Table;
-use record::{Answer, Hot, Record};
+use record::{Answer, Record};
 
 mod going;
 mod value;
 mod words;
 
-pub use value::round;
-
-// The numbers after so many timers of a round.
-#[derive(Clone, Copy)]
-pub struct Went {
-    pub hot: Hot,
-    pub count: usize,
-}
+pub use value::{round, run};
+pub use words::asked_word;
 
 // The answer, how many timers ran out, and the record and the table after them.
+// Kept: an answer beside a count: a refusal too gives back the record and the table (`round_of`); `run` gives a Result.
 #[derive(Clone, Copy)]
 pub struct Rounded {
     pub answer: Answer,

@@ -4,6 +4,7 @@ use Prim.Native.Nat.{ℕ, ◌<◌}
 use mathlib.Core.Path.{◌≡◌, refl}
 use mathlib.Core.Bool.{Bool, true, false, cond, false≢true}
 use mathlib.Core.List.{List}
+use Rattle.std.proofs.Common.{Some, None, option_map, unwrap_or}
 use lib.Dec.{eqb}
 use Rattle.record.specs.declared.Hot.{Hot}
 use Rattle.record.specs.Sides.{access_of, other_of, hot_of}
@@ -28,7 +29,7 @@ module _ (h : Hot) (s : Seen) (octets : List ℕ) where
   abbrev pub before : Event → Sides
   before e = sides_of (access_in e) (cond (is_importing e) (effect_of h Unknown s octets) (effect_of h e s octets))
 
-  pub with-import : (e : Event) → cond (is_importing e) (imported_sides (cond (is_importing e) s.at 0) (before e)) (before e) ≡ sides_of (access_in e) (effect_of h e s octets)
+  pub with-import : (e : Event) → unwrap_or (option_map (λ (n : ℕ). imported_sides n (before e)) (cond (is_importing e) (Some s.at) None)) (before e) ≡ sides_of (access_in e) (effect_of h e s octets)
   unfolding is_importing access_in effect_of import_effect imported_sides sides_of access_of other_of
   with-import (Card edition home) = refl
   with-import (Start w manual net code) = refl

@@ -1,14 +1,13 @@
 -- What an event comes to: its answer; if taken its effect, else nothing changed. Assumes nothing.
-use Rattle.std.specs.Prelude.{ℕ, ◌<◌, ◌≡◌, Bool, true, false, cond, List, length, eqb}
+use Rattle.std.specs.Prelude.{ℕ, ◌<◌, ◌≡◌, Bool, true, false, cond, List, length, eqb, Option, Some, None, Ok, Err}
 use Rattle.record.specs.Answers.{is_taken}
 use Rattle.record.specs.declared.Hot.{Hot}
 use Rattle.record.specs.declared.Answer.{Answer}
 use Rattle.record.specs.declared.Answer.TheVariants as answer
 use Rattle.entries.specs.declared.Seen.{Seen}
 use Rattle.entries.specs.declared.Deed.{Deed}
-use Rattle.messages.specs.declared.Reading.{Reading}
-use Rattle.messages.specs.declared.Reading.TheVariants as reading
-use Rattle.messages.specs.Message.{reading_of}
+use Rattle.messages.specs.declared.Message.TheVariants as message
+use Rattle.messages.specs.Message.{Reading, reading_of}
 use Rattle.turns.specs.declared.Draws.{Draws}
 use Rattle.turns.specs.declared.Told.TheVariants.{Left}
 use Rattle.turns.specs.declared.Clocks.{Clocks}
@@ -16,13 +15,10 @@ use Rattle.turns.specs.Timers.{flag_after, told_of, clocks_of, clocked}
 use Rattle.turns.specs.Turns.{still}
 use Rattle.rules.specs.declared.Event.{Event}
 use Rattle.rules.specs.declared.Event.TheVariants.{Card, Start, Message, Timer, Power, Key, Update, Import, Unknown}
-use Rattle.rules.specs.declared.Asked.{Asked}
-use Rattle.rules.specs.declared.Asked.TheVariants.{No, On}
 use Rattle.rules.specs.declared.Reply.{Reply}
 use Rattle.rules.specs.declared.Ask.{Ask}
 use Rattle.rules.specs.declared.Ask.TheVariants as ask
-use Rattle.rules.specs.declared.Site.{Site}
-use Rattle.rules.specs.declared.Site.TheVariants as site
+use Rattle.rules.specs.declared.Area.{Area}
 use Rattle.rules.specs.declared.Plan.{Plan}
 use Rattle.record.specs.Sides.{access_of, hot_of}
 use Rattle.checks.specs.Answers.{start_answer, message_answer, timer_answer, key_answer, update_answer, card_answer, import_answer, row_now}
@@ -65,19 +61,19 @@ ask_of h Import = ask.File
 ask_of h Unknown = ask.Nothing
 
 -- "area listed (access 0)": the area that is looked up, that of a start or an update over access 0
-unfoldable pub site_at : ℕ → ℕ → ℕ → Site
-site_at w net code = cond (eqb w 0) (site.Area net code) site.Nothing
+unfoldable pub site_at : ℕ → ℕ → ℕ → Option Area
+site_at w net code = cond (eqb w 0) (Some (record { net = net; code = code })) None
 
-unfoldable pub site_of : Event → Site
-site_of (Card edition home) = site.Nothing
+unfoldable pub site_of : Event → Option Area
+site_of (Card edition home) = None
 site_of (Start w manual net code) = site_at w net code
-site_of (Message w protected draws) = site.Nothing
-site_of (Timer number w) = site.Nothing
-site_of Power = site.Nothing
-site_of (Key w set) = site.Nothing
+site_of (Message w protected draws) = None
+site_of (Timer number w) = None
+site_of Power = None
+site_of (Key w set) = None
 site_of (Update w regtype net code uplink sessions) = site_at w net code
-site_of Import = site.Nothing
-site_of Unknown = site.Nothing
+site_of Import = None
+site_of Unknown = None
 
 -- the event's own access; an import's is 0; an event of both does the same on each, and goes as access 0's
 unfoldable pub access_in : Event → ℕ
@@ -105,9 +101,9 @@ answer_of h Unknown s listed octets = answer.Range
 
 -- what a taken message does
 unfoldable pub message_effect : Hot → ℕ → ℕ → Draws → Reading → Seen → Effect
-message_effect h w protected draws (reading.Accept g) s = accept_effect h w g s
-message_effect h w protected draws (reading.Reject g) s = reject_effect h w protected draws s g (row_now h w protected g)
-message_effect h w protected draws (reading.Bad f at) s = plain h w (still (access_of h w)) false
+message_effect h w protected draws (Ok (message.Accept g)) s = accept_effect h w g s
+message_effect h w protected draws (Ok (message.Reject g)) s = reject_effect h w protected draws s g (row_now h w protected g)
+message_effect h w protected draws (Err m) s = plain h w (still (access_of h w)) false
 
 -- what a taken event does
 unfoldable pub effect_of : Hot → Event → Seen → List ℕ → Effect
@@ -128,8 +124,8 @@ hot_after h w e =
     (clocked e.mine.orders e.mine.access)
     (clocked e.theirs.orders e.theirs.access)
 
-abbrev pub asked_on : Bool → ℕ → Asked
-asked_on wanted w = cond wanted (On w) No
+abbrev pub asked_on : Bool → ℕ → Option ℕ
+asked_on wanted w = cond wanted (Some w) None
 
 -- what is told of a taken event: the timers by how they ran before it, and a restart of its access
 unfoldable pub taken_reply : Hot → ℕ → Effect → Reply
@@ -140,8 +136,8 @@ taken_reply h w e = record {
   t3247 = told_of e.t3247 h.dev.t3247;
   t3512 = told_of e.t3512 h.dev.t3512;
   restart = asked_on e.restart w;
-  leave = No;
-  update = No;
+  leave = None;
+  update = None;
 }
 
 abbrev pub all_left : Clocks
@@ -171,7 +167,7 @@ refused_reply n w = record {
   c1 = all_left;
   t3247 = Left;
   t3512 = Left;
-  restart = No;
+  restart = None;
   leave = asked_on (is_ignoring n) w;
   update = asked_on (is_ignoring n) (cond (eqb w 0) 1 0);
 }

@@ -1,5 +1,5 @@
 -- As the code has it: a taken event sorted by access 0 and 1, which event is an import and which has work on the arrays, and what one without comes to. Assumes nothing.
-use Rattle.std.specs.Prelude.{ℕ, Bool, true, false, cond, List, [], eqb}
+use Rattle.std.specs.Prelude.{ℕ, Bool, true, false, cond, List, [], eqb, None}
 use Rattle.record.specs.declared.Device.{Device}
 use Rattle.record.specs.declared.Hot.{Hot}
 use Rattle.record.specs.Sides.{access_of, other_of, hot_of}
@@ -13,7 +13,6 @@ use Rattle.turns.specs.Timers.{flag_after, told_of, clocks_of, clocked}
 use Rattle.effects.specs.declared.Sides.{Sides}
 use Rattle.rules.specs.declared.Event.{Event}
 use Rattle.rules.specs.declared.Event.TheVariants.{Card, Start, Message, Timer, Power, Key, Update, Import, Unknown}
-use Rattle.rules.specs.declared.Asked.TheVariants.{No}
 use Rattle.rules.specs.declared.Reply.{Reply}
 use Rattle.rules.specs.declared.Plan.{Plan}
 use Rattle.effects.specs.Effects.{ticked, idle}
@@ -36,8 +35,8 @@ reply_by h w x = record {
   t3247 = told_of x.t3247 h.dev.t3247;
   t3512 = told_of x.t3512 h.dev.t3512;
   restart = asked_on x.restart w;
-  leave = No;
-  update = No;
+  leave = None;
+  update = None;
 }
 
 unfoldable pub plan_by : Hot → ℕ → Sides → Plan
@@ -75,8 +74,8 @@ turn_reply h w o t3512 restart = record {
   t3247 = Left;
   t3512 = t3512;
   restart = asked_on restart w;
-  leave = No;
-  update = No;
+  leave = None;
+  update = None;
 }
 
 -- what it comes to, by its turn and the device's numbers after it

@@ -20,6 +20,7 @@ pub use replies::refused_reply;
 pub use work::{has_work, work_plan};
 
 // A card's SUCI, a message's octets and the file of an import come beside the event.
+// Kept: what may not change: accesses, flags, timers' and types' numbers are octets, since any that a caller has is taken, and answered 1 if out of range (`answer_of`).
 #[derive(Clone, Copy)]
 pub enum Event {
     Card {
@@ -58,13 +59,7 @@ pub enum Event {
     Unknown,
 }
 
-// A request to the caller, and the access that it is meant for.
-#[derive(Clone, Copy)]
-pub enum Asked {
-    No,
-    On(u8),
-}
-
+// What the caller is told. A request is named by the access that it is meant for.
 #[derive(Clone, Copy)]
 pub struct Reply {
     pub answer: Answer,
@@ -72,12 +67,13 @@ pub struct Reply {
     pub c1: Clocks,
     pub t3247: Told,
     pub t3512: Told,
-    pub restart: Asked,
-    pub leave: Asked,
-    pub update: Asked,
+    pub restart: Option<u8>,
+    pub leave: Option<u8>,
+    pub update: Option<u8>,
 }
 
 // The network whose entry is looked up before an event is decided, or the file whose networks are.
+// Kept: no plainer, three cases, and none of them is the lack of another.
 #[derive(Clone, Copy)]
 pub enum Ask {
     Nothing,
@@ -87,9 +83,9 @@ pub enum Ask {
 
 // The area that is looked up in the lists.
 #[derive(Clone, Copy)]
-pub enum Site {
-    Nothing,
-    Area { net: u32, code: u32 },
+pub struct Area {
+    pub net: u32,
+    pub code: u32,
 }
 
 // What an event comes to: the reply, the numbers after it but for the area lists' counts, the work on the arrays, and the event's own access.

@@ -3,39 +3,24 @@ ghost use Rattle.std.specs.Prelude.{◌≡◌};
 ghost use Rattle.rules.specs.Plan as rules;
 ghost use Rattle.rules.specs.Sides.{reply_by};
 
-use crate::{Asked, Reply};
+use crate::Reply;
 use effects::Sides;
-use record::{Answer, Hot, pick};
+use record::{Answer, Hot};
 use turns::{Clocks, Told, clocks_of, told_of};
 
-pub(crate) fn asked_on(wanted: bool, w: u8) -> Asked
-    ensures { result ≡ rules.asked_on wanted w }
-{
-    if wanted { Asked::On(w) } else { Asked::No }
-}
-
+#[tactic(auto, unfolding(crate::specs::Sides::reply_by))]
 pub(crate) fn taken_reply(h: Hot, w: u8, e: Sides) -> Reply
     ensures { result ≡ reply_by h w e }
 {
-    let t0 = e.t0;
-    let t1 = e.t1;
-    let order = e.t3247;
-    let dev = h.dev;
-    let c0 = clocks_of(t0.orders, h.a0);
-    let c1 = clocks_of(t1.orders, h.a1);
-    let t3247 = told_of(order, dev.t3247);
-    let periodic = e.t3512;
-    let t3512 = told_of(periodic, dev.t3512);
-    let restart = asked_on(e.restart, w);
     Reply {
         answer: Answer::Taken,
-        c0,
-        c1,
-        t3247,
-        t3512,
-        restart,
-        leave: Asked::No,
-        update: Asked::No,
+        c0: clocks_of(e.t0.orders, h.a0),
+        c1: clocks_of(e.t1.orders, h.a1),
+        t3247: told_of(e.t3247, h.dev.t3247),
+        t3512: told_of(e.t3512, h.dev.t3512),
+        restart: e.restart.then_some(w),
+        leave: None,
+        update: None,
     }
 }
 
@@ -50,42 +35,20 @@ pub(crate) fn all_left() -> Clocks
     }
 }
 
-fn is_ignoring(n: Answer) -> bool
-    ensures { result ≡ rules.is_ignoring n }
-{
-    match n {
-        Answer::Taken => false,
-        Answer::Range => false,
-        Answer::Ignored => true,
-        Answer::Malformed(_, _) => false,
-        Answer::Full => false,
-        Answer::StateZero => false,
-        Answer::State => false,
-        Answer::Same => false,
-        Answer::Listed => false,
-        Answer::Area => false,
-        Answer::Unprotected => false,
-        Answer::Idle => false,
-        Answer::Short => false,
-        Answer::Waiting => false,
-    }
-}
-
+#[tactic(auto, unfolding(crate::specs::Plan::refused_reply, crate::specs::Plan::is_ignoring))]
 pub fn refused_reply(n: Answer, w: u8) -> Reply
     ensures { result ≡ rules.refused_reply n w }
 {
-    let left = all_left();
-    let ignoring = is_ignoring(n);
-    let leave = asked_on(ignoring, w);
-    let update = asked_on(ignoring, pick(w == 0, 1, 0));
+    let ignoring = matches!(n, Answer::Ignored);
+    let other = if w == 0 { 1 } else { 0 };
     Reply {
         answer: n,
-        c0: left,
-        c1: left,
+        c0: all_left(),
+        c1: all_left(),
         t3247: Told::Left,
         t3512: Told::Left,
-        restart: Asked::No,
-        leave,
-        update,
+        restart: None,
+        leave: ignoring.then_some(w),
+        update: ignoring.then_some(other),
     }
 }

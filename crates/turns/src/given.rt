@@ -4,6 +4,7 @@ ghost use Rattle.turns.specs.Timers as timers;
 
 use crate::{Order, Orders};
 
+// Kept: no plainer, each set has its name in specs/Timers.antt, and says only what it orders.
 pub(crate) fn quiet() -> Orders
     ensures { result ≡ timers.quiet }
 {
@@ -22,7 +23,7 @@ pub(crate) fn starting() -> Orders
         t3510: Order::Run(15),
         t3511: Order::Stop,
         t3502: Order::Stop,
-        t3346: Order::Leave,
+        ..quiet()
     }
 }
 
@@ -31,9 +32,7 @@ pub(crate) fn answered() -> Orders
 {
     Orders {
         t3510: Order::Stop,
-        t3511: Order::Leave,
-        t3502: Order::Leave,
-        t3346: Order::Leave,
+        ..quiet()
     }
 }
 
@@ -41,10 +40,8 @@ pub(crate) fn waiting(length: u32) -> Orders
     ensures { result ≡ timers.waiting length }
 {
     Orders {
-        t3510: Order::Stop,
-        t3511: Order::Leave,
-        t3502: Order::Leave,
         t3346: Order::Run(length),
+        ..answered()
     }
 }
 
@@ -52,10 +49,8 @@ pub(crate) fn retrying() -> Orders
     ensures { result ≡ timers.retrying }
 {
     Orders {
-        t3510: Order::Stop,
         t3511: Order::Run(10),
-        t3502: Order::Leave,
-        t3346: Order::Leave,
+        ..answered()
     }
 }
 
@@ -63,10 +58,8 @@ pub(crate) fn resting(length: u32) -> Orders
     ensures { result ≡ timers.resting length }
 {
     Orders {
-        t3510: Order::Stop,
-        t3511: Order::Leave,
         t3502: Order::Run(length),
-        t3346: Order::Leave,
+        ..answered()
     }
 }
 
@@ -74,10 +67,8 @@ pub(crate) fn t3511_stops() -> Orders
     ensures { result ≡ timers.t3511_stops }
 {
     Orders {
-        t3510: Order::Leave,
         t3511: Order::Stop,
-        t3502: Order::Leave,
-        t3346: Order::Leave,
+        ..quiet()
     }
 }
 
@@ -85,10 +76,8 @@ pub(crate) fn t3502_stops() -> Orders
     ensures { result ≡ timers.t3502_stops }
 {
     Orders {
-        t3510: Order::Leave,
-        t3511: Order::Leave,
         t3502: Order::Stop,
-        t3346: Order::Leave,
+        ..quiet()
     }
 }
 
@@ -96,10 +85,8 @@ pub(crate) fn t3346_stops() -> Orders
     ensures { result ≡ timers.t3346_stops }
 {
     Orders {
-        t3510: Order::Leave,
-        t3511: Order::Leave,
-        t3502: Order::Leave,
         t3346: Order::Stop,
+        ..quiet()
     }
 }
 

@@ -17,6 +17,7 @@ pub use turns::{
 };
 
 // What an event does to a timer: nothing, stop it, or run it for so many seconds.
+// Kept: no plainer, to leave a timer is an order among the others in each set of document 01 (`flag_after`).
 #[derive(Clone, Copy)]
 pub enum Order {
     Leave,
@@ -33,6 +34,7 @@ pub struct Orders {
 }
 
 // What the caller is told of a timer.
+// Kept: no plainer, three cases that document 01 tells of a timer.
 #[derive(Clone, Copy)]
 pub enum Told {
     Left,

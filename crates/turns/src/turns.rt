@@ -1,6 +1,5 @@
 // What a taken event makes of an access: numbers and timers, in document 01's words and order.
-ghost use Rattle.std.specs.Prelude.{◌≡◌, false};
-ghost use Rattle.turns.specs.declared.Row.TheVariants.{CardBelow, CardLimit, CardProtected, Away, Home, Area, N1, Congested};
+ghost use Rattle.std.specs.Prelude.{◌≡◌};
 ghost use Rattle.record.specs.New.{u2, u3};
 ghost use Rattle.record.specs.Setters as sets;
 ghost use Rattle.turns.specs.Timers as timers;
@@ -15,66 +14,61 @@ use crate::{Orders, Row, Turn};
 use entries::one_more;
 use record::{
     Access, U1, U2, U3, counted, emptied, entered, forgotten, keyed, moved, new_access, pending,
-    pick, taught,
+    taught,
 };
 
-fn timed(a: Access, orders: Orders) -> Turn
-    ensures { result ≡ events.turn_of a orders }
+fn turn_of(access: Access, orders: Orders) -> Turn
+    ensures { result ≡ events.turn_of access orders }
 {
-    Turn {
-        access: a,
-        orders: orders,
-    }
+    Turn { access, orders }
 }
 
 // The access that an event leaves alone.
 pub fn still(a: Access) -> Turn
     ensures { result ≡ events.still a }
 {
-    timed(a, quiet())
+    turn_of(a, quiet())
 }
 
+#[tactic(auto, unfolding(crate::specs::Turns::started, record::specs::Setters::in_state, record::specs::Setters::with_status, record::specs::Setters::with_attempts, record::specs::Setters::pending))]
 pub fn started(net: u32, code: u32, a: Access) -> Turn
     ensures { result ≡ events.started net code a }
 {
-    timed(
+    turn_of(
         pending(1, net, code, 0, 0, moved(4, a.status, a.attempts, a)),
         starting(),
     )
 }
 
+#[tactic(auto, unfolding(crate::specs::Turns::updated, record::specs::Setters::in_state, record::specs::Setters::with_status, record::specs::Setters::with_attempts, record::specs::Setters::pending))]
 pub fn updated(regtype: u8, net: u32, code: u32, uplink: u16, sessions: u16, a: Access) -> Turn
     ensures { result ≡ events.updated regtype net code uplink sessions a }
 {
     let b = moved(4, a.status, a.attempts, a);
-    timed(pending(regtype, net, code, uplink, sessions, b), starting())
+    turn_of(pending(regtype, net, code, uplink, sessions, b), starting())
 }
 
 // Stored as ngKSI.
+#[tactic(auto, unfolding(crate::specs::Turns::key_set))]
 pub fn key_set(set: u8, a: Access) -> Turn
     ensures { result ≡ events.key_set set a }
 {
     still(keyed(set, a))
 }
 
+#[tactic(auto, unfolding(crate::specs::Turns::accepted))]
 pub fn accepted(given: bool, count: u8, t3502length: u16, a: Access) -> Turn
     ensures { result ≡ events.accepted given count t3502length a }
 {
     let b = taught(given, count, t3502length, moved(5, U1, 0, a));
-    timed(b, answered())
+    turn_of(b, answered())
 }
 
 // Below 5, T3511 starts.
 fn again(state: u8, status: u8, n: u8, a: Access) -> Turn
     ensures { result ≡ events.turn_of (sets.with_attempts n (sets.with_status status (sets.in_state state a))) timers.retrying }
 {
-    timed(moved(state, status, n, a), retrying())
-}
-
-fn seconds(t3502length: u16) -> u32
-    ensures { result ≡ t3502length }
-{
-    t3502length as u32
+    turn_of(moved(state, status, n, a), retrying())
 }
 
 // At 5, no equivalents, 5U2, and T3502 starts with the stored length.
@@ -82,9 +76,10 @@ fn spent(state: u8, n: u8, a: Access) -> Turn
     ensures { result ≡ events.turn_of (sets.emptied (sets.with_attempts n (sets.with_status u2 (sets.in_state state a)))) (timers.resting a.t3502length) }
 {
     let b = emptied(moved(state, U2, n, a));
-    timed(b, resting(seconds(a.t3502length)))
+    turn_of(b, resting(u32::from(a.t3502length)))
 }
 
+#[tactic(auto, unfolding(crate::specs::Turns::start_failed, record::specs::Setters::in_state, record::specs::Setters::with_status, record::specs::Setters::with_attempts, record::specs::Setters::forgotten, record::specs::Setters::emptied))]
 fn start_failed(n: u8, a: Access) -> Turn
     ensures { result ≡ events.start_failed n a }
 {
@@ -95,6 +90,7 @@ fn start_failed(n: u8, a: Access) -> Turn
     }
 }
 
+#[tactic(auto, unfolding(crate::specs::Turns::update_failed, record::specs::Setters::in_state, record::specs::Setters::with_status, record::specs::Setters::with_attempts, record::specs::Setters::emptied))]
 fn update_failed(n: u8, a: Access) -> Turn
     ensures { result ≡ events.update_failed n a }
 {
@@ -106,6 +102,7 @@ fn update_failed(n: u8, a: Access) -> Turn
 }
 
 // T3510 out, with the attempt counter now n.
+#[tactic(auto, unfolding(crate::specs::Turns::failed))]
 fn failed(n: u8, a: Access) -> Turn
     ensures { result ≡ events.failed n a }
 {
@@ -116,66 +113,69 @@ fn failed(n: u8, a: Access) -> Turn
     }
 }
 
+#[tactic(auto, unfolding(crate::specs::Turns::t3510_out))]
 fn t3510_out(a: Access) -> Turn
     ensures { result ≡ events.t3510_out a }
 {
     failed(one_more(5, a.attempts), a)
 }
 
+#[tactic(auto, unfolding(crate::specs::Turns::t3511_out))]
 fn t3511_out(a: Access) -> Turn
     ensures { result ≡ events.t3511_out a }
 {
-    timed(a, t3511_stops())
+    turn_of(a, t3511_stops())
 }
 
+#[tactic(auto, unfolding(crate::specs::Turns::t3502_out, record::specs::Setters::in_state, record::specs::Setters::with_status, record::specs::Setters::with_attempts))]
 fn t3502_out(a: Access) -> Turn
     ensures { result ≡ events.t3502_out a }
 {
-    timed(moved(a.state, a.status, 0, a), t3502_stops())
+    turn_of(moved(a.state, a.status, 0, a), t3502_stops())
 }
 
+#[tactic(auto, unfolding(crate::specs::Turns::t3346_out))]
 fn t3346_out(a: Access) -> Turn
     ensures { result ≡ events.t3346_out a }
 {
-    timed(a, t3346_stops())
+    turn_of(a, t3346_stops())
 }
 
 // A timer of the access out, by its number.
+#[tactic(auto, unfolding(crate::specs::Turns::clock_turn))]
 pub fn clock_turn(number: u8, a: Access) -> Turn
     ensures { result ≡ events.clock_turn number a }
 {
-    if number == 1 {
-        return t3510_out(a);
+    match number {
+        1 => t3510_out(a),
+        2 => t3511_out(a),
+        3 => t3502_out(a),
+        _ => t3346_out(a),
     }
-    if number == 2 {
-        return t3511_out(a);
-    }
-    if number == 3 {
-        return t3502_out(a);
-    }
-    t3346_out(a)
 }
 
 // Power cycle.
+#[tactic(auto, unfolding(crate::specs::Turns::cycled, record::specs::Setters::in_state, record::specs::Setters::with_status, record::specs::Setters::with_attempts))]
 pub fn cycled(card: u8, a: Access) -> Turn
     ensures { result ≡ events.cycled card a }
 {
-    let b = moved(pick(card == 0, 0, 1), a.status, 0, a);
-    timed(b, halted())
+    let state = if card == 0 { 0 } else { 1 };
+    turn_of(moved(state, a.status, 0, a), halted())
 }
 
 // Card change.
+#[tactic(auto, unfolding(crate::specs::Turns::renewed))]
 pub fn renewed() -> Turn
     ensures { result ≡ events.renewed }
 {
-    timed(new_access(1), halted())
+    turn_of(new_access(1), halted())
 }
 
 // Every taken reject stops T3510.
 fn rejected(a: Access) -> Turn
     ensures { result ≡ events.turn_of a timers.answered }
 {
-    timed(a, answered())
+    turn_of(a, answered())
 }
 
 // "5U3, clear identity": how the rows with a cause of their own begin.
@@ -185,111 +185,47 @@ fn refused(state: u8, attempts: u8, a: Access) -> Access
     forgotten(moved(state, U3, attempts, a))
 }
 
-fn card_first(n: u8, a: Access) -> Turn
-    ensures { result ≡ events.turn_of (sets.emptied (sets.counted n (sets.forgotten (sets.with_attempts 0 (sets.with_status u3 (sets.in_state 2 a)))))) timers.answered }
-{
-    rejected(emptied(counted(n, refused(2, 0, a))))
-}
-
-fn card_second(n: u8, a: Access) -> Turn
-    ensures { result ≡ events.turn_of (sets.counted n (sets.forgotten (sets.with_attempts a.attempts (sets.with_status u3 (sets.in_state 2 a))))) timers.answered }
-{
-    rejected(counted(n, refused(2, a.attempts, a)))
-}
-
-// The rows by their texts. A row that does not go by the access, the limit, the cause, the entry or T3346's time is stated with 0 and false for it.
-fn card_below(w: u8, limit: u8, a: Access) -> Turn
-    ensures { result ≡ events.row_turn CardBelow w limit 0 false 0 a }
-{
-    let n = one_more(limit, a.cardcounter);
-    if w == 0 {
-        card_first(n, a)
-    } else {
-        card_second(n, a)
-    }
-}
-
-fn card_limit(a: Access) -> Turn
-    ensures { result ≡ events.row_turn CardLimit 0 0 0 false 0 a }
-{
-    rejected(emptied(refused(0, a.attempts, a)))
-}
-
-fn card_protected(limit: u8, a: Access) -> Turn
-    ensures { result ≡ events.row_turn CardProtected 0 limit 0 false 0 a }
-{
-    rejected(counted(limit, emptied(refused(0, a.attempts, a))))
-}
-
-fn away(w: u8, found: bool, a: Access) -> Turn
-    ensures { result ≡ events.row_turn Away w 0 0 found 0 a }
-{
-    let b = refused(pick(w == 0, 6, 2), 0, a);
-    rejected(entered(found, emptied(b)))
-}
-
-fn home(a: Access) -> Turn
-    ensures { result ≡ events.row_turn Home 0 0 0 false 0 a }
-{
-    rejected(emptied(refused(2, 0, a)))
-}
-
-fn area(cause: u8, a: Access) -> Turn
-    ensures { result ≡ events.row_turn Area 0 0 cause false 0 a }
-{
-    let b = refused(2, 0, a);
-    if cause == 13 {
-        rejected(emptied(b))
-    } else {
-        rejected(b)
-    }
-}
-
-fn n1(found: bool, a: Access) -> Turn
-    ensures { result ≡ events.row_turn N1 0 0 0 found 0 a }
-{
-    rejected(entered(found, refused(2, 0, a)))
-}
-
-fn congested(time: u32, a: Access) -> Turn
-    ensures { result ≡ events.row_turn Congested 0 0 0 false time a }
-{
-    let state = pick(is_updating(a), 5, 3);
-    timed(moved(state, U2, 0, a), waiting(time))
-}
-
-// The receiving access; T3346 runs, where the row says so, for its time.
+// The receiving access, by its row's text; T3346 runs, where the row says so, for its time.
+// Kept: no plainer, what a row goes by one after the other, as `row_turn` of specs/ has it.
+#[tactic(auto, unfolding(crate::specs::Turns::row_turn, crate::specs::Turns::turned, crate::specs::Turns::t3510_out, crate::specs::Rejects::row_text, crate::specs::Words::applied, crate::specs::Words::state_after, crate::specs::Words::counter_after, crate::specs::Words::holds, crate::specs::Words::is_mark, crate::specs::Words::orders_after, record::specs::Setters::in_state, record::specs::Setters::with_status, record::specs::Setters::with_attempts, record::specs::Setters::forgotten, record::specs::Setters::emptied, record::specs::Setters::counted, record::specs::Setters::entered))]
 pub fn row_turn(row: Row, w: u8, limit: u8, cause: u8, found: bool, time: u32, a: Access) -> Turn
     ensures { result ≡ events.row_turn row w limit cause found time a }
 {
     match row {
-        Row::CardBelow => card_below(w, limit, a),
-        Row::CardLimit => card_limit(a),
-        Row::CardProtected => card_protected(limit, a),
-        Row::Away => away(w, found, a),
-        Row::Home => home(a),
-        Row::Area => area(cause, a),
-        Row::N1 => n1(found, a),
-        Row::Congested => congested(time, a),
+        Row::CardBelow => {
+            let n = one_more(limit, a.cardcounter);
+            if w == 0 {
+                rejected(emptied(counted(n, refused(2, 0, a))))
+            } else {
+                rejected(counted(n, refused(2, a.attempts, a)))
+            }
+        }
+        Row::CardLimit => rejected(emptied(refused(0, a.attempts, a))),
+        Row::CardProtected => rejected(counted(limit, emptied(refused(0, a.attempts, a)))),
+        Row::Away => {
+            let state = if w == 0 { 6 } else { 2 };
+            rejected(entered(found, emptied(refused(state, 0, a))))
+        }
+        Row::Home => rejected(emptied(refused(2, 0, a))),
+        Row::Area if cause == 13 => rejected(emptied(refused(2, 0, a))),
+        Row::Area => rejected(refused(2, 0, a)),
+        Row::N1 => rejected(entered(found, refused(2, 0, a))),
+        Row::Congested => {
+            let state = if is_updating(a) { 5 } else { 3 };
+            turn_of(moved(state, U2, 0, a), waiting(time))
+        }
         Row::Protocol => failed(5, a),
         Row::Other => t3510_out(a),
     }
 }
 
 // The other access's numbers: only a protected 3, 6 or 7 reaches them.
+#[tactic(auto, unfolding(crate::specs::Turns::other_turn, crate::specs::Turns::other_turned, crate::specs::Rejects::row_text, crate::specs::Words::across_of))]
 pub fn other_turn(row: Row, limit: u8, a: Access) -> Turn
     ensures { result ≡ events.other_turn row limit a }
 {
     match row {
-        Row::CardBelow => still(a),
-        Row::CardLimit => still(a),
         Row::CardProtected => still(counted(limit, a)),
-        Row::Away => still(a),
-        Row::Home => still(a),
-        Row::Area => still(a),
-        Row::N1 => still(a),
-        Row::Congested => still(a),
-        Row::Protocol => still(a),
-        Row::Other => still(a),
+        _ => still(a),
     }
 }

@@ -1,13 +1,14 @@
--- How the marked networks are counted and written, an entry more at a time, and the rest of the file filled. Assumes nothing.
+-- How the marked networks are counted and written, an entry more at a time. Assumes nothing.
 use Prim.Native.Nat.{ℕ, zero, suc, ◌+◌, ◌*◌, ◌-◌, ◌/◌, ◌%◌, ◌≤◌, ◌<◌}
 use mathlib.Core.Path.{◌≡◌, refl, sym, ◌∙◌, ap}
-use mathlib.Core.Bool.{true, false, cond}
-use mathlib.Core.List.{List, [], ◌∷◌, ◌++◌, append_assoc, append-nil}
+use mathlib.Core.Bool.{Bool, true, false, cond, not}
+use Rattle.std.specs.List.{count_by}
+use Rattle.std.proofs.lemmas.List.Sums.{count_by_more_yes, count_by_more_no}
+use mathlib.Core.List.{List, [], ◌∷◌, ◌++◌, append_assoc}
 use native.Mathlib.Numerals.{add-one}
 use native.Mathlib.Omega.{arith}
 use lib.Dec.{eqb}
-use lib.ListN.{length, get_or, set, take, drop, replicate, length-append, length-set, length-take, length-replicate, take-append-drop}
-use lib.Seq.{drop-length}
+use lib.ListN.{length, get_or, set, take, drop, length-append, length-set}
 use Rattle.laws.specs.Upto.{over}
 use Rattle.laws.proofs.Lists.{stored}
 use Rattle.networks.specs.Networks.{octets3, octets_of}
@@ -37,13 +38,21 @@ marked-many (suc n) xs ys forbidden =
       | false ↦ one_more (marked_to n xs forbidden) (get_or xs n 0) ∙ ap (λ (k : ℕ). k + 1) (marked-many n xs ys forbidden) ∙ sym (one_more (marked_to n ys forbidden) (get_or ys n 0))
     ]
 
--- how many are marked, an entry more
-module _ (forbidden : List ℕ) (k i : ℕ) (e : k ≡ length (marked_to i [] forbidden)) where
-  pub count-pass : eqb (get_or forbidden i 0) 0 ≡ true → k ≡ length (marked_to (i + 1) [] forbidden)
-  count-pass q = e ∙ ap length (sym (not-marked [] forbidden i q))
+-- how many are marked, as the library counts them
+abbrev is_mark : ℕ → Bool
+is_mark x = not (eqb x 0)
 
-  pub count-more : eqb (get_or forbidden i 0) 0 ≡ false → k + 1 ≡ length (marked_to (i + 1) [] forbidden)
-  count-more q = ap (λ (m : ℕ). m + 1) e ∙ sym (one_more (marked_to i [] forbidden) (get_or [] i 0)) ∙ ap length (sym (is-marked [] forbidden i q))
+module _ (forbidden : List ℕ) where
+  one-counted : (n : ℕ) → n < length forbidden → count_by is_mark (take n forbidden) ≡ length (marked_to n [] forbidden) → (b : Bool) → eqb (get_or forbidden n 0) 0 ≡ b
+      → count_by is_mark (take (n + 1) forbidden) ≡ length (marked_to (n + 1) [] forbidden)
+  one-counted n h e true q = count_by_more_no is_mark forbidden n 0 h (rw q) ∙ e ∙ ap length (sym (not-marked [] forbidden n q))
+  one-counted n h e false q =
+      count_by_more_yes is_mark forbidden n 0 h (rw q) ∙ ap (λ (k : ℕ). k + 1) e ∙ sym (one_more (marked_to n [] forbidden) (get_or [] n 0)) ∙ ap length (sym (is-marked [] forbidden n q))
+
+  pub count-marked : (n : ℕ) → n ≤ length forbidden → count_by (λ x. not (eqb x 0)) (take n forbidden) ≡ length (marked_to n [] forbidden)
+  unfolding marked_to
+  count-marked zero h = refl
+  count-marked (suc n) h = rw add-one at (one-counted n (omega arith) (count-marked n (omega arith)) (eqb (get_or forbidden n 0) 0) refl)
 
 -- the more entries the more are marked
 more : (nets forbidden : List ℕ) (n : ℕ) → length (marked_to n nets forbidden) ≤ length (marked_to (suc n) nets forbidden)
@@ -133,39 +142,3 @@ module _ (n : ℕ) (nets forbidden file₀ : List ℕ) where
   wrote file at i w h =
       let e : i ≡ n = let l = w.0 in omega arith in
       rw (← e) (w.2 ∙ ap (λ (k : ℕ). octets_of (marked_to i nets forbidden) ++ drop k file₀) (w.1 ∙ sym (octets-length (marked_to i nets forbidden))))
-
--- one more FF
-replicate_more : (k v : ℕ) → replicate (suc k) v ≡ replicate k v ++ (v ∷ [])
-replicate_more zero v = refl
-replicate_more (suc k) v = ap (λ (r : List ℕ). v ∷ r) (replicate_more k v)
-
--- what is filled so far: from there on to i
-module _ (file₀ : List ℕ) (from : ℕ) where
-  abbrev front : ℕ → List ℕ
-  front i = take from file₀ ++ replicate (i - from) 0xFF
-
-  abbrev pub Filled : List ℕ → ℕ → Type 0
-  Filled file i = (from ≤ i) × (i ≤ length file₀) × (file ≡ front i ++ drop i file₀) × (length file ≡ length file₀)
-
-  pub begun : from ≤ length file₀ → Filled file₀ from
-  begun h =
-      let e : from - from ≡ 0 = omega arith in
-      (omega arith, h, rw e (sym (ap (λ (r : List ℕ). r ++ drop from file₀) (append-nil (take from file₀)) ∙ take-append-drop from file₀)), refl)
-
-  module _ (file : List ℕ) (i : ℕ) (f : Filled file i) where
-    pub fill : i < length file₀ → Filled (set file i 0xFF) (i + 1)
-    fill h =
-        let l = f.0 in
-        let e : i + 1 - from ≡ suc (i - from) = omega arith in
-        let n : length (front i) ≡ i = length-append (take from file₀) (replicate (i - from) 0xFF) ∙ rw (length-take from file₀, length-replicate {A = ℕ} (i - from) 0xFF) (omega arith) in (
-          omega arith,
-          omega arith,
-          ap (λ (r : List ℕ). set r i 0xFF) f.2 ∙ stored (front i) file₀ i 0xFF (sym n) h
-              ∙ ap (λ (r : List ℕ). r ++ drop (i + 1) file₀) (append_assoc (take from file₀) (replicate (i - from) 0xFF) (0xFF ∷ []) ∙ ap (λ (r : List ℕ). take from file₀ ++ r) (sym (replicate_more (i - from) 0xFF) ∙ ap (λ (k : ℕ). replicate k 0xFF) (sym e))),
-          length-set file i 0xFF ∙ f.3,
-        )
-
-    pub filled : length file₀ ≤ i → file ≡ take from file₀ ++ replicate (length file₀ - from) 0xFF
-    filled h =
-        let e : i ≡ length file₀ = let l = f.1 in omega arith in
-        rw (← e) (f.2 ∙ ap (λ (r : List ℕ). front i ++ r) (rw (← e) at (drop-length file₀)) ∙ append-nil (front i))

@@ -1,5 +1,5 @@
 -- Document 02, R-8: the USIM file of forbidden networks, written from access 0, and what the call answers. Assumes nothing.
-use Rattle.std.specs.Prelude.{ℕ, zero, suc, ◌*◌, ◌-◌, ◌%◌, Bool, cond, List, [], ◌∷◌, ◌++◌, length, get_or, replicate, leb, eqb}
+use Rattle.std.specs.Prelude.{ℕ, zero, suc, ◌*◌, ◌-◌, ◌%◌, Bool, cond, List, [], ◌∷◌, ◌++◌, length, get_or, replicate, leb, eqb, Result, Ok, Err}
 use Rattle.networks.specs.Networks.{octets_of}
 use Rattle.entries.specs.Places.{entries_held}
 use Rattle.record.specs.Tests.{both}
@@ -8,7 +8,6 @@ use Rattle.record.specs.declared.Record.{Record}
 use Rattle.record.specs.declared.Answer.{Answer}
 use Rattle.record.specs.declared.Answer.TheVariants.{Taken, Range, Short}
 use Rattle.ranges.specs.Valid.{valid_of}
-use Rattle.usim.specs.declared.Listed.{Listed}
 
 -- "marked networks in entry order": of the first n entries
 unfoldable pub marked_to : ℕ → List ℕ → List ℕ → List ℕ
@@ -31,9 +30,9 @@ may_write r n = both (eqb (n % 3) 0) (valid_of r)
 unfoldable pub write_answer : Record → ℕ → Answer
 write_answer r n = cond (may_write r n) (cond (leb (length (marked_of r) * 3) n) Taken Short) Range
 
--- the answer, and how many networks the list has
-unfoldable pub listed_of : Record → ℕ → Listed
-listed_of r n = record { answer = write_answer r n; count = cond (is_taken (write_answer r n)) (length (marked_of r)) 0 }
+-- how many networks the list has, or the answer
+unfoldable pub listed_of : Record → ℕ → Result ℕ Answer
+listed_of r n = cond (is_taken (write_answer r n)) (Ok (length (marked_of r))) (Err (write_answer r n))
 
 -- the file after the call
 unfoldable pub file_after : Record → List ℕ → List ℕ

@@ -8,37 +8,13 @@ ghost use Rattle.usim.specs.Usim as usim;
 
 use record::{Answer, Record};
 
-// An answer, and how many networks were written.
-#[derive(Clone, Copy)]
-pub struct Listed {
-    pub answer: Answer,
-    pub count: usize,
-}
-
 // How many of the first n are marked.
 fn marked(n: usize, forbidden: &[u8; 16]) -> usize
     requires { n ≤ 16 }
     ensures value { result ≡ length (usim.marked_to n [] forbidden.now) }
     ensures upper_bound { result ≤ n }
 {
-    let mut k: usize = 0;
-    let mut i: usize = 0;
-    while i < n {
-        let here = forbidden[i];
-        i += 1;
-        if here == 0 {
-            continue;
-        }
-        k += 1;
-    }
-    k
-}
-
-fn put(file: &mut [u8], at: usize, v: u8)
-    requires { at < length file.old }
-    ensures { file.new ≡ set file.old at v }
-{
-    file[at] = v;
+    forbidden[..n].iter().filter(|&&mark| mark != 0).count()
 }
 
 // A network's three octets, the first one highest.
@@ -46,26 +22,21 @@ fn lay(net: u32, file: &mut [u8], at: usize)
     requires { at + 2 < length file.old }
     ensures { file.new ≡ set (set (set file.old at (net / 65536 % 256)) (at + 1) (net / 256 % 256)) (at + 2) (net % 256) }
 {
-    put(file, at, (net / 65536 % 256) as u8);
-    put(file, at + 1, (net / 256 % 256) as u8);
-    put(file, at + 2, (net % 256) as u8);
+    file[at] = (net / 65536 % 256) as u8;
+    file[at + 1] = (net / 256 % 256) as u8;
+    file[at + 2] = (net % 256) as u8;
 }
 
-fn list(n: usize, nets: &[u32; 16], forbidden: &[u8; 16], file: &mut [u8])
-    requires { (n ≤ 16) × (length (usim.marked_to n nets.now forbidden.now) * 3 ≤ length file.old) }
-    ensures { file.new ≡ over (octets_of (usim.marked_to n nets.now forbidden.now)) file.old }
+fn list(n: usize, nets: &[u32; 16], marks: &[u8; 16], file: &mut [u8])
+    requires { (n ≤ 16) × (length (usim.marked_to n nets.now marks.now) * 3 ≤ length file.old) }
+    ensures { file.new ≡ over (octets_of (usim.marked_to n nets.now marks.now)) file.old }
 {
-    let mut at: usize = 0;
-    let mut i: usize = 0;
-    while i < n {
-        let here = forbidden[i];
-        let net = nets[i];
-        i += 1;
-        if here == 0 {
-            continue;
+    let mut at = 0;
+    for i in 0..n {
+        if marks[i] != 0 {
+            lay(nets[i], file, at);
+            at += 3;
         }
-        lay(net, file, at);
-        at += 3;
     }
 }
 
@@ -73,49 +44,31 @@ fn pad(file: &mut [u8], from: usize)
     requires { from ≤ length file.old }
     ensures { file.new ≡ take from file.old ++ replicate (length file.old - from) 0xFF }
 {
-    let mut i = from;
-    while i < file.len() {
-        file[i] = 0xFF;
-        i += 1;
-    }
+    file[from..].fill(0xFF);
 }
 
-fn may(r: Record, n: usize) -> bool
-    ensures { result ≡ usim.may_write r n }
+#[tactic(auto, unfolding(crate::specs::Usim::may_write))]
+fn may(r: &Record, n: usize) -> bool
+    ensures { result ≡ usim.may_write r.now n }
 {
-    if n % 3 == 0 {
-        return ranges::valid(r);
-    }
-    false
+    n % 3 == 0 && ranges::fits(r)
 }
 
-// Any record, any file.
-pub fn write(r: Record, file: &mut [u8]) -> Listed
-    ensures value { result ≡ usim.listed_of r (length file.old) }
-    ensures file_after { file.new ≡ usim.file_after r file.old }
+// Any record, any file; how many networks were written.
+pub fn write(r: &Record, file: &mut [u8]) -> Result<usize, Answer>
+    ensures value { result ≡ usim.listed_of r.now (length file.old) }
+    ensures file_after { file.new ≡ usim.file_after r.now file.old }
 {
     if !may(r, file.len()) {
-        return Listed {
-            answer: Answer::Range,
-            count: 0,
-        };
+        return Err(Answer::Range);
     }
-    let e = r.e0;
-    let nets = e.nets;
-    let forbidden = e.forbidden;
-    let own = r.hot.a0;
-    let n = entries::size(own.entries);
-    let count = marked(n, &forbidden);
+    let n = entries::size(r.hot.a0.entries);
+    let marks = &r.e0.forbidden;
+    let count = marked(n, marks);
     if file.len() < count * 3 {
-        return Listed {
-            answer: Answer::Short,
-            count: 0,
-        };
+        return Err(Answer::Short);
     }
-    list(n, &nets, &forbidden, file);
+    list(n, &r.e0.nets, marks, file);
     pad(file, count * 3);
-    Listed {
-        answer: Answer::Taken,
-        count,
-    }
+    Ok(count)
 }

@@ -1,20 +1,18 @@
 -- An event that answers 13 to 18 tells the lowest fault of its message, and no event answers 3: only the reading of a message gives such an answer.
 -- Assumes nothing.
 use Prim.Native.Nat.{ℕ}
-use mathlib.Core.Path.{◌≡◌, refl, sym, ◌∙◌, ap, subst}
-use mathlib.Core.Bool.{Bool, true, false, false≢true}
+use mathlib.Core.Path.{◌≡◌, refl, subst}
+use mathlib.Core.Bool.{Bool, true, false}
 use mathlib.Core.List.{List}
 use native.Mathlib.Omega.{arith}
 use lib.ListN.{length, get_or}
 use lib.Dec.{leb, eqb}
+use Rattle.std.specs.Prelude.{Ok, Err}
 use Rattle.octets.specs.declared.Fault.{Fault}
-use Rattle.octets.specs.declared.Ending.{Ending}
-use Rattle.octets.specs.declared.Ending.TheVariants.{Broken, Whole}
-use Rattle.octets.proofs.Order.{is_whole}
+use Rattle.octets.specs.Element.{Ending, malformed}
 use Rattle.entries.specs.declared.Seen.{Seen}
-use Rattle.messages.specs.declared.Reading.{Reading}
-use Rattle.messages.specs.declared.Reading.TheVariants as reading
-use Rattle.messages.specs.Message.{reading_of}
+use Rattle.messages.specs.declared.Message.TheVariants as message
+use Rattle.messages.specs.Message.{Reading, reading_of}
 use Rattle.messages.specs.Faults.{Faulty, Lowest, is_answer, fault_told}
 use Rattle.messages.proofs.Lowest.{least}
 use Rattle.messages.proofs.Told.{lowest}
@@ -39,36 +37,32 @@ use Rattle.validity.proofs.Refusal.{answer-told}
 
 -- what an answer tells of faults
 unfoldable fault_in : Answer → Ending
-fault_in (Malformed f at) = Broken f at
-fault_in Taken = Whole
-fault_in Range = Whole
-fault_in Ignored = Whole
-fault_in Full = Whole
-fault_in StateZero = Whole
-fault_in State = Whole
-fault_in Same = Whole
-fault_in Listed = Whole
-fault_in Area = Whole
-fault_in Unprotected = Whole
-fault_in Idle = Whole
-fault_in Short = Whole
-fault_in Waiting = Whole
-
-whole-not : (f : Fault) (at : ℕ) → Whole ≡ Broken f at → ⊥
-unfolding is_whole
-whole-not f at e = false≢true (sym (ap is_whole e))
+fault_in (Malformed f at) = malformed f at
+fault_in Taken = Ok tt
+fault_in Range = Ok tt
+fault_in Ignored = Ok tt
+fault_in Full = Ok tt
+fault_in StateZero = Ok tt
+fault_in State = Ok tt
+fault_in Same = Ok tt
+fault_in Listed = Ok tt
+fault_in Area = Ok tt
+fault_in Unprotected = Ok tt
+fault_in Idle = Ok tt
+fault_in Short = Ok tt
+fault_in Waiting = Ok tt
 
 module _ (s : List ℕ) where
   -- an answer that tells a fault tells the lowest one
   unfoldable Tells : Answer → Type 0
-  Tells a = (f : Fault) (at : ℕ) → fault_in a ≡ Broken f at → Lowest (Faulty is_answer s) (Broken f at)
+  Tells a = (f : Fault) (at : ℕ) → fault_in a ≡ malformed f at → Lowest (Faulty is_answer s) (malformed f at)
 
   -- the others tell none
-  quiet : (a : Answer) → fault_in a ≡ Whole → Tells a
+  quiet : (a : Answer) → fault_in a ≡ Ok tt → Tells a
   unfolding Tells
-  quiet a e = λ f at q. absurd (whole-not f at (sym e ∙ q))
+  quiet a e = λ f at q. absurd (cc (e, q))
 
-  checked : (b : Bool) (x y : Answer) → fault_in x ≡ Whole → Tells y → Tells (check b x y)
+  checked : (b : Bool) (x y : Answer) → fault_in x ≡ Ok tt → Tells y → Tells (check b x y)
   checked true x y e q = q
   checked false x y e q = quiet x e
 
@@ -78,15 +72,15 @@ module _ (s : List ℕ) where
       checked (eqb t3346 0) Waiting _ refl
       (checked (flip (is_same o net)) Same _ refl (checked (is_free manual n) Listed _ refl (checked (flip listed) Area _ refl (quiet Taken refl))))
 
-  bad-tells : (f : Fault) (at : ℕ) → Lowest (Faulty is_answer s) (fault_told (reading.Bad f at)) → Tells (Malformed f at)
-  unfolding Tells fault_in fault_told
+  bad-tells : (f : Fault) (at : ℕ) → Lowest (Faulty is_answer s) (malformed f at) → Tells (Malformed f at)
+  unfolding Tells fault_in
   bad-tells f at x g b q = subst (Lowest (Faulty is_answer s)) q x
 
   read-tells : (h : Hot) (w protected : ℕ) (m : Reading) (n : Seen) → Lowest (Faulty is_answer s) (fault_told m) → Tells (read_answer h w protected m n)
-  unfolding read_answer reject_answer fault_in
-  read-tells h w protected (reading.Bad f at) n x = bad-tells f at x
-  read-tells h w protected (reading.Accept a) n x = checked (flip (eqb protected 0)) Unprotected _ refl (quiet Taken refl)
-  read-tells h w protected (reading.Reject g) n x =
+  unfolding read_answer reject_answer fault_in fault_told
+  read-tells h w protected (Err m) n x = bad-tells m.fault m.at x
+  read-tells h w protected (Ok (message.Accept a)) n x = checked (flip (eqb protected 0)) Unprotected _ refl (quiet Taken refl)
+  read-tells h w protected (Ok (message.Reject g)) n x =
       checked (flip (is_ignored protected g.cause (other_of h w))) Ignored _ refl
       (checked (flip (is_full (row_now h w protected g) n)) Full _ refl (quiet Taken refl))
 
@@ -118,7 +112,7 @@ module _ (s : List ℕ) where
       go false v = rw v (quiet Range refl)
 
 -- of any event on any record, with any octets
-pub fault-lowest : (r : Record) (e : Event) (octets : List ℕ) (f : Fault) (at : ℕ) → (step_of r e octets).reply.answer ≡ Malformed f at → Lowest (Faulty is_answer octets) (Broken f at)
+pub fault-lowest : (r : Record) (e : Event) (octets : List ℕ) (f : Fault) (at : ℕ) → (step_of r e octets).reply.answer ≡ Malformed f at → Lowest (Faulty is_answer octets) (malformed f at)
 unfolding Tells fault_in
 fault-lowest r e octets f at q = step-tells octets r e f at (rw q)
 

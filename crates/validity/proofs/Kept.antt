@@ -6,9 +6,9 @@ use mathlib.Core.List.{List}
 use native.Mathlib.Omega.{arith}
 use lib.Dec.{leb, eqb}
 use borrow.Author.Tests.{eqb-true, le-leb, leb-true}
-use Rattle.messages.specs.declared.Reading.{Reading}
-use Rattle.messages.specs.declared.Reading.TheVariants as reading
-use Rattle.messages.specs.Message.{reading_of}
+use Rattle.std.specs.Prelude.{Ok, Err}
+use Rattle.messages.specs.declared.Message.TheVariants as message
+use Rattle.messages.specs.Message.{Reading, reading_of}
 use Rattle.record.specs.declared.Access.{Access}
 use Rattle.record.specs.declared.Record.{Record}
 use Rattle.record.specs.Answers.{is_taken}
@@ -56,11 +56,11 @@ module _ (r : Record) (g : Good r) (z : Sized r) (octets : List ℕ) where
       → is_taken (read_answer r.hot w protected m (pending_seen r octets w)) ≡ true
       → Good (carry r octets (taken_plan r.hot w (message_effect r.hot w protected draws m (pending_seen r octets w)))).next
   unfolding message_effect read_answer is_taken
-  message-good w protected draws (reading.Accept a) mild o h c q =
+  message-good w protected draws (Ok (message.Accept a)) mild o h c q =
       accept-good r g z octets w h a (pending_seen r octets w) mild.0 mild.1 mild.2 o c
-  message-good w protected draws (reading.Reject k) mild o h c q =
+  message-good w protected draws (Ok (message.Reject k)) mild o h c q =
       reject-good r g z octets protected draws k (row_now r.hot w protected k) c w h (reject-passed r.hot w protected k (pending_seen r octets w) q)
-  message-good w protected draws (reading.Bad f at) mild o h c q = absurd (false≢true q)
+  message-good w protected draws (Err m) mild o h c q = absurd (false≢true q)
 
   -- T3511, T3502 and T3346 out, and T3510 out, which runs in state 4 only
   clock-good : (number w : ℕ) → is_flag w ≡ true → is_device_timer number ≡ false → eqb (runs r.hot number w) 0 ≡ false

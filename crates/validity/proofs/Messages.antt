@@ -8,18 +8,18 @@ use lib.Dec.{ltb, eqb}
 use lib.ListN.{length, get_or, drop}
 use lib.Seq.{get_or-drop}
 use borrow.Author.Tests.{le-leb, lt-ltb}
+use Rattle.std.specs.Prelude.{Option, Some, None, Ok, Err, unwrap_or}
 use Rattle.laws.specs.Bounds.{at_most}
 use Rattle.laws.specs.Upto.{first, copied}
 use Rattle.laws.proofs.Arrays.{upto-reads}
 use Rattle.octets.specs.declared.Fault.{Fault}
 use Rattle.octets.specs.declared.Fault.TheVariants.{Cut, First, Second, Kind}
 use Rattle.octets.specs.declared.Part.{Part}
-use Rattle.octets.specs.declared.Ending.{Ending}
-use Rattle.octets.specs.declared.Ending.TheVariants.{Broken, Whole}
-use Rattle.octets.specs.Element.{Elements, elements_from, first_of, end_of}
-use Rattle.messages.specs.declared.Reading.{Reading}
-use Rattle.messages.specs.declared.Reading.TheVariants as reading
-use Rattle.messages.specs.Message.{count_of, timer2_in, t3512_of, seconds_of, accept_of, accepted_of, accept_reading, reject_of, rejected_of, reject_reading, type_reading, ended_by, opened_by, reading_of}
+use Rattle.octets.specs.Element.{Ending, malformed, Elements, elements_from, first_of, end_of}
+use Rattle.timers.specs.declared.Span.{Span}
+use Rattle.timers.specs.declared.Span.TheVariants.{Off, Zero, Seconds}
+use Rattle.messages.specs.declared.Message.TheVariants as message
+use Rattle.messages.specs.Message.{Reading, count_of, timer2_in, paced_of, timed_of, seconds_of, accept_of, accepted_of, accept_reading, reject_of, rejected_of, reject_reading, type_reading, ended_by, opened_by, reading_of}
 use Rattle.messages.proofs.Lengths.{timer2-fits, t3512-fits}
 use Rattle.record.specs.Tests.{up_to, is_short}
 use Rattle.networks.specs.Networks.{network_of}
@@ -30,26 +30,32 @@ use Rattle.validity.proofs.Arrays.{All}
 
 -- a reading whose numbers fit an access
 abbrev pub Mild : Reading → Type 0
-Mild (reading.Accept g) = (up_to 15 g.count ≡ true) × (up_to 11160 g.t3502length ≡ true) × (up_to 35712000 g.t3512length ≡ true)
-Mild (reading.Reject g) = Unit {0}
-Mild (reading.Bad f at) = Unit {0}
+Mild (Ok (message.Accept g)) = (up_to 15 g.count ≡ true) × (up_to 11160 (unwrap_or g.t3502length 0) ≡ true) × (up_to 35712000 (unwrap_or g.t3512length 0) ≡ true)
+Mild (Ok (message.Reject g)) = Unit {0}
+Mild (Err m) = Unit {0}
 
-count_fits : (p : Part) → count_of p ≤ 15
+count_fits : (p : Option Part) → count_of p ≤ 15
 unfolding count_of
-count_fits p = elim p.held as (λ b. cond b (cond (ltb (p.len / 3) 15) (p.len / 3) 15) 0 ≤ 15) [ true ↦ most-fits 15 (p.len / 3) | false ↦ omega arith ]
+count_fits None = omega arith
+count_fits (Some p) = most-fits 15 (p.len / 3)
 
-ended-mild : (e : Ending) (m : Reading) → Mild m → Mild (ended_by reading.Bad e m)
+timed-seconds : (s : Span) → unwrap_or (timed_of s) 0 ≡ seconds_of s
+timed-seconds Off = refl
+timed-seconds Zero = refl
+timed-seconds (Seconds n) = refl
+
+ended-mild : (e : Ending) (m : Reading) → Mild m → Mild (ended_by malformed e m)
 unfolding ended_by
-ended-mild (Broken f at) m h = tt
-ended-mild Whole m h = h
+ended-mild (Err f) m h = tt
+ended-mild (Ok _) m h = h
 
 accepted-mild : (s : List ℕ) (l : Elements) → Mild (accepted_of s l)
 unfolding accepted_of accept_of
 accepted-mild s l =
-    ended-mild (end_of l) (reading.Accept (accept_of s l)) (
+    ended-mild (end_of l) (Ok (message.Accept (accept_of s l))) (
       le-leb (count_of (first_of 0x4A l)) 15 (count_fits (first_of 0x4A l)),
-      le-leb (seconds_of (timer2_in s (first_of 0x16 l))) 11160 (timer2-fits s (first_of 0x16 l)),
-      le-leb (seconds_of (t3512_of s (first_of 0x5E l))) 35712000 (t3512-fits s (first_of 0x5E l)),
+      rw (timed-seconds (timer2_in s (first_of 0x16 l))) (le-leb (seconds_of (timer2_in s (first_of 0x16 l))) 11160 (timer2-fits s (first_of 0x16 l))),
+      le-leb (unwrap_or (paced_of s (first_of 0x5E l)) 0) 35712000 (t3512-fits s (first_of 0x5E l)),
     )
 
 cond-mild : (b : Bool) (m n : Reading) → Mild m → Mild n → Mild (cond b m n)
@@ -59,36 +65,36 @@ cond-mild false m n p q = q
 accept-mild : (s : List ℕ) → Mild (accept_reading s)
 unfolding accept_reading
 accept-mild s =
-    cond-mild (ltb 3 (length s)) (cond (eqb (get_or s 3 0) 0) (reading.Bad Cut 3) read) (reading.Bad Cut 3)
-    (cond-mild (eqb (get_or s 3 0) 0) (reading.Bad Cut 3) read tt
-    (cond-mild (ltb (length s) (4 + get_or s 3 0)) (reading.Bad Cut (length s)) (accepted_of s (elements_from false s (4 + get_or s 3 0))) tt
+    cond-mild (ltb 3 (length s)) (cond (eqb (get_or s 3 0) 0) (malformed Cut 3) read) (malformed Cut 3)
+    (cond-mild (eqb (get_or s 3 0) 0) (malformed Cut 3) read tt
+    (cond-mild (ltb (length s) (4 + get_or s 3 0)) (malformed Cut (length s)) (accepted_of s (elements_from false s (4 + get_or s 3 0))) tt
     (accepted-mild s (elements_from false s (4 + get_or s 3 0)))))
     tt
   where
     read : Reading
-    read = cond (ltb (length s) (4 + get_or s 3 0)) (reading.Bad Cut (length s)) (accepted_of s (elements_from false s (4 + get_or s 3 0)))
+    read = cond (ltb (length s) (4 + get_or s 3 0)) (malformed Cut (length s)) (accepted_of s (elements_from false s (4 + get_or s 3 0)))
 
 reject-mild : (s : List ℕ) → Mild (reject_reading s)
 unfolding reject_reading rejected_of
 reject-mild s =
-    cond-mild (ltb 3 (length s)) (rejected_of s (elements_from false s 4)) (reading.Bad Cut 3) (ended-mild (end_of (elements_from false s 4)) (reading.Reject (reject_of s (elements_from false s 4))) tt) tt
+    cond-mild (ltb 3 (length s)) (rejected_of s (elements_from false s 4)) (malformed Cut 3) (ended-mild (end_of (elements_from false s 4)) (Ok (message.Reject (reject_of s (elements_from false s 4)))) tt) tt
 
 type-mild : (s : List ℕ) → Mild (type_reading s)
 unfolding type_reading
 type-mild s =
-    cond-mild (ltb 2 (length s)) (cond (eqb (get_or s 2 0) 0x42) (accept_reading s) (cond (eqb (get_or s 2 0) 0x44) (reject_reading s) (reading.Bad Kind 2))) (reading.Bad Cut 2)
-    (cond-mild (eqb (get_or s 2 0) 0x42) (accept_reading s) (cond (eqb (get_or s 2 0) 0x44) (reject_reading s) (reading.Bad Kind 2)) (accept-mild s)
-    (cond-mild (eqb (get_or s 2 0) 0x44) (reject_reading s) (reading.Bad Kind 2) (reject-mild s) tt))
+    cond-mild (ltb 2 (length s)) (cond (eqb (get_or s 2 0) 0x42) (accept_reading s) (cond (eqb (get_or s 2 0) 0x44) (reject_reading s) (malformed Kind 2))) (malformed Cut 2)
+    (cond-mild (eqb (get_or s 2 0) 0x42) (accept_reading s) (cond (eqb (get_or s 2 0) 0x44) (reject_reading s) (malformed Kind 2)) (accept-mild s)
+    (cond-mild (eqb (get_or s 2 0) 0x44) (reject_reading s) (malformed Kind 2) (reject-mild s) tt))
     tt
 
-opened-mild : (s : List ℕ) (at octet : ℕ) (f : Fault) (m : Reading) → Mild m → Mild (opened_by reading.Bad s at octet f m)
+opened-mild : (s : List ℕ) (at octet : ℕ) (f : Fault) (m : Reading) → Mild m → Mild (opened_by malformed s at octet f m)
 unfolding opened_by
 opened-mild s at octet f m h =
-    cond-mild (ltb at (length s)) (cond (eqb (get_or s at 0) octet) m (reading.Bad f at)) (reading.Bad Cut at) (cond-mild (eqb (get_or s at 0) octet) m (reading.Bad f at) h tt) tt
+    cond-mild (ltb at (length s)) (cond (eqb (get_or s at 0) octet) m (malformed f at)) (malformed Cut at) (cond-mild (eqb (get_or s at 0) octet) m (malformed f at) h tt) tt
 
 pub reading-mild : (s : List ℕ) → Mild (reading_of s)
 unfolding reading_of
-reading-mild s = opened-mild s 0 0x7E First (opened_by reading.Bad s 1 0x00 Second (type_reading s)) (opened-mild s 1 0x00 Second (type_reading s) (type-mild s))
+reading-mild s = opened-mild s 0 0x7E First (opened_by malformed s 1 0x00 Second (type_reading s)) (opened-mild s 1 0x00 Second (type_reading s) (type-mild s))
 
 pub drop-octets : (n : ℕ) (s : List ℕ) → Octets s → Octets (drop n s)
 drop-octets n s h k = rw (get_or-drop n s k 0) (h (n + k))

@@ -7,6 +7,7 @@ use native.Mathlib.Omega.{arith}
 use lib.Dec.{leb, eqb}
 use lib.ListN.{drop}
 use borrow.Author.Tests.{leb-true}
+use Rattle.std.specs.Prelude.{Option, Some, None, is_some, unwrap_or}
 use Rattle.laws.specs.Bounds.{at_most}
 use Rattle.laws.specs.Upto.{copied}
 use Rattle.entries.specs.declared.Entries.{Entries}
@@ -110,33 +111,38 @@ module _ (r : Record) (g : Good r) where
 
     -- T3502's length that an accept leaves
     abbrev length_of : Accept → ℕ
-    length_of a = cond a.timed a.t3502length 720
+    length_of a = unwrap_or a.t3502length 720
 
-    length-fits : (a : Accept) → up_to 11160 a.t3502length ≡ true → up_to 11160 (length_of a) ≡ true
-    length-fits a q = elim a.timed as (λ b. up_to 11160 (cond b a.t3502length 720) ≡ true) [ true ↦ q | false ↦ refl ]
+    -- a time that is given fits, and so does the other
+    or-fits : (most other : ℕ) (given : Option ℕ) → up_to most (unwrap_or given 0) ≡ true → up_to most other ≡ true → up_to most (unwrap_or given other) ≡ true
+    or-fits most other None q e = e
+    or-fits most other (Some n) q e = q
+
+    length-fits : (a : Accept) → up_to 11160 (unwrap_or a.t3502length 0) ≡ true → up_to 11160 (length_of a) ≡ true
+    length-fits a q = or-fits 11160 720 a.t3502length q refl
 
     -- T3512's time that an accept on access 0 leaves
-    time-fits : (a : Accept) → up_to 35712000 a.t3512length ≡ true → up_to 35712000 (t3512_time a r.hot.dev) ≡ true
+    time-fits : (a : Accept) → up_to 35712000 (unwrap_or a.t3512length 0) ≡ true → up_to 35712000 (t3512_time a r.hot.dev) ≡ true
     unfolding t3512_time
-    time-fits a q = elim a.paced as (λ b. up_to 35712000 (cond b a.t3512length r.hot.dev.t3512length) ≡ true) [ true ↦ q | false ↦ g.fair.t3512length ]
+    time-fits a q = or-fits 35712000 r.hot.dev.t3512length a.t3512length q g.fair.t3512length
 
     -- an accept: its equivalents are the message's, and its mark clears
-    pub accept-good : (w : ℕ) → is_flag w ≡ true → (a : Accept) (s : Seen) → up_to 15 a.count ≡ true → up_to 11160 a.t3502length ≡ true → up_to 35712000 a.t3512length ≡ true → Octets octets → eqb r.hot.dev.card 1 ≡ true
+    pub accept-good : (w : ℕ) → is_flag w ≡ true → (a : Accept) (s : Seen) → up_to 15 a.count ≡ true → up_to 11160 (unwrap_or a.t3502length 0) ≡ true → up_to 35712000 (unwrap_or a.t3512length 0) ≡ true → Octets octets → eqb r.hot.dev.card 1 ≡ true
         → Good (carry r octets (taken_plan r.hot w (accept_effect r.hot w a s))).next
     unfolding access_of other_of taken_plan accept_effect accept_device accept_t3512 scheduled table_after unforbidden entries_after with_file is_import ranks_after marks_after deed_of deed_on equivalents_after
     accept-good zero h a s p q l o c =
-        own_first r g z octets (t3512_time a r.hot.dev) 0 (time-fits a l) refl (accepted a.given a.count (length_of a) r.hot.a0) (still r.hot.a1) Leave (cond (eqb (t3512_time a r.hot.dev) 0) Leave (Run (t3512_time a r.hot.dev))) (deed.Accept (seat_of s r.hot.a0.net 1)) deed.Nothing task.Nothing task.Nothing (keep.Gift a) false tt tt tt
-        (half-turned r.hot.dev a.count r.hot.a0.entries (after (accepted a.given a.count (length_of a) r.hot.a0))
+        own_first r g z octets (t3512_time a r.hot.dev) 0 (time-fits a l) refl (accepted (is_some a.guti) a.count (length_of a) r.hot.a0) (still r.hot.a1) Leave (cond (eqb (t3512_time a r.hot.dev) 0) Leave (Run (t3512_time a r.hot.dev))) (deed.Accept (seat_of s r.hot.a0.net 1)) deed.Nothing task.Nothing task.Nothing (keep.Gift a) false tt tt tt
+        (half-turned r.hot.dev a.count r.hot.a0.entries (after (accepted (is_some a.guti) a.count (length_of a) r.hot.a0))
         (copied (at_most 15 a.count) (networks_of (at_most 15 a.count) (drop a.triplets octets)) r.equivalents0) (unforbidden (seat_of s r.hot.a0.net 1) r.e0)
-        (accepted-turned r.hot.dev.card r.hot.dev.cardlimit r.hot.a0 g.half0.fit c a.given a.count (length_of a) p (length-fits a q))
+        (accepted-turned r.hot.dev.card r.hot.dev.cardlimit r.hot.a0 g.half0.fit c (is_some a.guti) a.count (length_of a) p (length-fits a q))
         (copied-short a.count a.triplets octets r.equivalents0 p o)
         (accepted-held r.hot.dev.banlimit r.hot.dev.n1limit r.hot.a0.entries r.e0 z.e0 g.half0.held (seat_of s r.hot.a0.net 1)))
         second-still g.half1.held
     accept-good (suc zero) h a s p q l o c =
-        own-second r g z octets r.hot.dev.t3512length r.hot.dev.due g.fair.t3512length g.fair.due (accepted a.given a.count (length_of a) r.hot.a1) (still r.hot.a0) Leave Leave (deed.Accept (seat_of s r.hot.a1.net 1)) deed.Nothing task.Nothing task.Nothing (keep.Gift a) false tt tt tt
-        (half-turned r.hot.dev a.count r.hot.a1.entries (after (accepted a.given a.count (length_of a) r.hot.a1))
+        own-second r g z octets r.hot.dev.t3512length r.hot.dev.due g.fair.t3512length g.fair.due (accepted (is_some a.guti) a.count (length_of a) r.hot.a1) (still r.hot.a0) Leave Leave (deed.Accept (seat_of s r.hot.a1.net 1)) deed.Nothing task.Nothing task.Nothing (keep.Gift a) false tt tt tt
+        (half-turned r.hot.dev a.count r.hot.a1.entries (after (accepted (is_some a.guti) a.count (length_of a) r.hot.a1))
         (copied (at_most 15 a.count) (networks_of (at_most 15 a.count) (drop a.triplets octets)) r.equivalents1) (unforbidden (seat_of s r.hot.a1.net 1) r.e1)
-        (accepted-turned r.hot.dev.card r.hot.dev.cardlimit r.hot.a1 g.half1.fit c a.given a.count (length_of a) p (length-fits a q))
+        (accepted-turned r.hot.dev.card r.hot.dev.cardlimit r.hot.a1 g.half1.fit c (is_some a.guti) a.count (length_of a) p (length-fits a q))
         (copied-short a.count a.triplets octets r.equivalents1 p o)
         (accepted-held r.hot.dev.banlimit r.hot.dev.n1limit r.hot.a1.entries r.e1 z.e1 g.half1.held (seat_of s r.hot.a1.net 1)))
         first-still g.half0.held

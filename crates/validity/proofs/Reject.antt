@@ -3,6 +3,7 @@ use Prim.Native.Nat.{ℕ, zero, suc}
 use mathlib.Core.Path.{◌≡◌, refl}
 use mathlib.Core.Bool.{Bool, true, false, cond}
 use mathlib.Core.List.{List}
+use Rattle.std.specs.Prelude.{Ok}
 use Rattle.entries.specs.declared.Entries.{Entries}
 use Rattle.entries.specs.declared.Seat.{Seat}
 use Rattle.entries.specs.declared.Deed.{Deed}
@@ -10,7 +11,7 @@ use Rattle.entries.specs.declared.Deed.TheVariants as deed
 use Rattle.entries.specs.Entries.{found_in, seen_in, banned, barred_by, n1_to_limit, marks_after, ranks_after, is_import, with_file, entries_after}
 use Rattle.areas.specs.Areas.{area_of, placed, placed_count, list_after, count_after}
 use Rattle.messages.specs.declared.Reject.{Reject}
-use Rattle.messages.specs.declared.Reading.TheVariants as reading
+use Rattle.messages.specs.declared.Message.TheVariants as message
 use Rattle.messages.specs.Message.{reading_of}
 use Rattle.record.specs.declared.Record.{Record}
 use Rattle.record.specs.Answers.{is_taken}
@@ -88,7 +89,7 @@ module _ (r : Record) (protected : ℕ) (draws : Draws) (g : Reject) (octets : L
   carried (suc (suc w)) h = absurd (no_third w h)
 
   -- a message that was read as a reject, and taken
-  pub reject-is : (w : ℕ) → reading_of octets ≡ reading.Reject g → is_taken (answered_by r (Message w protected draws) octets) ≡ true
+  pub reject-is : (w : ℕ) → reading_of octets ≡ Ok (message.Reject g) → is_taken (answered_by r (Message w protected draws) octets) ≡ true
       → (advance_of r (Message w protected draws) octets).next ≡ reject_record r w protected draws g
   unfolding effect_of message_effect ask_of access_in answered_by answer_of
   reject-is w read taken =
@@ -96,7 +97,7 @@ module _ (r : Record) (protected : ℕ) (draws : Draws) (g : Reject) (octets : L
       (carried w (message-passed r.hot w protected draws (reading_of octets) (pending_seen r octets w) taken).0)
 
   -- the same of a step, which tests the record first
-  pub step-reject : (w : ℕ) → reading_of octets ≡ reading.Reject g → is_taken (step_of r (Message w protected draws) octets).reply.answer ≡ true
+  pub step-reject : (w : ℕ) → reading_of octets ≡ Ok (message.Reject g) → is_taken (step_of r (Message w protected draws) octets).reply.answer ≡ true
       → (step_of r (Message w protected draws) octets).next ≡ reject_record r w protected draws g
   step-reject w read taken =
       let v = step-taken r (Message w protected draws) octets taken in

@@ -4,8 +4,9 @@ use mathlib.Core.Path.{◌≡◌, refl}
 use mathlib.Core.Bool.{Bool, true, false}
 use mathlib.Core.List.{List}
 use lib.Dec.{ltb}
+use Rattle.std.specs.Prelude.{Ok}
 use Rattle.messages.specs.declared.Reject.{Reject}
-use Rattle.messages.specs.declared.Reading.TheVariants as reading
+use Rattle.messages.specs.declared.Message.TheVariants as message
 use Rattle.messages.specs.Message.{reading_of}
 use Rattle.record.specs.declared.Access.{Access}
 use Rattle.record.specs.declared.Record.{Record}
@@ -64,7 +65,7 @@ module _ (r : Record) (protected : ℕ) (draws : Draws) (g : Reject) (octets : L
   reply-told (suc (suc w)) h = absurd (no_third w h)
 
   -- a message that was read as a reject, and taken
-  pub reject-reply : (w : ℕ) → reading_of octets ≡ reading.Reject g → is_taken (answered_by r (Message w protected draws) octets) ≡ true
+  pub reject-reply : (w : ℕ) → reading_of octets ≡ Ok (message.Reject g) → is_taken (answered_by r (Message w protected draws) octets) ≡ true
       → (advance_of r (Message w protected draws) octets).reply ≡ reject_reply r w protected draws g
   unfolding effect_of message_effect ask_of access_in answered_by answer_of
   reject-reply w read taken =
@@ -72,7 +73,7 @@ module _ (r : Record) (protected : ℕ) (draws : Draws) (g : Reject) (octets : L
       (reply-told w (message-passed r.hot w protected draws (reading_of octets) (pending_seen r octets w) taken).0)
 
   -- the same of a step, which tests the record first
-  pub step-reject-reply : (w : ℕ) → reading_of octets ≡ reading.Reject g → is_taken (step_of r (Message w protected draws) octets).reply.answer ≡ true
+  pub step-reject-reply : (w : ℕ) → reading_of octets ≡ Ok (message.Reject g) → is_taken (step_of r (Message w protected draws) octets).reply.answer ≡ true
       → (step_of r (Message w protected draws) octets).reply ≡ reject_reply r w protected draws g
   step-reject-reply w read taken =
       let v = step-taken r (Message w protected draws) octets taken in

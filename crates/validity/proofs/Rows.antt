@@ -5,11 +5,12 @@ use mathlib.Core.Path.{◌≡◌, refl, ◌∙◌}
 use mathlib.Core.Bool.{Bool, true, false, cond}
 use mathlib.Core.List.{List}
 use lib.Dec.{ltb, eqb}
+use Rattle.std.specs.Prelude.{Ok}
 use Rattle.laws.specs.Bounds.{one_more}
 use Rattle.entries.specs.declared.Entries.{Entries}
 use Rattle.areas.specs.Areas.{area_of}
 use Rattle.messages.specs.declared.Reject.{Reject}
-use Rattle.messages.specs.declared.Reading.TheVariants as reading
+use Rattle.messages.specs.declared.Message.TheVariants as message
 use Rattle.messages.specs.Message.{reading_of}
 use Rattle.record.specs.declared.Access.{Access}
 use Rattle.record.specs.declared.Record.{Record}
@@ -75,7 +76,7 @@ module _ (w protected cause t3247 time area : ℕ) (r : Record) where
   row-record Other = rw (out-figures (one_more 5 r.hot.a0.attempts) false r.hot.a0, out-figures (one_more 5 r.hot.a1.attempts) false r.hot.a1)
 
 -- the whole record after a taken reject, by its row
-pub step_row : (r : Record) (w protected : ℕ) (draws : Draws) (g : Reject) (octets : List ℕ) → reading_of octets ≡ reading.Reject g
+pub step_row : (r : Record) (w protected : ℕ) (draws : Draws) (g : Reject) (octets : List ℕ) → reading_of octets ≡ Ok (message.Reject g)
     → is_taken (step_of r (Message w protected draws) octets).reply.answer ≡ true
     → (step_of r (Message w protected draws) octets).next
     ≡ row_record (row_now r.hot w protected g) w protected g.cause

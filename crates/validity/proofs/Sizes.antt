@@ -6,6 +6,7 @@ use mathlib.Core.List.{List, [], ◌∷◌, ◌++◌}
 use native.Mathlib.Omega.{arith}
 use lib.Dec.{ltb, eqb}
 use lib.ListN.{length, get_or, set, drop, length-set, length-replicate, length-append, length-drop}
+use Rattle.std.specs.Prelude.{Option, Some, None}
 use Rattle.laws.specs.Bounds.{at_most}
 use Rattle.laws.specs.Upto.{first, copied}
 use Rattle.laws.proofs.Arrays.{upto-length}
@@ -33,7 +34,7 @@ use Rattle.rules.specs.declared.Event.{Event}
 use Rattle.rules.specs.declared.Plan.{Plan}
 use Rattle.rules.specs.Plan.{refused_reply, deed_of}
 use Rattle.events.specs.declared.Outcome.{Outcome}
-use Rattle.events.specs.Parts.{table_after, done_of, carried_out, planned_of, parts_after, networks_of, guti_after, equivalents_after, suci_after, kept_after}
+use Rattle.events.specs.Parts.{table_after, done_of, carried_out, planned_of, parts_after, networks_of, given_after, guti_after, equivalents_after, suci_after, kept_after}
 use Rattle.events.specs.Step.{together, joined_of, advance_of, step_of}
 use Rattle.validity.specs.Sized.{Columns, Sized}
 use Rattle.validity.proofs.Filter.{kept-inside}
@@ -219,10 +220,15 @@ list_length task.Sweep count xs e = swept-length count xs ∙ e
 list_length task.Clear count xs e = length-replicate {A = ℕ} 40 0
 
 module _ (own : Bool) (octets : List ℕ) where
+  given-length : (place : Option ℕ) (guti : List ℕ) → length guti ≡ 10 → length (given_after place octets guti) ≡ 10
+  unfolding given_after
+  given-length None guti e = e
+  given-length (Some at) guti e = copied-length 10 (drop at octets) guti ∙ e
+
   guti-length : (k : Keep) (guti : List ℕ) → length guti ≡ 10 → length (guti_after k own octets guti) ≡ 10
   unfolding guti_after
   guti-length keep.Nothing guti e = e
-  guti-length (keep.Gift g) guti e = cond-length (both own g.given) (copied 10 (drop g.guti octets) guti) guti 10 (copied-length 10 (drop g.guti octets) guti ∙ e) e
+  guti-length (keep.Gift g) guti e = cond-length own (given_after g.guti octets guti) guti 10 (given-length g.guti guti e) e
   guti-length keep.Card guti e = length-replicate {A = ℕ} 10 0
 
   equivalents-length : (k : Keep) (xs : List ℕ) → length xs ≡ 15 → length (equivalents_after k own octets xs) ≡ 15

@@ -6,10 +6,10 @@ use mathlib.Core.Bool.{Bool, true, false, cond, false≢true}
 use mathlib.Core.List.{List, [], ◌∷◌}
 use lib.Dec.{eqb}
 use borrow.Author.Tests.{eqb-true}
+use Rattle.std.specs.Prelude.{Ok, Err}
 use Rattle.entries.specs.declared.Seen.{Seen}
-use Rattle.messages.specs.declared.Reading.{Reading}
-use Rattle.messages.specs.declared.Reading.TheVariants as reading
-use Rattle.messages.specs.Message.{reading_of}
+use Rattle.messages.specs.declared.Message.TheVariants as message
+use Rattle.messages.specs.Message.{Reading, reading_of}
 use Rattle.record.specs.declared.Access.{Access}
 use Rattle.record.specs.declared.Hot.{Hot}
 use Rattle.record.specs.declared.Record.{Record}
@@ -110,12 +110,12 @@ module _ (r : Record) (g : Good r) (s : Steady r) where
   message-steady w protected draws m seen f = go (eqb w 0) refl m
     where
       go : (b : Bool) → eqb w 0 ≡ b → (m : Reading) → Leaves h w (message_effect h w protected draws m seen)
-      go true q (reading.Accept a) = rw q (either_true (eqb (flag_after (accept_t3512 0 (t3512_time a h.dev)) h.dev.t3512) 0))
-      go true q (reading.Reject k) = rw q (either_first (eqb h.dev.t3512 0) _ (in_four (rw q at f)))
-      go true q (reading.Bad fault at) = rw q s
-      go false q (reading.Accept a) = rw q s
-      go false q (reading.Reject k) = rw (q, across-state (across_of (row_text (row_now h w protected k))) h.dev.cardlimit h.a0) s
-      go false q (reading.Bad fault at) = rw q s
+      go true q (Ok (message.Accept a)) = rw q (either_true (eqb (flag_after (accept_t3512 0 (t3512_time a h.dev)) h.dev.t3512) 0))
+      go true q (Ok (message.Reject k)) = rw q (either_first (eqb h.dev.t3512 0) _ (in_four (rw q at f)))
+      go true q (Err m) = rw q s
+      go false q (Ok (message.Accept a)) = rw q s
+      go false q (Ok (message.Reject k)) = rw (q, across-state (across_of (row_text (row_now h w protected k))) h.dev.cardlimit h.a0) s
+      go false q (Err m) = rw q s
 
   clock-steady : (number w : ℕ) → is_device_timer number ≡ false → eqb (runs h number w) 0 ≡ false → Leaves h w (clock_effect h number w)
   unfolding clock_effect clock_turn runs runs_on t3511_out t3502_out t3346_out with_attempts flag_after access_of other_of

@@ -5,11 +5,11 @@ use mathlib.Core.Bool.{Bool, true, false, cond}
 use mathlib.Core.List.{List}
 use lib.Dec.{ltb, eqb}
 use borrow.Author.Tests.{eqb-true}
+use Rattle.std.specs.Prelude.{Ok, Err}
 use Rattle.laws.specs.Bounds.{one_more}
 use Rattle.entries.specs.declared.Seen.{Seen}
-use Rattle.messages.specs.declared.Reading.{Reading}
-use Rattle.messages.specs.declared.Reading.TheVariants as reading
-use Rattle.messages.specs.Message.{reading_of}
+use Rattle.messages.specs.declared.Message.TheVariants as message
+use Rattle.messages.specs.Message.{Reading, reading_of}
 use Rattle.record.specs.declared.Access.{Access}
 use Rattle.record.specs.declared.Answer.{Answer}
 use Rattle.record.specs.declared.Answer.TheVariants.{Range}
@@ -120,12 +120,12 @@ timer-owned h number b = go (is_device_timer number) refl
 
 message-owned : (h : Hot) (b protected : ℕ) (draws : Draws) (m : Reading) (s : Seen) → Owned h b (message_effect h b protected draws m s)
 unfolding message_effect accept_effect reject_effect accepted taught in_state with_status with_attempts row_turn other_turn
-message-owned h b protected draws (reading.Accept g) s = record { mine = record { t3510 = refl; t3511 = refl; t3502 = refl; t3346 = refl }; theirs = still-owns (other_of h b) }
-message-owned h b protected draws (reading.Reject g) s = record {
+message-owned h b protected draws (Ok (message.Accept g)) s = record { mine = record { t3510 = refl; t3511 = refl; t3502 = refl; t3346 = refl }; theirs = still-owns (other_of h b) }
+message-owned h b protected draws (Ok (message.Reject g)) s = record {
   mine = text-owns (row_text (row_now h b protected g)) b h.dev.cardlimit g.cause s.found (t3346_time protected g.t3346length draws.t3346) (access_of h b);
   theirs = across-owns (across_of (row_text (row_now h b protected g))) h.dev.cardlimit (other_of h b);
 }
-message-owned h b protected draws (reading.Bad f at) s = record { mine = still-owns (access_of h b); theirs = still-owns (other_of h b) }
+message-owned h b protected draws (Err m) s = record { mine = still-owns (access_of h b); theirs = still-owns (other_of h b) }
 
 -- a card change and a power cycle stop every timer
 event-owned : (h : Hot) (e : Event) (s : Seen) (octets : List ℕ) → Owned h (access_in e) (effect_of h e s octets)

@@ -6,13 +6,13 @@ use mathlib.Core.Bool.{Bool, true, false, cond, false≢true}
 use mathlib.Core.List.{List, [], ◌∷◌}
 use lib.Dec.{ltb, eqb}
 use lib.ListN.{length}
+use Rattle.std.specs.Prelude.{Ok, Err, Some}
 use Rattle.laws.specs.Bounds.{one_more}
 use Rattle.entries.specs.declared.Seen.{Seen}
 use Rattle.entries.specs.Entries.{marks_after, ranks_after, is_import, with_file, entries_after}
 use Rattle.areas.specs.Areas.{list_after, count_after}
-use Rattle.messages.specs.declared.Reading.{Reading}
-use Rattle.messages.specs.declared.Reading.TheVariants as reading
-use Rattle.messages.specs.Message.{reading_of}
+use Rattle.messages.specs.declared.Message.TheVariants as message
+use Rattle.messages.specs.Message.{Reading, reading_of}
 use Rattle.record.specs.declared.Access.{Access}
 use Rattle.record.specs.declared.Answer.TheVariants.{Taken, Range}
 use Rattle.record.specs.declared.Hot.{Hot}
@@ -33,7 +33,6 @@ use Rattle.turns.specs.Rejects.{t3346_time, row_text}
 use Rattle.turns.specs.Turns.{still, started, updated, key_set, accepted, start_failed, update_failed, failed, t3510_out, t3511_out, t3502_out, t3346_out, clock_turn, cycled, renewed, turned, row_turn, other_turned, other_turn}
 use Rattle.checks.specs.Answers.{row_now}
 use Rattle.effects.specs.Effects.{Effect, ticked, card_effect, start_effect, update_effect, key_effect, accept_effect, clock_effect, t3247_effect, t3512_effect, device_effect, timer_effect, power_effect, reject_effect, import_effect}
-use Rattle.rules.specs.declared.Asked.TheVariants.{On}
 use Rattle.rules.specs.declared.Event.{Event}
 use Rattle.rules.specs.declared.Event.TheVariants.{Card, Start, Message, Timer, Power, Key, Update, Import, Unknown}
 use Rattle.rules.specs.Plan.{ask_of, access_in, answer_of, message_effect, effect_of, hot_after, taken_reply, taken_plan, deed_on, deed_of}
@@ -51,19 +50,19 @@ use Rattle.validity.proofs.Runs.{ran}
 -- T3346 out
 
 t3346-is : (r : Record) (w : ℕ) (octets : List ℕ) → is_taken (answered_by r (Timer 6 w) octets) ≡ true
-    → ((advance_of r (Timer 6 w) octets).next ≡ t3346_record r w) × ((advance_of r (Timer 6 w) octets).reply.restart ≡ On w)
+    → ((advance_of r (Timer 6 w) octets).next ≡ t3346_record r w) × ((advance_of r (Timer 6 w) octets).reply.restart ≡ Some w)
 unfolding t3346_record ticked joined_of together carried_out done_of with_counts taken_plan taken_reply hot_after hot_of effect_of timer_effect is_device_timer clock_effect clock_turn t3346_out access_of other_of clocked flag_after access_in table_after deed_of deed_on entries_after with_file is_import ranks_after marks_after list_after count_after kept_after guti_after equivalents_after suci_after
 t3346-is r w octets t = go (eqb w 0) refl (eqb w 1) refl
   where
     go : (b : Bool) → eqb w 0 ≡ b → (c : Bool) → eqb w 1 ≡ c
-        → ((advance_of r (Timer 6 w) octets).next ≡ t3346_record r w) × ((advance_of r (Timer 6 w) octets).reply.restart ≡ On w)
+        → ((advance_of r (Timer 6 w) octets).next ≡ t3346_record r w) × ((advance_of r (Timer 6 w) octets).reply.restart ≡ Some w)
     go true q true q' = rw (taken-plan r (Timer 6 w) octets t, q, q') (refl, refl)
     go true q false q' = rw (taken-plan r (Timer 6 w) octets t, q, q') (refl, refl)
     go false q true q' = rw (taken-plan r (Timer 6 w) octets t, q, q') (refl, refl)
     go false q false q' = rw (taken-plan r (Timer 6 w) octets t, q, q') (refl, refl)
 
 pub step-t3346 : (r : Record) (w : ℕ) (octets : List ℕ) → is_taken (step_of r (Timer 6 w) octets).reply.answer ≡ true
-    → ((step_of r (Timer 6 w) octets).next ≡ t3346_record r w) × ((step_of r (Timer 6 w) octets).reply.restart ≡ On w)
+    → ((step_of r (Timer 6 w) octets).next ≡ t3346_record r w) × ((step_of r (Timer 6 w) octets).reply.restart ≡ Some w)
 step-t3346 r w octets t =
     let v = step-taken r (Timer 6 w) octets t in
     rw v.0 (t3346-is r w octets v.1)
@@ -128,12 +127,12 @@ module _ (r : Record) (s : BothWait r) where
 
   message-waits : (b protected : ℕ) (draws : Draws) (m : Reading) (seen : Seen) → Waited (message_effect h b protected draws m seen)
   unfolding message_effect accept_effect reject_effect accepted taught in_state with_status with_attempts other_turn clocked flag_after
-  message-waits b protected draws (reading.Accept g) seen = record { mine = either_true (eqb (access_of h b).t3346 0); theirs = still-waits (other_of h b) (other-waits b) }
-  message-waits b protected draws (reading.Reject k) seen = record {
+  message-waits b protected draws (Ok (message.Accept g)) seen = record { mine = either_true (eqb (access_of h b).t3346 0); theirs = still-waits (other_of h b) (other-waits b) }
+  message-waits b protected draws (Ok (message.Reject k)) seen = record {
     mine = row-waits (row_now h b protected k) b h.dev.cardlimit k.cause seen.found (t3346_time protected k.t3346length draws.t3346) (access_of h b);
     theirs = across-waits (across_of (row_text (row_now h b protected k))) h.dev.cardlimit (other_of h b) (other-waits b);
   }
-  message-waits b protected draws (reading.Bad f at) seen = record { mine = still-waits (access_of h b) (own-waits b); theirs = still-waits (other_of h b) (other-waits b) }
+  message-waits b protected draws (Err m) seen = record { mine = still-waits (access_of h b) (own-waits b); theirs = still-waits (other_of h b) (other-waits b) }
 
   clock-waits : (number b : ℕ) → Waits (after (clock_turn number (access_of h b)))
   unfolding clock_turn t3510_out t3511_out t3502_out t3346_out with_attempts clocked flag_after

@@ -1,5 +1,5 @@
 -- The record after an import, in document 02's words (R-8, R-9), and what is told of it. Assumes nothing.
-use Rattle.std.specs.Prelude.{ℕ, ◌+◌, List, length}
+use Rattle.std.specs.Prelude.{None, ℕ, ◌+◌, List, length}
 use Rattle.networks.specs.Networks.{networks_in}
 use Rattle.entries.specs.Places.{has_entry}
 use Rattle.entries.specs.Entries.{file_taken, new_in}
@@ -7,7 +7,6 @@ use Rattle.record.specs.Setters.{with_entries}
 use Rattle.record.specs.declared.Record.{Record}
 use Rattle.record.specs.declared.Answer.TheVariants.{Taken}
 use Rattle.turns.specs.declared.Told.TheVariants.{Left}
-use Rattle.rules.specs.declared.Asked.TheVariants.{No}
 use Rattle.rules.specs.declared.Reply.{Reply}
 use Rattle.rules.specs.Plan.{all_left}
 
@@ -34,4 +33,4 @@ import_record r file = record {
 
 -- no timer, no request
 abbrev pub silence : Reply
-silence = record { answer = Taken; c0 = all_left; c1 = all_left; t3247 = Left; t3512 = Left; restart = No; leave = No; update = No }
+silence = record { answer = Taken; c0 = all_left; c1 = all_left; t3247 = Left; t3512 = Left; restart = None; leave = None; update = None }

@@ -1,5 +1,5 @@
 -- What is told of an event, in document 01's words: of a taken reject by its row's text, of a refusal, and of a timer. Assumes nothing.
-use Rattle.std.specs.Prelude.{ℕ, ◌≡◌, false, cond, ltb, eqb}
+use Rattle.std.specs.Prelude.{Option, Some, None, ℕ, ◌≡◌, false, cond, ltb, eqb}
 use Rattle.record.specs.declared.Access.{Access}
 use Rattle.record.specs.declared.Answer.TheVariants as answer
 use Rattle.record.specs.declared.Record.{Record}
@@ -14,8 +14,6 @@ use Rattle.turns.specs.Timers.{told_of, clocks_of, retrying, resting}
 use Rattle.turns.specs.Words.{Text, says, as_t3510_out, counter_after, orders_after}
 use Rattle.turns.specs.Rejects.{reject_t3247, t3346_time, row_text}
 use Rattle.checks.specs.Answers.{row_now}
-use Rattle.rules.specs.declared.Asked.{Asked}
-use Rattle.rules.specs.declared.Asked.TheVariants.{No, On}
 use Rattle.rules.specs.declared.Reply.{Reply}
 use Rattle.rules.specs.Plan.{all_left}
 
@@ -37,21 +35,21 @@ reject_reply r w protected draws g = record {
   c1 = told_on (row_text (row_now r.hot w protected g)) w 1 g.cause (t3346_time protected g.t3346length draws.t3346) r.hot.a1;
   t3247 = told_of (reject_t3247 r.hot.dev.t3247 protected g.cause draws.t3247) r.hot.dev.t3247;
   t3512 = Left;
-  restart = No;
-  leave = No;
-  update = No;
+  restart = None;
+  leave = None;
+  update = None;
 }
 
 -- "A refusal names no timer, and no request but those of answer 2": leave the cell or access point of w, update over the other access.
-abbrev on_two : Reply → ℕ → Asked
-on_two p w = cond (eqb (number_of p.answer) 2) (On w) No
+abbrev on_two : Reply → ℕ → Option ℕ
+on_two p w = cond (eqb (number_of p.answer) 2) (Some w) None
 
 pub record Silent (w : ℕ) (p : Reply) : Type 0 where
   pub c0 : p.c0 ≡ all_left
   pub c1 : p.c1 ≡ all_left
   pub t3247 : p.t3247 ≡ Left
   pub t3512 : p.t3512 ≡ Left
-  pub restart : p.restart ≡ No
+  pub restart : p.restart ≡ None
   pub leave : p.leave ≡ on_two p w
   pub update : p.update ≡ on_two p (cond (eqb w 0) 1 0)
 

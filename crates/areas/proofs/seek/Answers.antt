@@ -1,17 +1,16 @@
-use borrow.Author.Rules.{rules}
-use borrow.Author.Tests.{eq-eqb, ne_eqb}
-use Rattle.laws.proofs.Zip.{seek-none, seek_hit, seek-miss, seek-over}
-use Rattle.areas.specs.Areas.{same_area}
+-- The part in use is searched. Assumes nothing.
+use Rattle.std.proofs.Common.{◌∙◌, take, arith, rules, tests}
+use Rattle.std.proofs.lemmas.Iterator.{YieldsList-from_slice}
+use Rattle.std.proofs.lemmas.Iterator.Search.{position_from_yields_List}
+use Rattle.std.proofs.lemmas.List.{length-take-le}
+use Rattle.laws.proofs.Taken.{place-taken}
+use Rattle.areas.specs.Areas.{same_area, area_place, listed_in}
 use Rattle.areas.proofs.seek.Goals as goal
 
-pub loop-i-init : goal.loop-i-init
-loop-i-init c = (search rules, seek-none (same_area c.args.area) _ _)
-
-pub returns-then-list-i : goal.returns-then-list-i
-returns-then-list-i c = seek_hit (same_area c.args.area) c.args.n c.loop-i.i c.args.list.now c.loop-i.invariant.1 (eq-eqb _ _ c.if-list-i.true) (search rules)
-
-pub loop-i-preserved : goal.loop-i-preserved
-loop-i-preserved c = (search rules, seek-miss (same_area c.args.area) c.args.n c.loop-i.i c.args.list.now c.loop-i.invariant.1 (ne_eqb _ _ c.if-list-i.false) (search rules))
-
 pub returns : goal.returns
-returns c = seek-over (same_area c.args.area) c.args.n _ c.args.list.now c.loop-i.invariant.1 (search rules)
+unfolding area_place listed_in
+returns c =
+    let xs = c.args.list.now in
+    let n = c.size.result in
+    position_from_yields_List (same_area c.args.area) _ _ _ c.position.ensures.ran (YieldsList-from_slice (take n xs) cc) (λ x b q k. search (rules, tests))
+    ∙ rw (place-taken (same_area c.args.area) n xs (omega arith), length-take-le n xs (omega arith), c.size.ensures.value)

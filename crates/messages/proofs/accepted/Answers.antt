@@ -1,11 +1,19 @@
 -- `messages::accepted` meets its contract: each field is what its function ensures. Assumes nothing.
-use Rattle.messages.specs.Message.{accept_of, triplets_of}
+use mathlib.Core.Path.{ap}
+use Rattle.octets.specs.Element.{wanted_of, gather_of}
+use Rattle.octets.specs.declared.Gathered.{Gathered}
+use Rattle.messages.specs.Message.{accept_of}
 use Rattle.messages.proofs.Lengths.{timer2-fits}
 use Rattle.messages.proofs.accepted.Goals as goal
 
-pub narrow-requires : goal.narrow-requires
-narrow-requires c = rw (c.seconds.ensures, c.timer2_in-span.ensures) (timer2-fits _ _)
+pub timed-requires : goal.timed-requires
+timed-requires c = rw c.timer2_in.ensures (timer2-fits _ _)
 
 pub returns : goal.returns
-unfolding accept_of triplets_of
-returns c = λ l e f g h. cc
+unfolding accept_of gather_of wanted_of
+returns c = λ l e.
+    let first = ap (λ (g : Gathered). g.first) e in
+    let second = ap (λ (g : Gathered). g.second) e in
+    let third = ap (λ (g : Gathered). g.third) e in
+    let fourth = ap (λ (g : Gathered). g.fourth) e in
+    cc

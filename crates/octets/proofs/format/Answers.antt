@@ -1,6 +1,5 @@
 -- `octets::format` meets its contract: antt computes the rule by ranges at each of the 256 entries, and one law turns that into the rule at the identifier given. Assumes nothing.
 use borrow.Author.Rules.{rules}
-use mathlib.Core.Path.{◌∙◌, ap}
 use mathlib.Core.Bool.{Bool}
 use mathlib.Core.List.{List, ◌∷◌, ◌++◌}
 use Prim.Native.Nat.{ℕ}
@@ -19,5 +18,4 @@ right k x = eqb x (code_of (format_of k))
 
 pub returns : goal.returns
 unfolding codes right format_of code_of
-returns c = eqb→eq (get_or codes c.wide.result 0) (code_of (format_of c.wide.result)) (at right codes tt c.wide.result (search rules))
-    ∙ ap (λ i. code_of (format_of i)) c.wide.ensures.0
+returns c = rw c.from.ensures (eqb→eq (get_or codes c.args.id 0) (code_of (format_of c.args.id)) (at right codes tt c.args.id (search rules)))

@@ -1,22 +1,14 @@
--- `octets::plain` meets its contract: what changes none of the four changes nothing that is gathered. Assumes nothing.
-use mathlib.Core.Bool.{false≢true}
+-- `octets::plain` meets its contract: what each of the four ensures. Assumes nothing.
 use Rattle.octets.specs.Element.{end_of, gather_of}
+use Rattle.octets.proofs.plain.Goals.{then-low, else-low, then-low-2, else-low-2}
 use Rattle.octets.proofs.plain.Goals as goal
 
 pub returns-then-low-3 : goal.returns-then-low-3
-unfolding end_of gather_of
-returns-then-low-3 c t i b n l h = rw (
-  c.low.ensures c.if-low.true i b n l h,
-  c.low-then-low.ensures c.if-low-2.true i b n l h,
-  c.low-then-low-2.ensures c.if-low-3.true i b n l h,
-  c.low-then-low-3.ensures t i b n l h,
-)
-
-pub returns-else-low-3 : goal.returns-else-low-3
-returns-else-low-3 c t = absurd (false≢true t)
-
-pub returns-else-low-2 : goal.returns-else-low-2
-returns-else-low-2 c t = absurd (false≢true t)
-
-pub returns-else-low : goal.returns-else-low
-returns-else-low c t = absurd (false≢true t)
+unfolding gather_of end_of
+returns-then-low-3 c t i b n l h = elim c.if-low-2.branch [
+  | then-low-2 w ↦ elim c.if-low.branch [
+    | then-low v ↦ rw (c.low.ensures v.if-low.true i b n l h, v.low-then-low.ensures (cc) i b n l h, w.low-then-low-2.ensures (cc) i b n l h, c.low-then-low-3.ensures t i b n l h)
+    | else-low v ↦ cc
+  ]
+  | else-low-2 w ↦ cc
+]

@@ -1,7 +1,9 @@
--- `timers::timer3` meets its contract: the row's number makes of the count what the row makes of it. Assumes nothing.
-use Rattle.timers.specs.Timer.{span3_of}
+-- `timers::timer3` meets its contract: the table's numbers make of a count what the rows make of it. Assumes nothing.
+use Rattle.std.proofs.Common.{◌/◌}
+use Rattle.timers.specs.Timer.{timer3_rows, span3_of}
+use Rattle.timers.proofs.Rows.{right-at, numbers3, right3}
 use Rattle.timers.proofs.timer3.Goals as goal
 
 pub returns : goal.returns
 unfolding span3_of
-returns c = rw (c.unit3.ensures.0 _) c.span_for.ensures
+returns c = rw (right-at timer3_rows numbers3 (c.args.octet / 32) right3) c.span_by.ensures

@@ -1,5 +1,4 @@
 -- The loop's invariant: the first i places have had their turn. Assumes nothing.
-use Prim.Native.Nat.{◌≤◌, ◌-◌}
 use mathlib.Core.Path.{◌≡◌}
 use Rattle.networks.specs.Networks.{networks_in}
 use Rattle.entries.specs.Places.{entries_held}
@@ -8,7 +7,4 @@ use Rattle.entries.specs.Entries.{is_filed}
 use Rattle.entries.proofs.import.settle.Given as goal
 
 abbrev pub invariant-loop-i : goal.invariant-loop-i
-invariant-loop-i l = (l.i ≤ l.n) × (l.ranks ≡ last_to (λ m. is_filed m (networks_in l.file)) (entries_held l.count) l.i l.nets l.initial.ranks)
-
-abbrev pub decreases-loop-i : goal.decreases-loop-i
-decreases-loop-i l = l.n - l.i
+invariant-loop-i l = l.ranks ≡ last_to (λ m. is_filed m (networks_in l.file)) (entries_held l.count) l.i l.nets l.initial.ranks

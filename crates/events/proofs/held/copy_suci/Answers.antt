@@ -1,16 +1,8 @@
-use mathlib.Core.Path.{◌≡◌}
-use borrow.Author.Rules.{rules}
+-- What is copied stands at the front. Assumes nothing.
+use lib.ListN.{length}
 use native.Mathlib.Omega.{arith}
-use Rattle.laws.specs.Upto.{first, copied}
-use Rattle.laws.proofs.Zip.{zip-none, zip-step}
+use Rattle.events.proofs.Front.{at-most, copied-front}
 use Rattle.events.proofs.held.copy_suci.Goals as goal
 
-pub loop-i-init : goal.loop-i-init
-loop-i-init c = (search rules, zip-none first _ _)
-
-pub loop-i-preserved : goal.loop-i-preserved
-loop-i-preserved c = (search rules, zip-step first _ _ _ _ 0 _ c.loop-i.invariant.1 c.octet.ensures)
-
 pub returns : goal.returns
-unfolding copied
-returns c = let e : c.loop-i.i ≡ c.args.n = omega arith in rw e at c.loop-i.invariant.1
+returns c = rw (c.copy_from_slice.ensures.after, ← at-most 64 (length c.args.octets.now), ← c.min-n.ensures) (copied-front c.min-n.result c.args.octets.now c.args.suci.now (omega arith) (omega arith))

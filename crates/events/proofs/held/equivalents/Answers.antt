@@ -1,5 +1,6 @@
 -- What is kept picks the clause, and the event's own access its arm. Assumes nothing.
 use Rattle.events.specs.Parts.{equivalents_after}
+use Rattle.events.proofs.Front.{at-most}
 use Rattle.events.proofs.held.equivalents.Goals as goal
 
 pub returns-in-Nothing : goal.returns-in-Nothing
@@ -8,8 +9,7 @@ returns-in-Nothing c = rw c.in-Nothing.is
 
 pub returns-then-own : goal.returns-then-own
 unfolding equivalents_after
-returns-then-own c = rw (c.in-Gift.is, c.if-own.true, ← c.fit15-n.ensures.value, ← c.tail.ensures)
-    c.copy_equivalents.ensures
+returns-then-own c = rw (c.in-Gift.is, c.if-own.true, ← at-most 15 c.in-Gift.g.count, ← c.min-n.ensures, ← c.tail.ensures) c.copy_equivalents.ensures
 
 pub returns-else-own : goal.returns-else-own
 unfolding equivalents_after

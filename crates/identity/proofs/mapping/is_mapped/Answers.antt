@@ -1,16 +1,17 @@
--- Each return rewrites by the tests that led to it. Assumes nothing.
-use borrow.Author.Tests.{eq-eqb, ne_eqb}
+-- Each way rewrites by the test that led to it. Assumes nothing.
+use Rattle.std.proofs.Common.{arith}
+use Rattle.std.proofs.lemmas.Bool.Decides.{nat_tests}
 use Rattle.identity.specs.Choice.{is_mapped_by}
 use Rattle.identity.proofs.mapping.is_mapped.Goals as goal
 
-pub returns-then-edition-eq2 : goal.returns-then-edition-eq2
+pub returns-in-2 : goal.returns-in-2
 unfolding is_mapped_by
-returns-then-edition-eq2 c = rw (eq-eqb _ _ c.if-edition-eq2.true) c.from_s1.ensures
+returns-in-2 c = rw c.in-2.is c.from_s1.ensures
 
-pub returns-then-edition-eq3 : goal.returns-then-edition-eq3
+pub returns-in-3 : goal.returns-in-3
 unfolding is_mapped_by
-returns-then-edition-eq3 c = rw (ne_eqb _ _ c.if-edition-eq2.false, eq-eqb _ _ c.if-edition-eq3.true) c.from_native.ensures
+returns-in-3 c = rw c.in-3.is c.from_native.ensures
 
-pub returns : goal.returns
+pub returns-in_default : goal.returns-in_default
 unfolding is_mapped_by
-returns c = rw (ne_eqb _ _ c.if-edition-eq2.false, ne_eqb _ _ c.if-edition-eq3.false)
+returns-in_default c = grind (arith, nat_tests)

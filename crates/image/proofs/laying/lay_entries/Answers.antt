@@ -6,42 +6,10 @@ use lib.ListN.{length}
 use Rattle.laws.proofs.Splice.{join}
 use Rattle.image.specs.Numbers.{column_octets}
 use Rattle.image.specs.Layout.{entries_columns}
-use Rattle.image.proofs.Lays.{numbers-long}
-use Rattle.image.proofs.Sizes.{EntriesLong, entries-is}
 use Rattle.image.proofs.laying.lay_entries.Goals as goal
 
-pub lay_words-a-requires : goal.lay_words-a-requires
-lay_words-a-requires c =
-    let s : EntriesLong c.args.t = entries-is _ _ c.well_formed.1.1.0 in
-    omega (arith, numbers-long)
-
-pub lay_octets-b-requires : goal.lay_octets-b-requires
-lay_octets-b-requires c =
-    let s : EntriesLong c.args.t = entries-is _ _ c.well_formed.1.1.0 in
-    omega (arith, numbers-long)
-
-pub lay_octets-c-requires : goal.lay_octets-c-requires
-lay_octets-c-requires c =
-    let s : EntriesLong c.args.t = entries-is _ _ c.well_formed.1.1.0 in
-    omega (arith, numbers-long)
-
-pub lay_octets-d-requires : goal.lay_octets-d-requires
-lay_octets-d-requires c =
-    let s : EntriesLong c.args.t = entries-is _ _ c.well_formed.1.1.0 in
-    omega (arith, numbers-long)
-
-pub lay_octets-e-requires : goal.lay_octets-e-requires
-lay_octets-e-requires c =
-    let s : EntriesLong c.args.t = entries-is _ _ c.well_formed.1.1.0 in
-    omega (arith, numbers-long)
-
-pub lay_octets-requires : goal.lay_octets-requires
-lay_octets-requires c =
-    let s : EntriesLong c.args.t = entries-is _ _ c.well_formed.1.1.0 in
-    omega (arith, numbers-long)
-
-pub returns : goal.returns
+pub returns-clause-laid : goal.returns-clause-laid
 unfolding column_octets entries_columns
-returns c =
+returns-clause-laid c =
     let h : c.args.at ≤ length c.args.buffer.now = omega (arith, c.requires) in
-    simp (append-nil, ← append_assoc) (join h (join h (join h (join h (join h c.lay_words-a.ensures c.lay_octets-b.ensures) c.lay_octets-c.ensures) c.lay_octets-d.ensures) c.lay_octets-e.ensures) c.lay_octets.ensures)
+    simp (append-nil, ← append_assoc) (join h (join h (join h (join h (join h c.lay_column-a.ensures.laid c.lay_column-b.ensures.laid) c.lay_column-c.ensures.laid) c.lay_column-d.ensures.laid) c.lay_column-e.ensures.laid) c.lay_column.ensures.laid)

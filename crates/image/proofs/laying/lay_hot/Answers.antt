@@ -6,19 +6,10 @@ use lib.ListN.{length}
 use Rattle.laws.proofs.Splice.{join}
 use Rattle.image.specs.Layout.{hot_columns}
 use Rattle.image.proofs.Lays.{columns-append}
-use Rattle.image.proofs.Sizes.{device-long, access-long}
 use Rattle.image.proofs.laying.lay_hot.Goals as goal
 
-pub lay_access-last-requires : goal.lay_access-last-requires
-lay_access-last-requires c = omega (arith, device-long c.args.h.dev)
-
-pub lay_access-requires : goal.lay_access-requires
-lay_access-requires c =
-    let a = c.args in
-    omega (arith, device-long a.h.dev, access-long a.h.a0)
-
-pub returns : goal.returns
+pub returns-clause-laid : goal.returns-clause-laid
 unfolding hot_columns
-returns c =
+returns-clause-laid c =
     let h : c.args.at ≤ length c.args.buffer.now = omega (arith, c.requires) in
-    simp (columns-append, ← append_assoc) (join h (join h c.lay_device-next.ensures c.lay_access-last.ensures) c.lay_access.ensures)
+    simp (columns-append, ← append_assoc) (join h (join h c.lay_device-next.ensures.laid c.lay_access-last.ensures.laid) c.lay_access.ensures.laid)

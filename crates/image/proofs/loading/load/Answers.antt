@@ -1,24 +1,28 @@
--- What was framed as loaded is as long as an image. Assumes nothing.
-use mathlib.Core.Path.{sym, ◌∙◌}
-use Rattle.image.specs.Image.{load_of, load_by}
+-- What was framed as an image is as long as one. Assumes nothing.
+use Rattle.std.proofs.Common.{sym, ◌∙◌, ap, arith, rules}
+use Rattle.ranges.specs.Valid.{valid_of}
+use Rattle.image.specs.Image.{load_of, load_by, opened_of}
 use Rattle.image.proofs.Judged.{loaded-long}
 use Rattle.image.proofs.loading.load.Goals as goal
 
-pub opened-requires : goal.opened-requires
-opened-requires c = loaded-long _ (sym c.framed.ensures ∙ c.in-Loaded.is)
-
-pub returns-in-Loaded : goal.returns-in-Loaded
+pub returns-in_err-framed : goal.returns-in_err-framed
 unfolding load_of load_by
-returns-in-Loaded c = rw (sym c.framed.ensures ∙ c.in-Loaded.is) c.opened.ensures
+returns-in_err-framed c = rw (sym c.framed.ensures ∙ c.in_err-framed.was) (search rules)
 
-pub returns-in-Invalid : goal.returns-in-Invalid
-unfolding load_of load_by
-returns-in-Invalid c = rw (sym c.framed.ensures ∙ c.in-Invalid.is) c.kept.ensures
+pub record_at-next-requires : goal.record_at-next-requires
+record_at-next-requires c = loaded-long _ (sym c.framed.ensures ∙ c.in_ok-framed.was)
 
-pub returns-in-Version : goal.returns-in-Version
-unfolding load_of load_by
-returns-in-Version c = rw (sym c.framed.ensures ∙ c.in-Version.is) c.kept-in-Version.ensures
+pub returns-then-not-fits : goal.returns-then-not-fits
+unfolding load_of load_by opened_of
+returns-then-not-fits c = rw (sym c.framed.ensures ∙ c.in_ok-framed.was, sym (c.fits.ensures ∙ ap valid_of c.record_at-next.ensures) ∙ c.if-not-fits.true)
 
-pub returns-in-Damaged : goal.returns-in-Damaged
-unfolding load_of load_by
-returns-in-Damaged c = rw (sym c.framed.ensures ∙ c.in-Damaged.is) c.kept-in-Damaged.ensures
+pub table_at-requires : goal.table_at-requires
+table_at-requires c = loaded-long _ (sym c.framed.ensures ∙ c.in_ok-framed.was)
+
+pub read-requires : goal.read-requires
+read-requires c = omega (arith, loaded-long _ (sym c.framed.ensures ∙ c.in_ok-framed.was))
+
+pub returns : goal.returns
+unfolding load_of load_by opened_of
+returns c =
+    rw (sym c.framed.ensures ∙ c.in_ok-framed.was, sym (c.fits.ensures ∙ ap valid_of c.record_at-next.ensures) ∙ c.if-not-fits.false, c.record_at-next.ensures, c.table_at.ensures, c.read.ensures)

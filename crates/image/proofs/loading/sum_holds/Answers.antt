@@ -4,4 +4,4 @@ use Rattle.image.proofs.loading.sum_holds.Goals as goal
 
 pub returns : goal.returns
 unfolding sum_holds
-returns c = rw (c.checksum.ensures, c.word.ensures, c.requires.0)
+returns c = rw (c.checksum.ensures, c.read.ensures, c.requires.0)

@@ -5,15 +5,8 @@ use Rattle.laws.proofs.Splice.{join}
 use Rattle.image.specs.Layout.{image_columns}
 use Rattle.image.specs.Image.{body_of}
 use Rattle.image.proofs.Lays.{columns-append}
-use Rattle.image.proofs.Sizes.{record_is, head-long, record-long}
 use Rattle.image.proofs.saving.lay_body.Goals as goal
 
-pub lay_record-b-requires : goal.lay_record-b-requires
-lay_record-b-requires c = omega (arith, head-long c.args.serial)
-
-pub lay_table-requires : goal.lay_table-requires
-lay_table-requires c = omega (arith, head-long c.args.serial, record-long c.args.r (record_is _ _ c.well_formed.1.0))
-
-pub returns : goal.returns
+pub returns-clause-laid : goal.returns-clause-laid
 unfolding body_of image_columns
-returns c = simp (columns-append, ← append_assoc) (join (omega arith) (join (omega arith) c.lay_head-a.ensures c.lay_record-b.ensures) c.lay_table.ensures)
+returns-clause-laid c = simp (columns-append, ← append_assoc) (join (omega arith) (join (omega arith) c.lay_head-a.ensures.laid c.lay_record-b.ensures.laid) c.lay_table.ensures.laid)

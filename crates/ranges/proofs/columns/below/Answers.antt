@@ -1,17 +1,12 @@
-use borrow.Author.Rules.{rules}
-use borrow.Author.Tests.{lt-ltb, le-ltb}
+-- The part that is read is tested, element by element. Assumes nothing.
+use Rattle.std.proofs.Common.{◌∙◌, take, arith, rules, tests}
+use Rattle.std.proofs.lemmas.Iterator.{YieldsList-from_slice}
+use Rattle.std.proofs.lemmas.Iterator.Search.{all_from_yields_List}
+use Rattle.laws.proofs.Taken.{all-taken}
 use Rattle.ranges.specs.Valid.{is_below}
-use Rattle.laws.proofs.Tests.{all_none, all_more, all-ends, all-over}
 use Rattle.ranges.proofs.columns.below.Goals as goal
 
-pub loop-i-init : goal.loop-i-init
-loop-i-init c = (search rules, all_none (is_below _) _)
-
-pub returns-then-count-xs : goal.returns-then-count-xs
-returns-then-count-xs c = all-ends (is_below _) c.args.xs.now c.args.count c.loop-i.i c.loop-i.invariant.1 (le-ltb _ _ c.if-count-xs.true) (search rules)
-
-pub loop-i-preserved : goal.loop-i-preserved
-loop-i-preserved c = (search rules, all_more (is_below _) c.args.xs.now c.loop-i.i c.loop-i.invariant.1 (lt-ltb _ _ c.if-count-xs.false))
-
 pub returns : goal.returns
-returns c = all-over (is_below _) c.args.xs.now c.args.count c.loop-i.i c.loop-i.invariant.1 (search rules) (search rules)
+returns c =
+    all_from_yields_List (is_below c.args.count) _ _ _ c.all.ensures.ran (YieldsList-from_slice (take c.args.count c.args.xs.now) cc) (λ x b q k. search (rules, tests))
+    ∙ all-taken (is_below c.args.count) _ _ (omega arith)

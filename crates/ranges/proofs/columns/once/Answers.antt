@@ -1,17 +1,17 @@
-use borrow.Author.Rules.{rules}
-use borrow.Author.Tests.{eq-eqb, ne_eqb}
-use Rattle.ranges.specs.Valid.{itself}
-use Rattle.laws.proofs.Tests.{distinct_none, distinct_more, distinct-ends, distinct-over}
+use native.Mathlib.Omega.{arith}
+use Rattle.laws.proofs.Taken.{apart_none, apart_more, apart-ends, apart-over}
 use Rattle.ranges.proofs.columns.once.Goals as goal
 
 pub loop-i-init : goal.loop-i-init
-loop-i-init c = (search rules, distinct_none itself _)
+loop-i-init g c = apart_none g.T.PartialEq.eq _
 
-pub returns-then-place-i : goal.returns-then-place-i
-returns-then-place-i c = distinct-ends itself c.args.xs.now c.args.count c.loop-i.i c.loop-i.invariant.1 (rw c.place.ensures at (ne_eqb _ _ c.if-place-i.true)) (search rules)
+pub returns-then-contains : goal.returns-then-contains
+returns-then-contains g c =
+    apart-ends g.T.PartialEq.eq c.args.xs.now c.args.count c.loop-i.i c.index-xs-i.result (omega arith) c.index-xs-i.is c.loop-i.invariant _ c.contains.ensures.value c.if-contains.true (omega arith)
 
 pub loop-i-preserved : goal.loop-i-preserved
-loop-i-preserved c = (search rules, distinct_more itself c.args.xs.now c.loop-i.i c.loop-i.invariant.1 (rw c.place.ensures at (eq-eqb _ _ c.if-place-i.false)))
+loop-i-preserved g c =
+    apart_more g.T.PartialEq.eq c.args.xs.now c.loop-i.i c.index-xs-i.result (omega arith) c.index-xs-i.is c.loop-i.invariant _ c.contains.ensures.value c.if-contains.false
 
 pub returns : goal.returns
-returns c = distinct-over itself c.args.xs.now c.args.count c.loop-i.i c.loop-i.invariant.1 (search rules) (search rules)
+returns g c = apart-over g.T.PartialEq.eq c.args.xs.now c.args.count c.loop-i.i c.loop-i.invariant (omega arith) (omega arith)

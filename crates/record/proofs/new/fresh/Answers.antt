@@ -10,4 +10,4 @@ pub returns-then-may_make : goal.returns-then-may_make
 returns-then-may_make c = made _ _ _ _ _ _ (sym c.may_make.ensures ∙ c.if-may_make.true) c.make-made.ensures
 
 pub returns : goal.returns
-returns c = refused _ _ _ _ _ _ (sym c.may_make.ensures ∙ c.if-may_make.false) c.smallest-made.ensures
+returns c = refused _ _ _ _ _ _ (sym c.may_make.ensures ∙ c.if-may_make.false) c.smallest.ensures

@@ -10,4 +10,4 @@ together true x y e1 e2 e3 e4 e5 e6 e7 e8 e9 e10 e11 e12 e13 e14 e15 e16 e17 e18
 together false x y e1 e2 e3 e4 e5 e6 e7 e8 e9 e10 e11 e12 e13 e14 e15 e16 e17 e18 e19 e20 e21 = rw (e1, e2, e3, e4, e5, e6, e7, e8, e9, e10, e11, e12, e13, e14, e15, e16, e17, e18, e19, e20, e21)
 
 pub returns : goal.returns
-returns c = together c.args.first c.args.a c.args.b c.pick_word.ensures c.pick_word-2.ensures c.pick_word-3.ensures c.pick_word-4.ensures c.pick_pair.ensures c.pick_pair-2.ensures c.pick_pair-3.ensures c.pick.ensures c.pick-2.ensures c.pick-3.ensures c.pick-4.ensures c.pick-5.ensures c.pick-6.ensures c.pick-7.ensures c.pick-8.ensures c.pick-9.ensures c.pick-10.ensures c.pick-11.ensures c.pick-12.ensures c.pick-13.ensures c.pick-14.ensures
+returns c = together c.args.first c.args.a c.args.b c.pick.ensures c.pick-2.ensures c.pick-3.ensures c.pick-4.ensures c.pick-5.ensures c.pick-6.ensures c.pick-7.ensures c.pick-8.ensures c.pick-9.ensures c.pick-10.ensures c.pick-11.ensures c.pick-12.ensures c.pick-13.ensures c.pick-14.ensures c.pick-15.ensures c.pick-16.ensures c.pick-17.ensures c.pick-18.ensures c.pick-19.ensures c.pick-20.ensures c.pick-21.ensures

@@ -3,4 +3,4 @@ use Rattle.request.proofs.Gathers.{around-so}
 use Rattle.request.proofs.reading.around.Goals as goal
 
 pub returns : goal.returns
-returns c = around-so _ _ _ _ _ _ c.identity_len-n.ensures.0 c.fits-fits.ensures c.enclosed.ensures
+returns c = around-so _ _ _ _ _ _ c.identity_len.ensures.0 c.fits-fits.ensures c.enclosed.ensures

@@ -1,11 +1,12 @@
--- The two ways of the test are the two of the definition. Assumes nothing.
+use Rattle.std.proofs.Common.{arith}
+use Rattle.std.proofs.lemmas.Bool.Decides.{nat_tests}
 use Rattle.request.specs.Reading.{is_capability}
 use Rattle.request.proofs.reading.capability.Goals as goal
 
-pub returns-then-p : goal.returns-then-p
+pub returns-in-Some : goal.returns-in-Some
 unfolding is_capability
-returns-then-p c = rw c.if-p.true
+returns-in-Some c = grind (arith, nat_tests)
 
-pub returns-else-p : goal.returns-else-p
+pub returns-in-None : goal.returns-in-None
 unfolding is_capability
-returns-else-p c = rw c.if-p.false
+returns-in-None c = grind (arith, nat_tests)

@@ -1,12 +1,16 @@
--- The two ways of the test are the two of the definition. Assumes nothing.
-use borrow.Author.Tests.{eq-eqb, ne_eqb}
+use Rattle.std.proofs.Common.{arith}
+use Rattle.std.proofs.lemmas.Bool.Decides.{nat_tests}
 use Rattle.request.specs.Reading.{filled_of}
 use Rattle.request.proofs.reading.filled.Goals as goal
 
-pub returns-then-p-eq0 : goal.returns-then-p-eq0
+pub returns-in-Some : goal.returns-in-Some
 unfolding filled_of
-returns-then-p-eq0 c = rw (eq-eqb _ _ c.if-p-eq0.true)
+returns-in-Some c = grind (arith, nat_tests)
 
-pub returns : goal.returns
+pub returns-in_default : goal.returns-in_default
 unfolding filled_of
-returns c = rw (ne_eqb _ _ c.if-p-eq0.false)
+returns-in_default c = grind (arith, nat_tests)
+
+pub returns-in_default-2 : goal.returns-in_default-2
+unfolding filled_of
+returns-in_default-2 c = grind (arith, nat_tests)

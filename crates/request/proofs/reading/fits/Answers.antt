@@ -1,7 +1,12 @@
--- What the calls ensure, joined. Assumes nothing.
+use Rattle.std.proofs.Common.{arith}
+use Rattle.std.proofs.lemmas.Bool.Decides.{nat_tests}
 use Rattle.request.specs.Reading.{is_request}
 use Rattle.request.proofs.reading.fits.Goals as goal
 
-pub returns : goal.returns
+pub returns-then-capability : goal.returns-then-capability
 unfolding is_request
-returns c = λ l e f. cc
+returns-then-capability c = grind (arith, nat_tests)
+
+pub returns-else-capability : goal.returns-else-capability
+unfolding is_request
+returns-else-capability c = grind (arith, nat_tests)

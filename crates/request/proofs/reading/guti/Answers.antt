@@ -1,12 +1,16 @@
--- The two ways of the test are the two of the definition. Assumes nothing.
-use borrow.Author.Tests.{eq-eqb, ne_eqb}
+use Rattle.std.proofs.Common.{arith}
+use Rattle.std.proofs.lemmas.Bool.Decides.{nat_tests}
 use Rattle.request.specs.Reading.{guti_in}
 use Rattle.request.proofs.reading.guti.Goals as goal
 
-pub returns-then-octet : goal.returns-then-octet
+pub returns-in-Some : goal.returns-in-Some
 unfolding guti_in
-returns-then-octet c = rw (← c.octet.ensures, eq-eqb _ _ c.if-octet.true) c.leading.ensures
+returns-in-Some c = grind (arith, nat_tests)
 
-pub returns : goal.returns
+pub returns-in_default : goal.returns-in_default
 unfolding guti_in
-returns c = rw (← c.octet.ensures, ne_eqb _ _ c.if-octet.false)
+returns-in_default c = grind (arith, nat_tests)
+
+pub returns-in_default-2 : goal.returns-in_default-2
+unfolding guti_in
+returns-in_default-2 c = grind (arith, nat_tests)

@@ -1,14 +1,15 @@
--- What `messages::opens` ensures, by the two cases of an ending. Assumes nothing.
+-- What `messages::opens` ensures, by its two results. Assumes nothing.
+use Rattle.std.proofs.Common.{rules}
+use Rattle.octets.specs.Element.{malformed}
 use Rattle.messages.specs.Message.{ended_by}
 use Rattle.messages.proofs.Readings.{opening}
-use Rattle.octets.specs.declared.Ending.TheVariants.{Broken}
 use Rattle.request.specs.Reading.{head_of}
 use Rattle.request.proofs.reading.head.Goals as goal
 
-pub returns-in-Broken : goal.returns-in-Broken
+pub returns-in_err-opens : goal.returns-in_err-opens
 unfolding head_of ended_by
-returns-in-Broken c = rw (opening Broken, ← c.opens.ensures, c.in-Broken.is)
+returns-in_err-opens c = rw (opening malformed c.args.msg.now, ← c.opens.ensures, c.in_err-opens.was) (search rules)
 
-pub returns-in-Whole : goal.returns-in-Whole
+pub returns : goal.returns
 unfolding head_of ended_by
-returns-in-Whole c = rw (opening Broken, ← c.opens.ensures, c.in-Whole.is) c.fixed.ensures
+returns c = rw (opening malformed c.args.msg.now, ← c.opens.ensures, c.in_ok-opens.was) c.fixed.ensures

@@ -4,4 +4,4 @@ use Rattle.request.proofs.reading.judged.Goals as goal
 
 pub returns : goal.returns
 unfolding judged_of
-returns c = λ l e f m. rw (← c.fits-fits.ensures l e.first e.second, ← c.said-said.ensures l e f m) c.kept.ensures
+returns c = λ l e f m. rw (← c.fits-fits.ensures l e.first e.second, ← c.said.ensures l e f m) c.kept.ensures

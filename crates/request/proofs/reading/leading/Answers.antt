@@ -1,12 +1,16 @@
--- The two ways of the test are the two of the definition. Assumes nothing.
-use borrow.Author.Tests.{lt-ltb, le-ltb}
+use Rattle.std.proofs.Common.{arith}
+use Rattle.std.proofs.lemmas.Bool.Decides.{nat_tests}
 use Rattle.request.specs.Reading.{leading_of}
 use Rattle.request.proofs.reading.leading.Goals as goal
 
-pub returns-then-p-n : goal.returns-then-p-n
+pub returns-in-Some : goal.returns-in-Some
 unfolding leading_of
-returns-then-p-n c = rw (lt-ltb _ _ c.if-p-n.true)
+returns-in-Some c = grind (arith, nat_tests)
 
-pub returns : goal.returns
+pub returns-in_default : goal.returns-in_default
 unfolding leading_of
-returns c = rw (le-ltb _ _ c.if-p-n.false)
+returns-in_default c = grind (arith, nat_tests)
+
+pub returns-in_default-2 : goal.returns-in_default-2
+unfolding leading_of
+returns-in_default-2 c = grind (arith, nat_tests)

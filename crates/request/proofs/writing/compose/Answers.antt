@@ -1,28 +1,21 @@
 -- The part chosen is the best identity, and what is picked by it is what the record says. Assumes nothing.
-use mathlib.Core.Path.{sym}
-use native.Mathlib.Omega.{arith}
-use lib.Seq.{length-take-le}
+use Rattle.std.proofs.Common.{◌≡◌, ◌≤◌, cond, eqb, length, take, arith}
+use borrow.Author.Tests.{eq-eqb, ne_eqb}
 use Rattle.identity.proofs.Mapped.{mapped-long}
+use Rattle.request.specs.Writing.{says_of}
 use Rattle.request.proofs.Pieces.{take_short, chosen-short}
-use Rattle.request.proofs.Picked.{says-picked}
+use Rattle.request.proofs.Picked.{says-picked, cond-short}
+use Rattle.request.proofs.writing.compose.Goals.{then-access-eq0, else-access-eq0}
 use Rattle.request.proofs.writing.compose.Goals as goal
-
-pub slice_bounds-suci-end : goal.slice_bounds-suci-end
-slice_bounds-suci-end c = omega (arith, c.unless-n.ensures.1, c.wide.ensures.0, c.requires.0)
-
-pub slice_bounds-choose-end-2 : goal.slice_bounds-choose-end-2
-slice_bounds-choose-end-2 c = sym (length-take-le _ _ (omega (arith, c.unless-n.ensures.1, c.wide.ensures.0, c.known.ensures.0, c.requires.0)))
 
 pub identify-requires : goal.identify-requires
 identify-requires c = let a = c.args in
     let p = c.requires in
-    let n = take_short c.unless-n.result a.suci in
+    let n : length (take c.from.result a.r.now.suci) ≤ 64 = omega (arith, take_short c.from.result a.r.now.suci, c.from.ensures, p.0) in
     record {
       from4g = rw (c.map-from4g.ensures, mapped-long a.s1.guti) (omega arith);
-      identity = rw c.choose-best.ensures.octets (chosen-short 64 _ _ _ _ _ _ _ _ (omega arith) (omega (arith, n, c.unless-n.ensures.1, c.wide.ensures.0, p.0)));
-      additional = λ e. rw c.choose-best.ensures.octets (chosen-short 11 _ _ _ _ _ _ _ _ (omega arith) (omega (arith, n, rw e at c.unless-n.ensures.0)));
-      capability = c.known.ensures.1.0;
-      security = c.known.ensures.1.1;
+      identity = rw c.choose-best.ensures.octets (chosen-short 64 _ _ _ _ _ _ _ _ (omega arith) (rw c.given.ensures (cond-short _ 64 _ n)));
+      additional = λ e. rw c.choose-best.ensures.octets (chosen-short 11 _ _ _ _ _ _ _ _ (omega arith) (rw (c.given.ensures, e) (omega arith)));
       capable = p.1.0;
       secure = p.1.1.0;
       ksi = p.1.1.1.0;
@@ -31,8 +24,14 @@ identify-requires c = let a = c.args in
     }
 
 pub returns : goal.returns
+unfolding says_of
 returns c =
     let a = c.args in
-    let best = rw (c.gutis-gutis.ensures, c.unless-n.ensures.0, c.wide.ensures.0) at c.choose-best.ensures.octets in
-    let same = says-picked a.h a.access a.own a.guti0 a.guti1 a.suci a.capability a.security a.nets.now a.s1 a.attach.now _ _ _ c.is_mapped-mapped.ensures c.map-from4g.ensures best in
+    let n : c.if-access-eq0.choose.now ≡ cond (eqb a.access 0) a.r.now.equivalents0 a.r.now.equivalents1 =
+    elim c.if-access-eq0.branch [
+      | then-access-eq0 w ↦ rw (w.choose-is, eq-eqb _ _ w.if-access-eq0.true)
+      | else-access-eq0 w ↦ rw (w.choose-is, ne_eqb _ _ w.if-access-eq0.false)
+    ] in
+    let best = rw (c.gutis-gutis.ensures, c.given.ensures, c.from.ensures, n) at c.choose-best.ensures.octets in
+    let same = says-picked a.r.now.hot a.access a.own a.r.now.guti0 a.r.now.guti1 a.r.now.suci a.r.now.capability a.r.now.security _ a.s1 a.attach.now _ _ _ c.is_mapped-mapped.ensures c.map-from4g.ensures best in
     record { value = rw (← same) c.identify.ensures.value; buffer_after = rw (← same) c.identify.ensures.buffer_after }

@@ -1,40 +1,31 @@
 -- What is picked is what the contract says, and has room. Assumes nothing.
-use Prim.Native.Nat.{ℕ, ◌≤◌}
-use mathlib.Core.Path.{sym}
-use mathlib.Core.List.{[], ◌∷◌, List}
-use native.Mathlib.Omega.{arith}
-use lib.ListN.{length}
-use lib.Seq.{length-take-le}
+use Rattle.std.proofs.Common.{◌≡◌, cond, not, ltb, eqb, refl, arith}
+use Rattle.std.proofs.lemmas.Bool.Decides.{nat_tests}
+use Rattle.record.specs.Tests.{both}
 use Rattle.request.specs.Steps.{identified_of}
-use Rattle.request.proofs.Pieces.{take_short}
-use Rattle.request.proofs.Picked.{one_of, all-or-none}
+use Rattle.request.specs.Writing.{saying_of, last_of, uplink_of, sessions_of}
+use Rattle.request.proofs.Picked.{area-picked, uplink-picked, sessions-picked}
+use Rattle.request.proofs.writing.identify.Goals.{then-mapped, else-mapped, then-update, else-update}
 use Rattle.request.proofs.writing.identify.Goals as goal
 
-pub slice_bounds-send-end : goal.slice_bounds-send-end
-slice_bounds-send-end c = sym (length-take-le _ _ c.unless-m.ensures.1)
-
-pub send-requires : goal.send-requires
-send-requires c = let a = c.args in
-    let p = c.requires in
-    let short = one_of a.mapped (λ (l : List ℕ). length l ≤ 64) a.from4g.now a.best.now (λ e. p.from4g) p.identity in
-    let few = one_of a.mapped (λ (l : List ℕ). length l ≤ 11) a.best.now [] p.additional (omega arith) in
-    let octet = one_of a.mapped (λ (l : List ℕ). length l ≤ 1) (0x00 ∷ []) [] (λ e. omega arith) (omega arith) in
-    record {
-      identity = rw c.pick-part.ensures short;
-      capability = p.capability;
-      security = p.security;
-      capable = p.capable;
-      secure = p.secure;
-      ksi = p.ksi;
-      regtype = p.regtype;
-      additional = rw c.pick-additional.ensures few;
-      status = rw c.pick-status.ensures octet;
-      attach = omega (arith, take_short c.unless-m.result a.attach.now, c.unless-m.ensures.1, p.attach);
-    }
-
 pub returns : goal.returns
-unfolding identified_of
+unfolding identified_of saying_of
 returns c =
     let a = c.args in
-    let rest = all-or-none a.mapped a.attach.now c.unless-m.result c.unless-m.ensures.0 in
-    record { value = rw (← c.pick-part.ensures, ← c.pick-additional.ensures, ← c.pick-status.ensures, ← rest) c.send.ensures.value; buffer_after = rw (← c.pick-part.ensures, ← c.pick-additional.ensures, ← c.pick-status.ensures, ← rest) c.send.ensures.buffer_after }
+    let i : c.if-mapped.said.now ≡ cond a.mapped a.from4g.now a.best.now =
+    elim c.if-mapped.branch [
+      | then-mapped w ↦ rw (w.said-is, w.if-mapped.true)
+      | else-mapped w ↦ rw (w.said-is, w.if-mapped.false)
+    ] in
+    let b : c.if-update.given ≡ both (ltb 1 a.own.regtype) (not (eqb a.own.uplink 0)) =
+    elim c.if-update.branch [
+      | then-update w ↦ grind (arith, nat_tests)
+      | else-update w ↦ grind (arith, nat_tests)
+    ] in
+    let l : c.given.result.now ≡ last_of a.own = area-picked a.own _ _ refl (rw c.area-area.ensures at c.given.ensures) in
+    let u : c.given-2.result.now ≡ uplink_of a.own = uplink-picked a.own _ _ b (rw c.to_le_bytes-uplink.ensures at c.given-2.ensures) in
+    let v : c.given-3.result.now ≡ sessions_of a.own = sessions-picked a.own _ (rw c.to_le_bytes-sessions.ensures at c.given-3.ensures) in
+    record {
+      value = rw (i, c.from.ensures, c.from-2.ensures, l, u, v, c.given-4.ensures, c.given-5.ensures, c.given-6.ensures) at c.send.ensures.value;
+      buffer_after = rw (i, c.from.ensures, c.from-2.ensures, l, u, v, c.given-4.ensures, c.given-5.ensures, c.given-6.ensures) at c.send.ensures.buffer_after;
+    }

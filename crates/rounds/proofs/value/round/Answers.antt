@@ -1,12 +1,10 @@
--- The law of the round over what its tests and its going ensure. Assumes nothing.
-use mathlib.Core.Path.{refl, ◌∙◌}
-use Rattle.ranges.proofs.Parts.{parts-valid}
-use Rattle.rounds.proofs.Goes.{round-law}
+-- What is given in place, by value. Assumes nothing.
+use Rattle.std.proofs.Common.{sym, ◌∙◌}
+use Rattle.rounds.proofs.Goes.{rounded-taken, rounded-refused}
 use Rattle.rounds.proofs.value.round.Goals as goal
 
-pub returns : goal.returns
-returns c = record {
-  value = round-law c.args.r c.args.t _ c.args.time c.args.words.now _ c.fits-valid.result c.fits-fit.result _ c.judged-answer.result c.most.result c.go-w.result.count _
-      (c.fits-valid.ensures ∙ parts-valid c.args.r) c.fits-fit.ensures refl c.judged-answer.ensures c.most.ensures.0 (c.go-w.ensures.words_after c.args.r);
-  count_bound = c.go-w.ensures.count_bound;
-}
+pub returns-in-Ok-clause-value : goal.returns-in-Ok-clause-value
+returns-in-Ok-clause-value c = (rounded-taken _ _ _ _ _ _ _ (sym c.in-Ok.is ∙ c.run.ensures.value) c.run.ensures.next c.run.ensures.table_after, c.run.ensures.list_after)
+
+pub returns-in-Err-clause-value : goal.returns-in-Err-clause-value
+returns-in-Err-clause-value c = (rounded-refused _ _ _ _ _ _ _ (sym c.in-Err.is ∙ c.run.ensures.value) c.run.ensures.next c.run.ensures.table_after, c.run.ensures.list_after)

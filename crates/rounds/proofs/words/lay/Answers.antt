@@ -1,7 +1,7 @@
--- Behind the end a list stays as it is. Assumes nothing.
-use mathlib.Core.Path.{sym}
-use lib.Seq.{set_out}
+-- The part stands where it was stored. Assumes nothing.
+use Rattle.std.proofs.Common.{arith}
+use Rattle.rounds.proofs.Laying.{part-laid}
 use Rattle.rounds.proofs.words.lay.Goals as goal
 
-pub returns-else-at-words : goal.returns-else-at-words
-returns-else-at-words c = sym (set_out _ _ _ c.if-at-words.false)
+pub returns : goal.returns
+returns c = part-laid _ _ _ _ _ c.copy_from_slice.ensures.after (omega arith) c.requires

@@ -1,29 +1,27 @@
 -- A message's reading is what was read of it; of another event nothing is claimed. Assumes nothing.
+use Prim.Native.Nat.{ℕ}
+use mathlib.Core.Path.{◌≡◌, refl}
+use mathlib.Core.List.{List}
+use Rattle.messages.specs.Message.{Reading}
+use Rattle.turns.specs.declared.Draws.{Draws}
+use Rattle.rules.specs.declared.Event.{Event}
+use Rattle.rules.specs.declared.Event.TheVariants.{Card, Start, Message, Timer, Power, Key, Update, Import, Unknown}
+use Rattle.rules.specs.Plan.{Read}
 use Rattle.rules.proofs.decision.heard.Goals as goal
 
-pub returns-in-Card : goal.returns-in-Card
-returns-in-Card c = rw c.in-Card.is tt
-
-pub returns-in-Start : goal.returns-in-Start
-returns-in-Start c = rw c.in-Start.is tt
+rest : (e : Event) (octets : List ℕ) (m : Reading) → ((w protected : ℕ) (draws : Draws) → e ≡ Message w protected draws → ⊥) → Read e octets m
+rest (Card edition home) octets m x = tt
+rest (Start w manual net code) octets m x = tt
+rest (Message w protected draws) octets m x = absurd (x w protected draws refl)
+rest (Timer number w) octets m x = tt
+rest Power octets m x = tt
+rest (Key w set) octets m x = tt
+rest (Update w regtype net code uplink sessions) octets m x = tt
+rest Import octets m x = tt
+rest Unknown octets m x = tt
 
 pub returns-in-Message : goal.returns-in-Message
 returns-in-Message c = rw c.in-Message.is c.read.ensures
 
-pub returns-in-Timer : goal.returns-in-Timer
-returns-in-Timer c = rw c.in-Timer.is tt
-
-pub returns-in-Power : goal.returns-in-Power
-returns-in-Power c = rw c.in-Power.is tt
-
-pub returns-in-Key : goal.returns-in-Key
-returns-in-Key c = rw c.in-Key.is tt
-
-pub returns-in-Update : goal.returns-in-Update
-returns-in-Update c = rw c.in-Update.is tt
-
-pub returns-in-Import : goal.returns-in-Import
-returns-in-Import c = rw c.in-Import.is tt
-
-pub returns-in-Unknown : goal.returns-in-Unknown
-returns-in-Unknown c = rw c.in-Unknown.is tt
+pub returns-in_default : goal.returns-in_default
+returns-in_default c = rest c.args.e _ _ c.in_default.not-Message

@@ -8,8 +8,8 @@ use Rattle.rules.proofs.work.worked_by.Goals as goal
 pub work_effect-x-requires : goal.work_effect-x-requires
 work_effect-x-requires c = record { fits = c.requires.fits (sym c.taken.ensures ∙ c.if-taken.true); read = c.requires.read }
 
-pub entries_if-requires : goal.entries_if-requires
-entries_if-requires c i = import-fits _ _ _ (sym c.imports-import.ensures ∙ i) (c.requires.fits (sym c.taken.ensures ∙ c.if-taken.true))
+pub imported-requires : goal.imported-requires
+imported-requires c i = import-fits _ _ _ i (c.requires.fits (sym c.taken.ensures ∙ c.if-taken.true))
 
 pub returns-then-taken : goal.returns-then-taken
 unfolding decided_by
@@ -18,10 +18,9 @@ returns-then-taken c = record {
     ← c.taken.ensures,
     c.if-taken.true,
     c.taken_plan.ensures,
-    c.import_effect-y.ensures,
-    c.entries_if.ensures,
+    c.import_effect.ensures,
+    c.imported.ensures,
     c.work_effect-x.ensures i,
-    c.imports-import.ensures,
     c.access_in-w.ensures,
     with-import _ _ _ c.args.e,
     sorted,

@@ -1,7 +1,0 @@
--- Each part is what its function ensures; the turns go to their sides. Assumes nothing.
-use Rattle.effects.specs.Effects.{t3512_effect, sides_of}
-use Rattle.effects.proofs.clocks.t3512_effect.Goals as goal
-
-pub returns : goal.returns
-unfolding sides_of t3512_effect
-returns c = rw (c.side-t1.ensures, c.side-t0.ensures, c.idle-work.ensures, c.still-theirs.ensures, c.other_of.ensures, c.still-mine.ensures, c.access_of.ensures, c.scheduled-dev.ensures)

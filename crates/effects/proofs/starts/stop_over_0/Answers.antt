@@ -1,9 +1,0 @@
--- The test is the one of the definition. Assumes nothing.
-use borrow.Author.Tests.{eq-eqb, ne_eqb}
-use Rattle.effects.proofs.starts.stop_over_0.Goals as goal
-
-pub returns-then-w-eq0 : goal.returns-then-w-eq0
-returns-then-w-eq0 c = rw (eq-eqb _ _ c.if-w-eq0.true)
-
-pub returns-else-w-eq0 : goal.returns-else-w-eq0
-returns-else-w-eq0 c = rw (ne_eqb _ _ c.if-w-eq0.false)

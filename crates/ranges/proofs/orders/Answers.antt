@@ -1,5 +1,0 @@
--- The counts are bounds, so each column is read to its count. Assumes nothing.
-use Rattle.ranges.proofs.orders.Goals as goal
-
-pub returns : goal.returns
-returns c = cc

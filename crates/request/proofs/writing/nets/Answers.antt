@@ -1,9 +1,0 @@
--- The two ways of the test are the two of the definition. Assumes nothing.
-use borrow.Author.Tests.{eq-eqb, ne_eqb}
-use Rattle.request.proofs.writing.nets.Goals as goal
-
-pub returns-then-access-eq0 : goal.returns-then-access-eq0
-returns-then-access-eq0 c = rw (eq-eqb _ _ c.if-access-eq0.true)
-
-pub returns-else-access-eq0 : goal.returns-else-access-eq0
-returns-else-access-eq0 c = rw (ne_eqb _ _ c.if-access-eq0.false)

@@ -1,5 +1,0 @@
--- The setters are those of the definition. Assumes nothing.
-use Rattle.turns.proofs.turns.card_first.Goals as goal
-
-pub returns : goal.returns
-returns c = cc

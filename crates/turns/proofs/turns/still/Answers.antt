@@ -1,5 +1,0 @@
--- The setters are those of the definition, in its order. Assumes nothing.
-use Rattle.turns.proofs.turns.still.Goals as goal
-
-pub returns : goal.returns
-returns c = cc
