@@ -102,6 +102,13 @@ named() {
     esac
 }
 
+# elsewhere FILE: the lines of a module as text in which a pointer stands between other values and not as `{ ptr, i64 }`, which has the same places with 32 bits, or in which `{ i8, [7 x i8], ptr }`
+# is more than handed on; @ is a pointer, ~ the latter, A what has no pointer or is `{ ptr, i64 }`.
+elsewhere() {
+    grep -v '^attributes' "$1" | sed -E -e 's/\bptr\b/@/g' -e 's/\{ i8, \[7 x i8\], @ \}/~/g' -e '/<\{|(alloca|getelementptr|insertvalue) .*~/s/~/{ ~ }/g' \
+        -e '/<\{.*@/b' -e 's/\{ @, i64 \}/A/g' -e ':again' -e 's/[[{<][^][{}<>@~]*[]}>]/A/' -e 't again' | grep -E '[[{<][^][{}<>]*[@~]|alloca @'
+}
+
 # widened ROOM: for a processor of 32 bits, ROOM/module.bc as a text in which each pointer has the room and the place that the module, made for 64 bits, supposes: eight octets of its own, and
 # the place eight octets on where it is handed back behind an octet. Where a module has one elsewhere between other values it is refused: nothing says that its place is the same.
 widened() {
@@ -109,7 +116,7 @@ widened() {
     (cd "$room" && "$tools/bin/clang" --target=x86_64-unknown-linux-gnu -S -emit-llvm -x ir module.bc -Xclang -disable-llvm-passes -o module.ll) || return 1
     sed -E -e 's/= alloca ptr, align 8$/= alloca [8 x i8], align 8/' \
         -e 's/(extractvalue \{ i8, ptr \} .*), 1$/\1, 2/' -e 's/\{ i8, ptr \}/{ i8, [7 x i8], ptr }/g' "$room/module.ll" >"$room/module.bc"
-    if grep -v '^attributes' "$room/module.bc" | grep -oE '[{[][^][{}]*\bptr\b[^][{}]*[]}]' | grep -vxF '{ ptr, i64 }'; then
+    if elsewhere "$room/module.bc"; then
         echo "the module has a pointer that may have another place with 32 bits" >&2
         return 1
     fi

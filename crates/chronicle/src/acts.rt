@@ -31,7 +31,7 @@ fn no_act() -> Act
     ensures { result ≡ no_act }
 {
     Act {
-        whom: Whom::Every,
+        whom: Whom::One(0),
         ban: Change::Nothing,
         bar: Change::Nothing,
     }

@@ -25,15 +25,15 @@ fn named(file: &[u8], net: u32) -> bool
 }
 
 impl Note {
-    pub(crate) fn is_gone(self, net: u32) -> bool
-        ensures { result ≡ is_gone self.gone net }
+    pub(crate) fn is_gone(&self, net: u32) -> bool
+        ensures { result ≡ is_gone self.now.gone net }
     {
         matches!(self.gone, Some(gone) if gone == net)
     }
 
     #[tactic(auto, unfolding(crate::specs::Notes::concerns_in))]
-    pub(crate) fn concerns(self, log: &[u8], net: u32) -> bool
-        ensures { result ≡ concerns_in (octets_at log.now self.at) self.act.whom net }
+    pub(crate) fn concerns(&self, log: &[u8], net: u32) -> bool
+        ensures { result ≡ concerns_in (octets_at log.now self.now.at) self.now.act.whom net }
     {
         match self.act.whom {
             Whom::One(one) => one == net,

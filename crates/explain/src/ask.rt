@@ -1,4 +1,6 @@
 // What the arguments ask for: a network, an access, and whether after each event.
+ghost use Rattle.std.specs.Prelude.{◌≤◌, length, IfSome};
+
 use std::env::FillError;
 use std::rt::Env;
 
@@ -56,7 +58,9 @@ fn access(word: &[u8]) -> Option<u8> {
 }
 
 // An argument, put at the start of the word; a longer one is none.
-fn arg<'a>(rt: &impl Env, i: usize, word: &'a mut [u8; 8]) -> Option<&'a [u8]> {
+fn arg<'a>(rt: &impl Env, i: usize, word: &'a mut [u8; 8]) -> Option<&'a [u8]>
+    ensures { IfSome result (λ s. length s.now ≤ 8) }
+{
     let n = rt.arg(i, word).ok()?;
     word.get(..n)
 }

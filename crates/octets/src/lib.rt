@@ -256,7 +256,8 @@ fn plain(x: Option<u8>, y: Option<u8>, z: Option<u8>, u: Option<u8>) -> bool
     low(x) && low(y) && low(z) && low(u)
 }
 
-// Past the elements of one octet at a place, where they change nothing: a message can be full of them.
+// Past the elements of one octet at a place, where they change nothing: a message can be full of them. Not inlined: among a caller's numbers its loop takes 7 instructions for 5.
+#[inline(never)]
 fn skipped(
     msg: &[u8],
     from: usize,

@@ -93,11 +93,18 @@ unfoldable pub says_in : ℕ → List Item → List ℕ
 says_in x [] = []
 says_in x (item f id c ∷ l) = cond (eqb id x) (or_else c (says_in x l)) (says_in x l)
 
--- a part of a message that has these octets, or that is absent where there are none
+-- whether there are octets
+unfoldable pub some : List ℕ → Bool
+some [] = false
+some (o ∷ c) = true
+
+-- a part of a message that has these octets
 pub record Cut (s : List ℕ) (c : List ℕ) (p : Part) : Type 0 where
+  pub held : some c ≡ true
   pub len : p.len ≡ length c
   pub cut : part_of s p ≡ c
 
+-- or that is absent where there are none
 unfoldable pub Found : List ℕ → Option Part → List ℕ → Type 0
 Found s None c = c ≡ []
 Found s (Some p) c = Cut s c p
@@ -117,8 +124,8 @@ module _ (x : ℕ) (f : Form) (id : ℕ) (rest says p : List ℕ) where
 
   picked : (o : ℕ) (c : List ℕ) (b : Bool) → Behind (o ∷ c)
       → Found (p ++ (item_octets f id (o ∷ c) ++ rest)) (cond b (Some (record { start = length p + suc (length (length_in f (length (o ∷ c)))); len = length (o ∷ c) })) (first_of x (elements_of true 0 (length (p ++ item_octets f id (o ∷ c))) rest))) (cond b (o ∷ c) says)
-  unfolding Found item_octets with_lead
-  picked o c true h = record { len = refl; cut = placed p (id ∷ length_in f (length (o ∷ c))) (o ∷ c) rest }
+  unfolding Found some item_octets with_lead
+  picked o c true h = record { held = refl; len = refl; cut = placed p (id ∷ length_in f (length (o ∷ c))) (o ∷ c) rest }
   picked o c false h = rw (← append_assoc p (item_octets f id (o ∷ c)) rest) h
 
   next : (c : List ℕ) → (c ≡ []) ⊎ Reads f id c → Behind c

@@ -92,6 +92,8 @@ fn send_long(rt: &impl Print, r: &Record, attach: &[u8], buffer: &mut [u8]) -> i
     tell(rt, "long answer", w, first(buffer))
 }
 
+// Not inlined, so that the stack holds its two arrays once.
+#[inline(never)]
 pub fn long(rt: &impl Print, r: Record, n: usize, room: usize) -> io::Result<()> {
     let attach = [0x55u8; 65001];
     let mut buffer = [0xAAu8; 130200];

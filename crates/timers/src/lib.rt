@@ -1,7 +1,7 @@
 // The timer octets: GPRS timer 2 and GPRS timer 3, each read by its table.
 #![tactic(auto)]
 
-ghost use Rattle.std.specs.Prelude.{◌≡◌, ◌≤◌, ◌/◌, ◌%◌, get_or, All};
+ghost use Rattle.std.specs.Prelude.{◌≡◌, ◌≤◌, ◌%◌};
 ghost use Rattle.timers.specs.Timer.{span_for, span2_of, span3_of};
 
 // What a timer octet says: deactivated, zero, or so many seconds.
@@ -18,12 +18,11 @@ const UNITS2: [u32; 8] = [2, 60, 360, 60, 60, 60, 60, 0];
 
 const UNITS3: [u32; 8] = [600, 3600, 36000, 2, 30, 60, 1152000, 0];
 
-// What an octet says by a table: the top three bits are the row's number, the low five the count.
-fn span_by(units: [u32; 8], octet: u8) -> Span
-    requires { All (λ unit. unit ≤ 1152000) units }
-    ensures { result ≡ span_for (get_or units (octet / 32) 0) (octet % 32) }
+// What an octet says by the number of its row, which its top three bits tell: the low five are the count. The number and not the table goes in, which would be laid out anew each time.
+fn span_by(unit: u32, octet: u8) -> Span
+    requires { unit ≤ 1152000 }
+    ensures { result ≡ span_for unit (octet % 32) }
 {
-    let unit = units[usize::from(octet / 32)];
     let count = u32::from(octet % 32);
     match (unit, count) {
         (0, _) => Span::Off,
@@ -35,11 +34,11 @@ fn span_by(units: [u32; 8], octet: u8) -> Span
 pub fn timer2(octet: u8) -> Span
     ensures { result ≡ span2_of octet }
 {
-    span_by(UNITS2, octet)
+    span_by(UNITS2[usize::from(octet / 32)], octet)
 }
 
 pub fn timer3(octet: u8) -> Span
     ensures { result ≡ span3_of octet }
 {
-    span_by(UNITS3, octet)
+    span_by(UNITS3[usize::from(octet / 32)], octet)
 }
