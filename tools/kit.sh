@@ -106,7 +106,7 @@ named() {
 # is more than handed on; @ is a pointer, ~ the latter, A what has no pointer or is `{ ptr, i64 }`.
 elsewhere() {
     grep -v '^attributes' "$1" | sed -E -e 's/\bptr\b/@/g' -e 's/\{ i8, \[7 x i8\], @ \}/~/g' -e '/<\{|(alloca|getelementptr|insertvalue) .*~/s/~/{ ~ }/g' \
-        -e '/<\{.*@/b' -e 's/\{ @, i64 \}/A/g' -e ':again' -e 's/[[{<][^][{}<>@~]*[]}>]/A/' -e 't again' | grep -E '[[{<][^][{}<>]*[@~]|alloca @'
+        -e '/<\{/!s/\{ @, i64 \}/A/g' -e ':again' -e 's/[[{<][^][{}<>@~]*[]}>]/A/' -e 't again' | grep -E '[[{<][^][{}<>]*[@~]|(alloca|getelementptr|getelementptr inbounds) @'
 }
 
 # widened ROOM: for a processor of 32 bits, ROOM/module.bc as a text in which each pointer has the room and the place that the module, made for 64 bits, supposes: eight octets of its own, and
